@@ -144,13 +144,13 @@ def a_rule_that_cannot_be_made_leaves_all(folder):
 def a_links_target_is_replaced_with_its_mode(folder):
     os.makedirs(folder.at("deep/er"))
     folder.put("deep/er/real", "CONFIG_N=5\n")
-    os.chmod(folder.at("deep/er/real"), 0o640)
+    os.chmod(folder.at("deep/er/real"), 0o604)
     os.symlink("er/real", folder.at("deep/second"))
     os.symlink("deep/second", folder.at(".config"))
     before = folder.marks("deep/er/real")
     folder.run("--replace", "Kconfig")
     want("the links", (os.readlink(folder.at(".config")), os.readlink(folder.at("deep/second"))), ("deep/second", "er/real"))
-    want("the mode", stat.S_IMODE(os.stat(folder.at("deep/er/real")).st_mode), 0o640)
+    want("the mode", stat.S_IMODE(os.stat(folder.at("deep/er/real")).st_mode), 0o604)
     want("another file", folder.marks("deep/er/real") != before, True)
     want("the value", "CONFIG_N=5\n" in folder.get("deep/er/real"), True)
 
@@ -169,28 +169,185 @@ def a_new_file_has_the_mode_of_a_new_file(folder):
         want("the mode", stat.S_IMODE(os.stat(folder.at(f"new{mask}")).st_mode), 0o666 & ~mask)
 
 
-def every_mode_is_kept(folder):
-    for mode in (0o600, 0o400, 0o444, 0o644, 0o666, 0o640, 0o755, 0o2644, 0o4755, 0o1644):
-        if os.path.exists(folder.at("x")):
-            os.remove(folder.at("x"))
-        folder.put("x", "old\n")
-        os.chmod(folder.at("x"), mode)
-        before = folder.marks("x")
-        folder.run("--config", "none", "--replace", "--out", "x", "Kconfig")
-        want(f"another file, of mode {mode:o}", folder.marks("x") != before, True)
-        want("the mode", oct(stat.S_IMODE(os.stat(folder.at("x")).st_mode)), oct(mode))
+def mode_after(folder, name, mode, owner=None):
+    """The mode of a file that replaces one of this mode and owner."""
+    if os.path.exists(folder.at(name)):
+        os.remove(folder.at(name))
+    folder.put(name, "old\n")
+    if owner:
+        os.chown(folder.at(name), *owner)
+    os.chmod(folder.at(name), mode)
+    before = folder.marks(name)
+    folder.run("--config", "none", "--replace", "--out", name, "Kconfig")
+    want(f"another file, of mode {mode:o}", folder.marks(name) != before, True)
+    return oct(stat.S_IMODE(os.stat(folder.at(name)).st_mode))
 
 
-def set_id_bits_go_to_no_other_owner(folder):
+def a_mode_is_kept_but_for_the_group(folder):
+    for mode in (0o600, 0o400, 0o444, 0o644, 0o666, 0o604, 0o755, 0o2644, 0o4755, 0o1644):
+        want("the mode", mode_after(folder, "x", mode), oct(mode))
+    for mode, kept in ((0o640, 0o600), (0o660, 0o600), (0o664, 0o644), (0o775, 0o755), (0o2750, 0o2700)):
+        want(f"the mode over {mode:o}", mode_after(folder, "x", mode), oct(kept))
+
+
+def a_mode_lets_in_nobody_else(folder):
     if os.geteuid():
         raise Skipped("only root can give a file away")
     nobody = pwd.getpwnam("nobody")
-    for owner in ((nobody.pw_uid, 0), (0, nobody.pw_gid)):
-        folder.put("x", "old\n")
-        os.chown(folder.at("x"), *owner)
-        os.chmod(folder.at("x"), 0o6755)
-        folder.run("--config", "none", "--replace", "--out", "x", "Kconfig")
-        want("the mode", oct(stat.S_IMODE(os.stat(folder.at("x")).st_mode)), oct(0o755))
+    os.mkdir(folder.at("his"))
+    os.chown(folder.at("his"), nobody.pw_uid, nobody.pw_gid)
+    cases = (
+        # Another group: what group and others both had, and no set-id bits.
+        ("x", (0, nobody.pw_gid), ((0o660, 0o600), (0o664, 0o644), (0o604, 0o600), (0o666, 0o666), (0o6755, 0o755))),
+        # Another owner, who owns the folder, too: what all three classes had.
+        ("his/x", (nobody.pw_uid, nobody.pw_gid), ((0o664, 0o644), (0o666, 0o666), (0o6755, 0o755), (0o466, 0o444))),
+        ("his/x", (nobody.pw_uid, 0), ((0o660, 0o600), (0o640, 0o600))),
+        # Another owner, who owns nothing here.
+        ("x", (nobody.pw_uid, 0), ((0o666, 0o600), (0o644, 0o600), (0o6755, 0o700))),
+        ("x", (nobody.pw_uid, nobody.pw_gid), ((0o666, 0o600), (0o777, 0o700))),
+    )
+    for name, owner, modes in cases:
+        for mode, kept in modes:
+            want(f"the mode over {mode:o} of {owner}, {name}", mode_after(folder, name, mode, owner), oct(kept))
+
+
+def an_access_list_becomes_no_right_of_the_group(folder):
+    if not shutil.which("setfacl"):
+        raise Skipped("there is no setfacl (package acl)")
+    folder.put("x", "old\n")
+    os.chmod(folder.at("x"), 0o600)
+    if subprocess.run(["setfacl", "-m", "u:daemon:r", "x"], cwd=folder.path, capture_output=True).returncode:
+        raise Skipped("the file system has no access lists")
+    want("the mode with the list", oct(stat.S_IMODE(os.stat(folder.at("x")).st_mode)), oct(0o640))
+    folder.run("--config", "none", "--replace", "--out", "x", "Kconfig")
+    want("the mode", oct(stat.S_IMODE(os.stat(folder.at("x")).st_mode)), oct(0o600))
+    # The list that the folder gives to new files comes into force no more than the mode that is kept.
+    os.mkdir(folder.at("listed"))
+    subprocess.run(["setfacl", "-d", "-m", "u:daemon:rw", "listed"], cwd=folder.path, check=True)
+    want("the mode below a folder with a list", mode_after(folder, "listed/x", 0o640), oct(0o600))
+
+
+def another_users_file_in_a_sticky_folder_lets_him_not_in(folder):
+    if os.geteuid():
+        raise Skipped("only root can give a file away")
+    os.chmod(folder.path, 0o755)
+    os.mkdir(folder.at("shared"))
+    os.chmod(folder.at("shared"), 0o1777)
+    nobody = pwd.getpwnam("nobody")
+    want("the mode", mode_after(folder, "shared/x", 0o666, (nobody.pw_uid, nobody.pw_gid)), oct(0o600))
+    want("the owner", os.stat(folder.at("shared/x")).st_uid, 0)
+    child = os.fork()
+    if child == 0:
+        os.setgroups([])
+        os.setgid(nobody.pw_gid)
+        os.setuid(nobody.pw_uid)
+        os._exit(os.access(folder.at("shared/x"), os.R_OK) or os.access(folder.at("shared/x"), os.W_OK))
+    want("he may read or write it", os.waitstatus_to_exitcode(os.waitpid(child, 0)[1]), 0)
+
+
+def another_users_pipe_in_a_sticky_folder_is_not_written(folder):
+    if os.geteuid():
+        raise Skipped("only root can give a file away")
+    with open("/proc/sys/fs/protected_fifos", encoding="utf-8") as file:
+        if file.read().strip() == "0":
+            raise Skipped("this kernel opens such pipes: fs.protected_fifos is 0")
+    os.chmod(folder.path, 0o755)
+    os.mkdir(folder.at("shared"))
+    os.chmod(folder.at("shared"), 0o1777)
+    nobody = pwd.getpwnam("nobody")
+    os.mkfifo(folder.at("shared/pipe"))
+    os.chown(folder.at("shared/pipe"), nobody.pw_uid, nobody.pw_gid)
+    reader = os.open(folder.at("shared/pipe"), os.O_RDONLY | os.O_NONBLOCK)
+    for flags in ([], ["--replace"]):
+        ran = folder.run(*flags, "--config", "none", "--out", "shared/pipe", "Kconfig", status=3)
+        want("the line", ran.stderr, "error E19: cannot write shared/pipe\n")
+    want("what came out of the pipe", os.read(reader, 10), b"")
+    os.close(reader)
+
+
+TURNS = 1_000  # of each race
+
+
+class Attacker:
+    """A process that does something again and again."""
+
+    def __init__(self, step):
+        self.child = os.fork()
+        if self.child == 0:
+            while os.getppid() != 1:
+                try:
+                    step()
+                except OSError:
+                    pass
+            os._exit(0)
+
+    def __enter__(self):
+        return self
+
+    def __exit__(self, *_):
+        os.kill(self.child, signal.SIGKILL)
+        os.waitpid(self.child, 0)
+
+
+def takes_the_temporary_file(path, secret):
+    """What somebody does who has a link to a secret take the place of a temporary file."""
+
+    def step():
+        os.rename(path + "/.kconf-0", path + "/taken")
+        os.symlink(secret, path + "/.kconf-0")
+
+    return step
+
+
+def frags(folder):
+    for n in (0, 1):
+        folder.put(f"frag{n}", f"CONFIG_N={n + 5}\n")
+
+
+# Runs that each change the text of a name, and what they left is no secret, or the turn at which it was one.
+RACE = """i=0; while [ $i -lt %d ]; do
+    "$0" --config none --replace --out %s Kconfig frag$((i %% 2)) 2>/dev/null
+    if grep -q SECRET %s; then echo "turn $i" >&2; exit 9; fi
+    rm -f %s/.kconf-*; i=$((i + 1))
+done"""
+
+
+def no_secret_is_copied_over_a_mounted_file(folder):
+    folder.put("real", "old\n")
+    folder.put("secret", "SECRET\n")
+    os.chmod(folder.at("secret"), 0o600)
+    os.mkdir(folder.at("place"))
+    folder.put("place/out", "")
+    frags(folder)
+    with Attacker(takes_the_temporary_file(folder.at("place"), folder.at("secret"))):
+        said = mounted(folder, "mount --bind real place/out || exit 77; " + RACE % (TURNS, "place/out", "real", "place"))
+    want("it", said, (0, ""))
+    shutil.rmtree(folder.at("place"))
+
+
+def no_secret_is_copied_between_file_systems(folder):
+    if not os.path.isdir("/dev/shm") or os.stat("/dev/shm").st_dev == os.stat(folder.path).st_dev:
+        raise Skipped("there is one file system only")
+    folder.put("secret", "SECRET\n")
+    os.chmod(folder.at("secret"), 0o600)
+    os.mkdir(folder.at("here"))
+    folder.put("here/out", "old\n")
+    frags(folder)
+    with tempfile.TemporaryDirectory(dir="/dev/shm") as there:
+        os.symlink(folder.at("here"), folder.at("link"))
+
+        def flip():
+            if not os.path.lexists(there + "/.kconf-0"):
+                os.symlink(folder.at("secret"), there + "/.kconf-0")
+            for target in (there, folder.at("here")):
+                os.symlink(target, folder.at("next"))
+                os.rename(folder.at("next"), folder.at("link"))
+
+        with Attacker(flip):
+            script = RACE % (4 * TURNS, "link/out", "here/out", "here")
+            ran = subprocess.run(["sh", "-c", script, KCONF], cwd=folder.path, capture_output=True, text=True)
+    want("it", (ran.returncode, ran.stderr), (0, ""))
+    shutil.rmtree(folder.at("here"))
 
 
 def another_users_link_in_a_sticky_folder_is_not_followed(folder):
@@ -497,13 +654,13 @@ def more_configurations_than_temporary_names_are_replaced(folder):
 def three_configurations_with_links_and_modes(folder):
     three(folder)
     folder.put("real", "CONFIG_N=3\n")
-    os.chmod(folder.at("real"), 0o640)
+    os.chmod(folder.at("real"), 0o604)
     os.remove(folder.at("c/one"))
     os.symlink("../real", folder.at("c/one"))
     os.chmod(folder.at("c/two"), 0o600)
     want("what is said", folder.run("--replace", *MINIMAL).stderr, "")
     want("the link", (os.readlink(folder.at("c/one")), folder.get("real")), ("../real", ""))
-    want("the modes", [oct(stat.S_IMODE(os.stat(folder.at(name)).st_mode)) for name in ("real", "c/two")], [oct(0o640), oct(0o600)])
+    want("the modes", [oct(stat.S_IMODE(os.stat(folder.at(name)).st_mode)) for name in ("real", "c/two")], [oct(0o604), oct(0o600)])
 
 
 def runs_at_once_leave_one_of_the_texts(folder):
@@ -591,8 +748,11 @@ CHECKS = (
     a_links_target_is_replaced_with_its_mode,
     a_link_to_nothing_makes_its_target,
     a_new_file_has_the_mode_of_a_new_file,
-    every_mode_is_kept,
-    set_id_bits_go_to_no_other_owner,
+    a_mode_is_kept_but_for_the_group,
+    a_mode_lets_in_nobody_else,
+    an_access_list_becomes_no_right_of_the_group,
+    another_users_file_in_a_sticky_folder_lets_him_not_in,
+    another_users_pipe_in_a_sticky_folder_is_not_written,
     another_users_link_in_a_sticky_folder_is_not_followed,
     a_refused_run_leaves_all,
     a_fault_leaves_all,
@@ -602,6 +762,8 @@ CHECKS = (
     a_process_substitution_is_written,
     a_regular_file_below_dev_is_replaced,
     a_file_that_is_mounted_is_written_where_it_lies,
+    no_secret_is_copied_over_a_mounted_file,
+    no_secret_is_copied_between_file_systems,
     a_read_only_file_system_is_an_error,
     a_large_text_and_a_long_warning_are_whole,
     long_names_are_replaced,

@@ -2,8 +2,8 @@
 """Tries the built program as somebody new to it would: trials.py [KCONF]
 
 Runs at once into one log, full disks, a closed standard error, folders and files that may not be written or read, names that are
-folders, readers that go away, limits of a file's size and of memory, paths through a file, devices and pipes, many files, 2,000,000
-warnings, and runs for three configurations (--each) of which one fails.
+folders, readers that go away, limits of a file's size, of memory and of the stack, paths through a file, devices and pipes, links that
+change, terminals, names that collide, many files, 2,000,000 warnings, and runs for three configurations (--each) of which one fails.
 Each run has to end with the status and the line of docs/formats.md, and to leave what is said there. If root starts this, some trials
 run as root, and then all run as nobody: root may write everywhere.
 
@@ -13,11 +13,13 @@ Each trial has a folder of its own. The script ends with status 1 where one does
 import collections
 import os
 import pathlib
+import pty
 import pwd
 import resource
 import shutil
 import signal
 import socket
+import struct
 import subprocess
 import sys
 import tempfile
@@ -25,6 +27,7 @@ import traceback
 
 TOP = pathlib.Path(__file__).resolve().parent.parent
 TREE = 'config A\n\tbool "a"\n\nconfig S\n\tstring "s"\n\tdefault "x"\n'
+RECIPE = (TOP / "SECURITY.md").read_text()
 CONFIG = '#\n# Automatically generated file; DO NOT EDIT.\n# Main menu\n#\n# CONFIG_A is not set\nCONFIG_S="x"\n'
 HEADER = '/*\n * Automatically generated file; DO NOT EDIT.\n * Main menu\n */\n#define CONFIG_S "x"\n'
 FILES = {"--out": "config", "--header": "header", "--savedefconfig": "minimal", "--depfile": "rule"}
@@ -38,6 +41,9 @@ SECONDS = 2.0  # of processor time for them
 PIPE_BYTES = 67_108_864  # that a pipe of the tree may give
 THREE = ("c/one", "c/two", "c/three")  # configurations
 FRAGMENTS = 1_100  # more than there are descriptors
+TURNS = 1_000  # of each race
+STACK = 65_536  # bytes of it that suffice
+COLLIDING = 8_000  # names that collide if they are hashed without a key
 
 
 class Wrong(Exception):
@@ -468,6 +474,175 @@ def a_device_is_no_file_of_the_tree(place):
     want("a fragment", place.run("--config", "none", "--out", "o", "Kconfig", "/dev/null"), (0, ""))
 
 
+def another_device_is_no_input(place):
+    os.symlink("/dev/zero", place.path / "link")
+    for name in ("/dev/zero", "/dev/full", "/dev/urandom", "link"):
+        said = place.run("--config", name, "--out", "o", "Kconfig", timeout=20)
+        want(f"a .config {name}", said, (3, f"error E18: cannot read {name}\n"))
+        said = place.run("--config", "none", "--out", "o", "Kconfig", name, timeout=20)
+        want(f"a fragment {name}", said, (3, f"error E18: cannot read {name}\n"))
+    want("an output", place.get("o"), None)
+
+
+def while_link_changes(place, name, targets, turn):
+    """Makes turns while a link leads to each of these targets again and again."""
+    (place.path / name).unlink(missing_ok=True)
+    (place.path / "next").unlink(missing_ok=True)
+    child = os.fork()
+    if child == 0:
+        try:
+            while os.getppid() != 1:
+                for target in targets:
+                    os.symlink(target, place.path / "next")
+                    os.rename(place.path / "next", place.path / name)
+        finally:
+            os._exit(1)
+    try:
+        while not (place.path / name).is_symlink():
+            pass
+        for _ in range(TURNS):
+            turn()
+    finally:
+        os.kill(child, signal.SIGKILL)
+        os.waitpid(child, 0)
+
+
+def a_device_that_takes_the_place_of_a_file_is_not_read(place):
+    place.put("tree", 'source "part"\n')
+    place.put("real", TREE)
+    place.put("real.config", "CONFIG_A=y\n")
+    # What a device gives does not fit, so a run that read it would end with E20.
+    limit = lambda: resource.setrlimit(resource.RLIMIT_AS, (PIPE_BYTES // 2, PIPE_BYTES // 2))
+
+    def turn_of(name, words):
+        def turn():
+            said = place.run(*words, preexec_fn=limit)
+            if said != (0, ""):
+                want("a run that did not read it", said, (3, f"error E18: cannot read {name}\n"))
+
+        return turn
+
+    while_link_changes(place, "part", ("real", "/dev/zero"), turn_of("part", ["--config", "none", "--out", "o", "tree"]))
+    while_link_changes(place, "dot", ("real.config", "/dev/zero"), turn_of("dot", ["--config", "dot", "--out", "o", "Kconfig"]))
+    while_link_changes(place, "dot", ("real.config", "/dev/zero"), turn_of("dot", ["--config", "none", "--out", "o", "Kconfig", "dot"]))
+
+
+def what_was_read_from_a_pipe_is_not_written_there(place):
+    for text in ("CONFIG_A=y\n", "CONFIG_A=y\n" + "# a comment\n" * 100_000):
+        for flags in ([], ["--replace"]):
+            words = [place.kconf, *flags, "--config", "/dev/stdin", "--header", "h", "Kconfig"]
+            ran = subprocess.run(words, cwd=place.path, input=text, capture_output=True, text=True, timeout=20)
+            want("without --out", (ran.returncode, ran.stderr), (3, "error E19: cannot write /dev/stdin\n"))
+            want("the header", place.get("h"), None)
+            ran = subprocess.run([*words, "--out", "o"], cwd=place.path, input=text, capture_output=True, text=True, timeout=20)
+            want("with --out", (ran.returncode, ran.stderr), (0, ""))
+            want("its text", place.get("o"), CONFIG.replace("# CONFIG_A is not set", "CONFIG_A=y"))
+            os.unlink(place.path / "h")
+    place.put("real", "CONFIG_A=y\n")
+    with open(place.path / "real") as real:
+        ran = subprocess.run([place.kconf, "--config", "/dev/stdin", "Kconfig"], cwd=place.path, stdin=real, capture_output=True, text=True)
+    want("a regular file as standard input", (ran.returncode, ran.stderr), (0, ""))
+    want("its text", place.get("real"), CONFIG.replace("# CONFIG_A is not set", "CONFIG_A=y"))
+
+
+def a_small_stack_suffices(place):
+    limit = lambda: resource.setrlimit(resource.RLIMIT_STACK, (STACK, STACK))
+    place.put("dot.config", "CONFIG_A=y\n")
+    os.symlink("o", place.path / "link")
+    for words, end in (
+        (["--help"], (0, "")),
+        (["--out", "o", "--header", "h", "--savedefconfig", "m", "--depfile", "d", "Kconfig", "dot.config"], (0, "")),
+        (["--replace", "--out", "o", "--header", "h", "--savedefconfig", "m", "--depfile", "d", "Kconfig"], (0, "")),
+        (["--replace", "--out", "link", "Kconfig", "dot.config"], (0, "")),
+        (["--check", "--out", "link", "Kconfig"], (1, "error E22: link is not up to date\n")),
+        (["--each", "--out", "{}.o", "Kconfig", "dot.config"], (0, "")),
+        (["--each", "--replace", "--out", "{}.o", "Kconfig", "dot.config"], (0, "")),
+        (["--explain", "A", "Kconfig"], (0, "")),
+        (["--out", "o", "--list-new", "n", "--with-help", "Kconfig"], (0, "")),
+        (["none"], (1, "none:0: error E1: no file none\n")),
+    ):
+        want(f"{words}", place.run(*words, env={}, preexec_fn=limit), end)
+
+
+CONTROLS = "\x1b]0;t\x07\x1b[31m\r\x08\x7f\x00\x1f"
+SHOWN = r"\x1b]0;t\x07\x1b[31m\x0d\x08\x7f\x00\x1f"
+
+
+def control_bytes_do_not_reach_a_terminal(place):
+    (place.path / "dot.config").write_bytes(f"CONFIG_{CONTROLS}A\tb=y\n".encode())
+    place.put("tree", 'config S\n\tstring "s"\n\tdefault "\x1b[31m\tx\x07"\n')
+    line = "dot.config:1: warning K7: unknown symbol {}A\tb\n"
+
+    def at_terminal(stream, *words):
+        ours, terminal = pty.openpty()
+        os.set_blocking(ours, False)
+        streams = {"stdout": subprocess.PIPE, "stderr": subprocess.PIPE, stream: terminal}
+        ran = subprocess.run([place.kconf, *words], cwd=place.path, **streams)
+        got = os.read(ours, 65_536).decode().replace("\r\n", "\n") if ran.returncode == 0 else ""
+        os.close(terminal)
+        os.close(ours)
+        return ran, got
+
+    words = ("--config", "dot.config", "--out", "o", "Kconfig")
+    said = subprocess.run([place.kconf, *words], cwd=place.path, capture_output=True)
+    want("a pipe", (said.returncode, said.stderr.decode()), (0, line.format(CONTROLS)))
+    want("a terminal", at_terminal("stderr", *words)[1], line.format(SHOWN))
+    for flags in ([], ["--replace"]):
+        words = (*flags, "--config", "none", "--out", "/dev/stdout", "tree")
+        plain = subprocess.run([place.kconf, *words], cwd=place.path, capture_output=True, text=True).stdout
+        want("a text in a pipe", 'CONFIG_S="\x1b[31m\tx\x07"\n' in plain, True)
+        shown = plain.replace("\x1b", r"\x1b").replace("\x07", r"\x07")
+        want("a text at a terminal", at_terminal("stdout", *words)[1], shown)
+    explained = ("--explain", "S", "--config", "none", "tree")
+    plain = subprocess.run([place.kconf, *explained], cwd=place.path, capture_output=True, text=True).stdout
+    shown = plain.replace("\x1b", r"\x1b").replace("\x07", r"\x07")
+    want("an explanation in a pipe", "\x1b[31m" in plain, True)
+    want("an explanation at a terminal", at_terminal("stdout", *explained)[1], shown)
+
+
+def folded(a, b):
+    return (a * b & (1 << 64) - 1) ^ (a * b >> 64)
+
+
+def colliding_names(count):
+    """Names of 48 bytes. The library's hash function, without a key, gives all of them one hash: behind these 16 bytes its state is
+    8 name bytes, and if these follow, it multiplies by 0 whatever comes next."""
+    start, times = 0x243F6A8885A308D3 + 48, 0x9E3779B97F4A7C15
+    first = b"30UTxSdiisVtKGA9"
+    low, high = struct.unpack("<QQ", first)
+    state = struct.pack("<Q", folded(low ^ start, high ^ times))
+    return [(first + state).decode() + f"{n:08}" + "_ARE_ONE_IN_HASH" for n in range(count)]
+
+
+def names_that_collide_cost_no_more(place):
+    spent = []
+    for names in ([f"{'OTHER_'.ljust(24, 'X')}{n:08}_ARE_ONE_IN_HASH" for n in range(COLLIDING)], colliding_names(COLLIDING)):
+        place.put("Kconfig", "".join(f'config {name}\n\tbool "b"\n' for name in names))
+        took = []
+        for _ in range(3):
+            run = subprocess.Popen([place.kconf, "--config", "none", "--out", "o", "Kconfig"], cwd=place.path)
+            _, status, usage = os.wait4(run.pid, 0)
+            want("status", status, 0)
+            took.append(usage.ru_utime + usage.ru_stime)
+        spent.append(min(took))
+    print(f"  {COLLIDING:,} names took {spent[0]:.3f} s of processor time, and as many that collide without a key {spent[1]:.3f} s")
+    want("under three times", spent[1] < 3 * spent[0], True)
+
+
+def the_recipe_for_untrusted_input_writes_into_its_new_folder(place):
+    place.put(".profile", OLD)
+    (place.path / "tree").mkdir()
+    place.put("tree/Kconfig", TREE)
+    os.symlink("../.profile", place.path / "tree/.config")
+    recipe = RECIPE.split("## Untrusted input")[1].split("```sh\n")[1].split("```")[0]
+    script = recipe.replace("kconf --replace", f"{place.kconf} --replace") + 'cat "$out/.config"; rm -r "$out"; exit $status\n'
+    for _ in range(2):
+        ran = subprocess.run(["sh", "-c", script], cwd=place.path, capture_output=True, text=True)
+        want("it", (ran.returncode, ran.stdout.endswith(CONFIG)), (0, True))
+        want("the file of the user", place.get(".profile"), OLD)
+        want("the tree", sorted(os.listdir(place.path / "tree")), [".config", "Kconfig"])
+
+
 def through_pipe(place, text, *words):
     """A run whose arguments name a pipe (PIPE) that gives a text: its status, and its diagnostics."""
     reader, writer = os.pipe()
@@ -611,6 +786,13 @@ def become_nobody(folder):
 AS_ROOT = (
     a_path_through_a_file_is_no_missing_file,
     a_device_is_no_file_of_the_tree,
+    another_device_is_no_input,
+    a_device_that_takes_the_place_of_a_file_is_not_read,
+    what_was_read_from_a_pipe_is_not_written_there,
+    a_small_stack_suffices,
+    control_bytes_do_not_reach_a_terminal,
+    names_that_collide_cost_no_more,
+    the_recipe_for_untrusted_input_writes_into_its_new_folder,
     a_pipe_of_the_tree_has_a_bound,
     help_that_is_not_written_is_told_by_the_status,
     a_full_pipe_that_does_not_wait_is_told,

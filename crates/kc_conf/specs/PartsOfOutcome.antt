@@ -45,7 +45,7 @@ abbrev pub error_if_at : Option (List ℕ × ℕ) → List ℕ → List ℕ
 error_if_at location text = elim location [ None ↦ error_line text | Some place ↦ error_at place.0 place.1 text ]
 
 -- ---- What reading and solving give
--- The user's lines were all taken as written: none was warned of (K7 to K9) or changed what another gave, no user value that counts lies outside
+-- The user's lines were all taken as written: none was warned of (K7 to K9 and K16) or changed what another gave, no user value that counts lies outside
 -- its range, and none is reported as lost.
 abbrev pub is_taken : Options → UserInput → Solution → Bool
 is_taken options input solution =
@@ -56,7 +56,7 @@ abbrev pub text_if : {T : Type 0} → Option T → List ℕ → Option (List ℕ
 text_if name text = option_map (λ file. text) name
 
 -- the files of a solution for the user's input
-abbrev pub list_text : Files → List (Located Numbered) → TreeFacts → List ℕ → SolutionView → Bool → List ℕ
+abbrev pub list_text : Files → List (Located Numbered) → TreeFacts → Notation → SolutionView → Bool → List ℕ
 list_text files lines tree prefix view with_help = if with_help then new_text_with_help files lines tree prefix view else new_text tree prefix view
 
 abbrev pub files_of : Files → Options → TreeFacts → List (Located Numbered) → UserInput → Solution → Outcome

@@ -1,6 +1,7 @@
 //! One run: it accepts the tree, reads the input files, computes the texts and delivers them.
+ghost use Rattle.kc_read.specs.Files.{files_in};
 ghost use Rattle.std.specs.Prelude.{◌≡◌, ◌≢◌, ◌++◌, ℕ, List, [], map, option_map, Err, IfOk};
-ghost use Rattle.kc_language.specs.Expansion.{Files, bytes_in};
+ghost use Rattle.kc_language.specs.Expansion.{Files};
 ghost use Rattle.kc_read.specs.RefusalView.{refusal_view};
 ghost use Rattle.kc_language.specs.declared.diagnostics.Cause.TheVariants.{Memory};
 ghost use Rattle.kc_io.specs.Delivered.{text_view};
@@ -199,6 +200,7 @@ fn fresh_input<'a>(
         tree,
         options.warn_lost || options.explanation.is_some(),
     )?;
+    input.ask_unset(options.warn_lost);
     match &options.list_gone {
         None => Ok(input),
         Some(_) => {
@@ -352,7 +354,7 @@ fn run_over<'o, D: Device>(
     device: &mut D,
     kept: &mut Option<AcceptedTree>,
 ) -> Result<Status, Stop<'o>>
-    ensures { LeavesRun (bytes_in files) options.now result (D.log device.old) (D.log device.new) }
+    ensures { LeavesRun (files_in files) options.now result (D.log device.old) (D.log device.new) }
 {
     exactly_one_outcome();
     opened_are_one_list();
@@ -400,7 +402,7 @@ pub fn run<D: Device>(
     device: &mut D,
     kept: &mut Option<AcceptedTree>,
 ) -> Status
-    ensures { Runs (bytes_in files) options.now (D.log device.old) (D.log device.new) result }
+    ensures { Runs (files_in files) options.now (D.log device.old) (D.log device.new) result }
 {
     let ended = run_over(alloc, files, options, device, kept);
     answer(options, ended, device)

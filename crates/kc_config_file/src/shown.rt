@@ -2,12 +2,12 @@
 ghost use Rattle.std.specs.Prelude.{◌≡◌, ◌++◌, OnOk};
 ghost use Rattle.kc_language.specs.Values.{same_given};
 ghost use Rattle.kc_user.specs.ValueView.{given_of_value};
-ghost use Rattle.kc_language.specs.ConfigFile.{value_text, text_in_config};
+ghost use Rattle.kc_language.specs.ConfigFile.{string_text, value_text, text_in_config};
 ghost use Rattle.kc_config_file.specs.ShownView.{given_by};
 
+use crate::text::add_between_quotes;
 use kc_expr::expression::{SymbolType, Tri};
 use kc_expr::values::tri_text;
-use kc_text::escape_into;
 use kc_user::value::UserValue;
 use std::alloc::AllocError;
 
@@ -49,16 +49,26 @@ pub fn is_same(given: ShownValue<'_>, value: ShownValue<'_>) -> bool
     }
 }
 
+// Adds a string in quotes.
+fn add_string(is_raw: bool, text: &[u8], line: &mut Vec<u8>) -> Result<(), AllocError>
+    ensures { OnOk result (line.new.items ≡ line.old.items ++ string_text is_raw text.now) }
+{
+    line.extend_from_slice(b"\"")?;
+    add_between_quotes(is_raw, text, line)?;
+    line.extend_from_slice(b"\"")
+}
+
 // Adds a text as a `.config` writes it.
-fn add_text(symbol_type: SymbolType, text: &[u8], line: &mut Vec<u8>) -> Result<(), AllocError>
-    ensures { OnOk result (line.new.items ≡ line.old.items ++ text_in_config symbol_type text.now) }
+fn add_text(
+    is_raw: bool,
+    symbol_type: SymbolType,
+    text: &[u8],
+    line: &mut Vec<u8>,
+) -> Result<(), AllocError>
+    ensures { OnOk result (line.new.items ≡ line.old.items ++ text_in_config is_raw symbol_type text.now) }
 {
     match symbol_type {
-        SymbolType::Str => {
-            line.extend_from_slice(b"\"")?;
-            escape_into(text, line)?;
-            line.extend_from_slice(b"\"")
-        }
+        SymbolType::Str => add_string(is_raw, text, line),
         SymbolType::Undefined
         | SymbolType::Bool
         | SymbolType::Tristate
@@ -68,16 +78,20 @@ fn add_text(symbol_type: SymbolType, text: &[u8], line: &mut Vec<u8>) -> Result<
 }
 
 /// Adds the value of a symbol of this type as a `.config` writes it: a string in quotes, with a `\` before each `"` and
-/// `\`. Its only error is to be out of memory.
+/// `\` unless strings are raw.
+///
+/// # Errors
+/// Out of memory.
 pub fn add_value(
+    is_raw: bool,
     symbol_type: SymbolType,
     shown: ShownValue<'_>,
     line: &mut Vec<u8>,
 ) -> Result<(), AllocError>
-    ensures { OnOk result (line.new.items ≡ line.old.items ++ value_text symbol_type (given_by shown.entry)) }
+    ensures { OnOk result (line.new.items ≡ line.old.items ++ value_text is_raw symbol_type (given_by shown.entry)) }
 {
     match shown {
         ShownValue::Truth(tri) => line.extend_from_slice(tri_text(tri)),
-        ShownValue::Text(text) => add_text(symbol_type, text, line),
+        ShownValue::Text(text) => add_text(is_raw, symbol_type, text, line),
     }
 }

@@ -1,7 +1,7 @@
 //! Where the text of a name goes.
 use std::fs::{self, File, Metadata, OpenOptions};
 use std::io::{self, ErrorKind};
-use std::os::unix::fs::MetadataExt;
+use std::os::unix::fs::{MetadataExt, OpenOptionsExt};
 use std::path::{Path, PathBuf};
 
 // A name that leads over more links than these leads nowhere.
@@ -33,13 +33,23 @@ pub(crate) fn changed() -> io::Error {
     io::Error::from(ErrorKind::StaleNetworkFileHandle)
 }
 
-/// Opens what was found under a name to write it anew. It makes no file.
+// Who may open a file that a run makes only because what it found under the name is gone.
+const PRIVATE_MODE: u32 = 0o600;
+
+/// Opens what was found under a name to write it anew. It asks the system to make the file if it is gone, as each run does that
+/// replaces nothing: only then the system's rules for files of others in sticky folders count (`protected_regular` and
+/// `protected_fifos`).
 ///
 /// # Errors
 ///
 /// Fails if it cannot be opened, or if another file is there now.
+#[inline(never)]
 pub(crate) fn open_found(rt: &HostRuntime, name: &str, found: &Metadata) -> io::Result<File> {
-    let file = OpenOptions::new().write(true).open(rt, name)?;
+    let file = OpenOptions::new()
+        .write(true)
+        .create(true)
+        .mode(PRIVATE_MODE)
+        .open(rt, name)?;
     let opened = file.metadata()?;
     if !is_same_file(&opened, found) {
         return Err(changed());
@@ -60,11 +70,19 @@ fn if_there(found: io::Result<Metadata>) -> io::Result<Option<Metadata>> {
 }
 
 // What lies at the path: it may be a link.
+#[inline(never)]
 fn looked_at(rt: &HostRuntime, path: &PathBuf) -> io::Result<Option<Metadata>> {
     if_there(fs::symlink_metadata(rt, path.as_path()))
 }
 
+// What the system finds behind the links of a name.
+#[inline(never)]
+fn followed(rt: &HostRuntime, name: &str) -> io::Result<Option<Metadata>> {
+    if_there(fs::metadata(rt, name))
+}
+
 // What the link at the path leads to. If that begins with no slash, it is in the link's folder.
+#[inline(never)]
 fn target_of(rt: &HostRuntime, path: &PathBuf) -> io::Result<PathBuf> {
     let target = fs::read_link(rt, path.as_path())?;
     match path.as_path().parent() {
@@ -74,6 +92,7 @@ fn target_of(rt: &HostRuntime, path: &PathBuf) -> io::Result<PathBuf> {
 }
 
 // Whether this lies on the file system of `/proc`.
+#[inline(never)]
 fn is_below_proc(rt: &HostRuntime, found: &Metadata) -> bool {
     match fs::symlink_metadata(rt, "/proc/self") {
         Ok(process) => process.dev() == found.dev(),
@@ -131,7 +150,7 @@ fn behind_links(
     path: PathBuf,
     link: Metadata,
 ) -> io::Result<Option<Destination>> {
-    let found = if_there(fs::metadata(rt, name))?;
+    let found = followed(rt, name)?;
     match found {
         Some(found) if !found.is_file() => return Ok(Some(Destination::AsItStands(found))),
         _ => {}

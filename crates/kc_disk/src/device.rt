@@ -4,11 +4,16 @@ ghost use Rattle.kc_disk.specs.Limits.{most_reads};
 
 use crate::destination::{Destination, destination_of};
 use crate::diagnostics::Diagnostics;
-use crate::same_text::holds_text;
-use crate::temporary::{TemporaryFile, complete, move_to_place, remove, start};
+use crate::open_file::{Devices, open_to_read};
+use crate::same_text::{bytes_of, holds_text};
+use crate::temporary::{Started, TemporaryFile, move_to_place, remove, start};
+use crate::terminal::show;
+use kc_display::{Showing, difference, shown};
 use kc_io::{Device, Fault, Site};
-use std::fs::File;
-use std::io::{self, ErrorKind, Read, Write};
+use std::alloc::AllocError;
+use std::cell::Cell;
+use std::fs::{File, Metadata};
+use std::io::{self, ErrorKind, IsTerminal, Read, Write};
 use std::mem;
 
 /// How many reads that give bytes there may be: a file that gives more has no end.
@@ -17,6 +22,9 @@ const MOST_READS: u64 = 1 << 63;
 /// The name of standard output: a text of this name goes there.
 const STANDARD_OUTPUT: &str = "/dev/stdout";
 
+/// The only name that may be read and written, though no regular file is there.
+const NULL: &str = "/dev/null";
+
 // Where the text goes that is written.
 #[derive(Drop)]
 enum Writing {
@@ -24,10 +32,14 @@ enum Writing {
     Nothing,
     // To standard output, as it is.
     StandardOutput,
+    // To standard output, which is a terminal.
+    StandardTerminal,
+    // To this terminal.
+    Terminal(File),
     // To this file, which stands at its place.
     InPlace(File),
     // To this file, which is to be moved there.
-    Beside(File, TemporaryFile),
+    Beside(TemporaryFile),
 }
 
 /// The files of a disk and the diagnostics of the process (our own). It tells nothing.
@@ -43,8 +55,16 @@ enum Writing {
 pub struct SystemDevice<'a> {
     rt: &'a HostRuntime,
     diagnostics: Diagnostics<'a>,
+    // How the diagnostics are shown.
+    showing: Showing,
+    // Why the system refused what failed last, for a hint.
+    reason: &'static str,
+    // The difference of the file that was compared last, which follows the next diagnostic.
+    difference: Cell<Option<Vec<u8>>>,
     // The file that is read.
     reading: Option<File>,
+    // The names that were read though no regular file is there. No text goes to such a name.
+    special: Vec<String>,
     // How many reads gave bytes.
     reads: u64,
     // Where the text goes that is written.
@@ -60,7 +80,11 @@ impl<'a> SystemDevice<'a> {
         SystemDevice {
             rt,
             diagnostics,
+            showing: Showing::PLAIN,
+            reason: "",
+            difference: Cell::new(None),
             reading: None,
+            special: Vec::new(rt.alloc()),
             reads: 0,
             writing: Writing::Nothing,
             whole: Vec::new(rt.alloc()),
@@ -79,29 +103,78 @@ impl<'a> SystemDevice<'a> {
         SystemDevice::with(rt, Diagnostics::keeping(rt))
     }
 
+    /// Shows the diagnostics from now on in this way.
+    pub fn show(&mut self, showing: Showing) {
+        self.showing = showing;
+    }
+
+    // The diagnostics as they are shown, with the difference of the file that was compared last.
+    fn shown(&self, parts: &[&[u8]]) -> Result<Vec<u8>, AllocError> {
+        let mut text = Vec::new(self.rt.alloc());
+        for part in parts {
+            text.extend_from_slice(part)?;
+        }
+        let mut shown = shown(self.rt.alloc(), self.showing, self.reason, &text)?;
+        if let Some(difference) = self.difference.replace(None) {
+            shown.extend_from_slice(&difference)?;
+        }
+        Ok(shown)
+    }
+
+    // Keeps how the file at this path differs from these bytes. Without memory for it, or if the file cannot be read, nothing is kept.
+    fn keep_difference(&self, name: &str, path: &str, found: &Metadata, bytes: &[u8]) {
+        let kept = match bytes_of(self.rt, path, found) {
+            Ok(held) => difference(self.rt.alloc(), name, &held, bytes).ok(),
+            Err(_) => None,
+        };
+        self.difference.set(kept);
+    }
+
+    // The answer to what the system answered, whose reason is kept for a hint.
+    fn answer(&mut self, done: io::Result<()>) -> Result<(), Fault> {
+        match done {
+            Ok(()) => Ok(()),
+            Err(error) => Err(self.fault(&error)),
+        }
+    }
+
+    // The fault of an error, whose reason is kept for a hint.
+    fn fault(&mut self, error: &io::Error) -> Fault {
+        self.reason = reason_of(error);
+        fault_of(error)
+    }
+
     /// Returns the diagnostics that were kept: none, if they went to standard error.
     pub fn into_diagnostics(self) -> Vec<u8> {
         let SystemDevice { diagnostics, .. } = self;
         diagnostics.into_kept()
     }
 
-    // Makes an empty file: at its place, or beside it. Standard output is there and keeps what it holds.
-    fn make(&mut self, site: Site, name: &str) -> io::Result<()> {
-        let made = match site {
-            Site::Place if name == STANDARD_OUTPUT => Writing::StandardOutput,
-            Site::Place => Writing::InPlace(File::create(self.rt, name)?),
-            Site::Beside => self.start_beside(name)?,
-        };
-        self.writing = made;
+    // Opens an input file, whose name is kept if it is no regular one.
+    fn open_input(&mut self, name: &str) -> io::Result<()> {
+        let (file, opened) = open_to_read(self.rt, name, Devices::NullAndTerminals)?;
+        if !opened.is_file() && name != NULL {
+            self.special.push(String::from_str(self.rt.alloc(), name)?)?;
+        }
+        self.reading = Some(file);
         Ok(())
     }
 
-    // Makes the file for a text that is to be moved to its place, if it can be.
-    fn start_beside(&mut self, name: &str) -> io::Result<Writing> {
-        match start(self.rt, name, &mut self.tried)? {
-            (file, Some(temporary)) => Ok(Writing::Beside(file, temporary)),
-            (file, None) => Ok(Writing::InPlace(file)),
+    // Makes an empty file: at its place, or beside it. Standard output is there and keeps what it holds.
+    fn make(&mut self, site: Site, name: &str) -> io::Result<()> {
+        if self.special.iter().any(|read| read.as_str() == name) {
+            return Err(io::Error::from(ErrorKind::InvalidInput));
         }
+        let made = match site {
+            Site::Place if name == STANDARD_OUTPUT => standard_output(self.rt),
+            Site::Place => in_place(create(self.rt, name)?),
+            Site::Beside => match start(self.rt, name, &mut self.tried)? {
+                Started::Beside(temporary) => Writing::Beside(temporary),
+                Started::InPlace(file) => in_place(file),
+            },
+        };
+        self.writing = made;
+        Ok(())
     }
 
     // Closes the file that is written. One that is to be moved has its permissions then, and is on the disk.
@@ -110,14 +183,14 @@ impl<'a> SystemDevice<'a> {
             self.writing = Writing::Nothing;
             return Ok(());
         }
-        if let Writing::Beside(file, temporary) = &self.writing {
-            complete(file, temporary)?;
+        if let Writing::Beside(temporary) = &self.writing {
+            temporary.complete(self.rt)?;
         }
         self.whole.reserve(1)?;
         match mem::replace(&mut self.writing, Writing::Nothing) {
-            Writing::Nothing | Writing::StandardOutput => {}
-            Writing::InPlace(_file) => self.whole.push(None)?,
-            Writing::Beside(_file, temporary) => self.whole.push(Some(temporary))?,
+            Writing::Nothing | Writing::StandardOutput | Writing::StandardTerminal => {}
+            Writing::Terminal(_file) | Writing::InPlace(_file) => self.whole.push(None)?,
+            Writing::Beside(temporary) => self.whole.push(Some(temporary))?,
         }
         Ok(())
     }
@@ -139,6 +212,30 @@ impl<'a> SystemDevice<'a> {
         }
         self.try_names_anew();
         Ok(())
+    }
+}
+
+// Empties the file of this name, or makes it.
+#[inline(never)]
+fn create(rt: &HostRuntime, name: &str) -> io::Result<File> {
+    File::create(rt, name)
+}
+
+// Where a text for a file goes that is written where it stands.
+fn in_place(file: File) -> Writing {
+    if file.is_terminal() {
+        Writing::Terminal(file)
+    } else {
+        Writing::InPlace(file)
+    }
+}
+
+// Where a text for standard output goes.
+fn standard_output(rt: &HostRuntime) -> Writing {
+    if rt.stdout().is_terminal() {
+        Writing::StandardTerminal
+    } else {
+        Writing::StandardOutput
     }
 }
 
@@ -166,7 +263,16 @@ fn write_on(rt: &HostRuntime, writing: &mut Writing, bytes: &[u8]) -> io::Result
             rt.stdout().write_all(bytes)?;
             Ok(bytes.len())
         }
-        Writing::InPlace(file) | Writing::Beside(file, _) => file.write(bytes),
+        Writing::StandardTerminal => {
+            show(&mut rt.stdout(), bytes)?;
+            Ok(bytes.len())
+        }
+        Writing::Terminal(terminal) => {
+            show(terminal, bytes)?;
+            Ok(bytes.len())
+        }
+        Writing::InPlace(file) => file.write(bytes),
+        Writing::Beside(temporary) => temporary.write(bytes),
     }
 }
 
@@ -176,6 +282,19 @@ fn fault_of(error: &io::Error) -> Fault {
         Fault::Memory
     } else {
         Fault::Refused
+    }
+}
+
+// Why the system refused something, for a hint.
+fn reason_of(error: &io::Error) -> &'static str {
+    match error.kind() {
+        ErrorKind::NotFound => "there is no such file or folder; ",
+        ErrorKind::PermissionDenied => "permission denied; ",
+        ErrorKind::IsADirectory => "it is a folder; ",
+        ErrorKind::NotADirectory => "a part of its path is no folder; ",
+        ErrorKind::StorageFull => "no space is left on the device; ",
+        ErrorKind::ReadOnlyFilesystem => "the file system is read-only; ",
+        _ => "",
     }
 }
 
@@ -194,13 +313,10 @@ impl<'a> Device for SystemDevice<'a> {
 
     fn open(&mut self, name: &str, may_be_missing: bool) -> Result<bool, Fault> {
         self.reading = None;
-        match File::open(self.rt, name) {
-            Ok(file) => {
-                self.reading = Some(file);
-                Ok(true)
-            }
+        match self.open_input(name) {
+            Ok(()) => Ok(true),
             Err(error) if may_be_missing && error.kind() == ErrorKind::NotFound => Ok(false),
-            Err(error) => Err(fault_of(&error)),
+            Err(error) => Err(self.fault(&error)),
         }
     }
 
@@ -215,46 +331,59 @@ impl<'a> Device for SystemDevice<'a> {
                 }
                 Ok(count)
             }
-            Err(error) => Err(fault_of(&error)),
+            Err(error) => Err(self.fault(&error)),
         }
     }
 
     fn report(&mut self, parts: &[&[u8]]) -> Result<(), Fault> {
-        answer(self.diagnostics.write_parts(parts))
+        if self.showing == Showing::PLAIN {
+            return answer(self.diagnostics.write_parts(parts));
+        }
+        match self.shown(parts) {
+            Ok(shown) => answer(self.diagnostics.write_parts(&[&shown])),
+            Err(_) => answer(self.diagnostics.write_parts(parts)),
+        }
     }
 
     fn holds(&self, name: &str, bytes: &[u8]) -> bool {
-        let Ok(Destination::Taken(path, _)) = destination_of(self.rt, name) else {
+        let Ok(Destination::Taken(path, found)) = destination_of(self.rt, name) else {
             return false;
         };
-        matches!(
-            holds_text(self.rt, path.as_path().as_str(), bytes),
-            Ok(true)
-        )
+        let path = path.as_path().as_str();
+        if matches!(holds_text(self.rt, path, &found, bytes), Ok(true)) {
+            return true;
+        }
+        if self.showing.differences {
+            self.keep_difference(name, path, &found, bytes);
+        }
+        false
     }
 
     fn create(&mut self, site: Site, name: &str) -> Result<(), Fault> {
-        answer(self.make(site, name))
+        let done = self.make(site, name);
+        self.answer(done)
     }
 
     fn write(&mut self, _site: Site, _name: &str, bytes: &[u8]) -> Result<usize, Fault> {
         match write_on(self.rt, &mut self.writing, bytes) {
             Ok(count) if count > 0 => Ok(count),
             Ok(_) => Err(Fault::Refused),
-            Err(error) => Err(fault_of(&error)),
+            Err(error) => Err(self.fault(&error)),
         }
     }
 
     fn close(&mut self, site: Site, _name: &str) -> Result<(), Fault> {
-        answer(self.finish(site))
+        let done = self.finish(site);
+        self.answer(done)
     }
 
     fn move_there(&mut self, _name: &str) -> Result<(), Fault> {
-        answer(self.move_first())
+        let done = self.move_first();
+        self.answer(done)
     }
 
     fn clear(&mut self) {
-        if let Writing::Beside(_file, temporary) = mem::replace(
+        if let Writing::Beside(temporary) = mem::replace(
             &mut self.writing,
             Writing::Nothing,
         ) {

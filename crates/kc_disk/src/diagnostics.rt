@@ -1,5 +1,6 @@
 //! Where the diagnostics go.
-use std::io::{self, Write};
+use crate::terminal::show;
+use std::io::{self, IsTerminal, Write};
 use std::os::fd::AsFd;
 
 // What the system answers if a descriptor is not open.
@@ -12,6 +13,8 @@ const ROOM: usize = 65_536;
 #[derive(Drop)]
 enum Destination {
     StandardError,
+    // Standard error is a terminal.
+    Terminal,
     // Standard error was closed from the start: its descriptor may be that of a file that was opened since.
     Closed,
     Kept(Vec<u8>),
@@ -42,6 +45,7 @@ impl<'a> Diagnostics<'a> {
     pub(crate) fn of_process(rt: &'a HostRuntime) -> Diagnostics<'a> {
         let destination = match rt.stderr().as_fd().try_clone_to_owned() {
             Err(error) if error.raw_os_error() == Some(NOT_OPEN) => Destination::Closed,
+            _ if rt.stderr().is_terminal() => Destination::Terminal,
             _ => Destination::StandardError,
         };
         Diagnostics::new(rt, destination)
@@ -61,7 +65,9 @@ impl<'a> Diagnostics<'a> {
         } = self;
         match destination {
             Destination::Kept(bytes) => bytes,
-            Destination::StandardError | Destination::Closed => Vec::new(rt.alloc()),
+            Destination::StandardError | Destination::Terminal | Destination::Closed => Vec::new(
+                rt.alloc(),
+            ),
         }
     }
 
@@ -99,6 +105,7 @@ impl<'a> Diagnostics<'a> {
 fn write(rt: &HostRuntime, destination: &mut Destination, bytes: &[u8]) -> io::Result<()> {
     match destination {
         Destination::StandardError => rt.stderr().write_all(bytes),
+        Destination::Terminal => show(&mut rt.stderr(), bytes),
         Destination::Closed => Err(io::Error::from_raw_os_error(NOT_OPEN)),
         Destination::Kept(kept) => {
             kept.extend_from_slice(bytes)?;

@@ -1,10 +1,11 @@
 //! The files of a tree on a disk.
 ghost use Rattle.std.specs.Prelude.{None};
 
-use kc_load::{Folder, FolderFault};
-use std::fs::{self, File, Metadata};
+use crate::open_file::{Devices, open_to_read};
+use kc_load::{Folder, FolderFault, HashKey};
+use std::fs::File;
 use std::io::{self, ErrorKind, Read};
-use std::os::unix::fs::FileTypeExt;
+use std::random::RandomSource;
 
 /// Reads the files of a tree from a disk by their paths (our own).
 ///
@@ -39,22 +40,13 @@ const BUFFER_SIZE: usize = 65_536;
 // How many bytes a file may give beyond its length. A pipe has no length.
 const MOST_FURTHER_BYTES: usize = 67_108_864;
 
-// Fails for a device: it may have no end, and to open one may do something.
-fn refuse_device(found: &Metadata) -> io::Result<()> {
-    let kind = found.file_type();
-    if kind.is_char_device() || kind.is_block_device() {
-        return Err(io::Error::from(ErrorKind::InvalidInput));
-    }
-    Ok(())
-}
+// How many random bytes are the secret of a key.
+const SECRET_SIZE: usize = 16;
 
-// Opens a file of the tree, and returns how many bytes it may give. The limit counts for a file that grows, too, and for a
-// device that takes the place of the file before it is opened.
+// Opens a file of the tree, and returns how many bytes it may give. The limit counts for a file that grows, too.
 fn open_bounded(rt: &HostRuntime, path: &str) -> io::Result<(File, usize)> {
-    let found = fs::metadata(rt, path)?;
-    refuse_device(&found)?;
-    let file = File::open(rt, path)?;
-    let length = usize::try_from(found.len()).unwrap_or(usize::MAX);
+    let (file, opened) = open_to_read(rt, path, Devices::None)?;
+    let length = usize::try_from(opened.len()).unwrap_or(usize::MAX);
     Ok((file, length.saturating_add(MOST_FURTHER_BYTES)))
 }
 
@@ -79,6 +71,15 @@ fn read_whole(rt: &HostRuntime, path: &str, buffer: &mut [u8]) -> io::Result<Vec
     Ok(bytes)
 }
 
+// A key that nobody knows beforehand. If the system has no random bytes, it is the known one: names that collide are slow then.
+fn secret_key(rt: &HostRuntime) -> HashKey {
+    let mut secret = [0u8; SECRET_SIZE];
+    match rt.fill_bytes(&mut secret) {
+        Ok(()) => HashKey::of_secret(&secret),
+        Err(_) => HashKey::known(),
+    }
+}
+
 impl<'a> Folder for SystemFolder<'a> {
     ghost state = { λ _. None };
 
@@ -89,5 +90,9 @@ impl<'a> Folder for SystemFolder<'a> {
             Err(error) if error.kind() == ErrorKind::OutOfMemory => Err(FolderFault::Memory),
             Err(_) => Err(FolderFault::Device),
         }
+    }
+
+    fn key(&self) -> HashKey {
+        secret_key(self.rt)
     }
 }

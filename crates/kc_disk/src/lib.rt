@@ -4,6 +4,7 @@
 //! - [`kconf`]: the program; [`exit_status`] is the status that it ends with.
 //! - [`kconf_over`]: the same over any folder and device. An [`Ended`] says how it ended.
 //! - [`Arguments`]: the arguments of the process.
+//! - [`showing_for`]: how diagnostics are shown.
 //! - [`SystemDevice`] and [`SystemFolder`]: the system calls for files, diagnostics and the files of a tree.
 //! - [`laws`]: how runs of many configurations end.
 
@@ -15,10 +16,15 @@ mod diagnostics;
 mod each;
 mod ended;
 mod folder;
+mod including;
 pub mod laws;
+mod open_file;
+mod permissions;
 mod program;
 mod same_text;
+mod showing;
 mod temporary;
+mod terminal;
 mod usage;
 
 pub use arguments::Arguments;
@@ -26,3 +32,4 @@ pub use device::SystemDevice;
 pub use ended::{Ended, kconf_over};
 pub use folder::SystemFolder;
 pub use program::{exit_status, kconf};
+pub use showing::showing_for;

@@ -6,6 +6,7 @@ use crate::arguments::Arguments;
 use crate::device::SystemDevice;
 use crate::ended::{Ended, kconf_over};
 use crate::folder::SystemFolder;
+use crate::showing::showing_for;
 use kc_conf::Status;
 use std::mem;
 
@@ -24,6 +25,7 @@ pub fn kconf<'a>(
     ensures ends { KconfEndsOnDisk arguments.now result.status }
 {
     let mut device = SystemDevice::new(rt);
+    device.show(showing_for(rt.alloc(), arguments));
     let mut folder = SystemFolder::new(rt);
     let mut kept = None;
     let ended = kconf_over(rt, arguments, &mut folder, &mut device, &mut kept);

@@ -1,8 +1,10 @@
 //! Files that stand beside the places that they are to take.
+ghost use Rattle.std.specs.Prelude.{◌≤◌, length, IfOk};
 
 use crate::destination::{Destination, changed, destination_of, is_same_file, open_found};
+use crate::permissions::{Trust, mode_over};
 use std::fs::{self, File, Metadata, OpenOptions, Permissions};
-use std::io::{self, ErrorKind};
+use std::io::{self, ErrorKind, Seek, SeekFrom, Write};
 use std::os::unix::fs::{MetadataExt, OpenOptionsExt, PermissionsExt};
 use std::path::PathBuf;
 
@@ -15,12 +17,6 @@ const NEW_MODE: u32 = 0o666;
 // The same of a file that only its owner may open.
 const PRIVATE_MODE: u32 = 0o600;
 
-// The bits of a mode that say who may read, write and run a file.
-const ACCESS_BITS: u32 = 0o777;
-
-// All bits of a mode that can be set.
-const MODE_BITS: u32 = 0o7777;
-
 // What a temporary file is to become.
 #[derive(Drop)]
 enum Replaced {
@@ -32,12 +28,24 @@ enum Replaced {
     NothingBehind(String),
 }
 
-/// A file that stands beside the place that it is to take.
+/// A file that stands beside the place that it is to take. It stays open, so what is written elsewhere can only be its own text.
 #[derive(Drop)]
 pub(crate) struct TemporaryFile {
+    text: File,
     path: PathBuf,
     destination: PathBuf,
     replaced: Replaced,
+}
+
+// Makes an empty file at this path, which has to be free.
+#[inline(never)]
+fn create_new(rt: &HostRuntime, path: &PathBuf, mode: u32) -> io::Result<File> {
+    OpenOptions::new()
+        .read(true)
+        .write(true)
+        .create_new(true)
+        .mode(mode)
+        .open(rt, path.as_path())
 }
 
 // Makes an empty file in the folder of the destination, under the next name that is free.
@@ -46,7 +54,7 @@ fn create_temporary(
     destination: PathBuf,
     replaced: Replaced,
     tried: &mut usize,
-) -> io::Result<(File, TemporaryFile)> {
+) -> io::Result<TemporaryFile> {
     let mode = match &replaced {
         Replaced::File(_) => PRIVATE_MODE,
         Replaced::Nothing | Replaced::NothingBehind(_) => NEW_MODE,
@@ -57,19 +65,14 @@ fn create_temporary(
         let path = destination
             .as_path()
             .with_file_name(rt.alloc(), name.as_str())?;
-        match OpenOptions::new()
-            .write(true)
-            .create_new(true)
-            .mode(mode)
-            .open(rt, path.as_path())
-        {
-            Ok(file) => {
-                let temporary = TemporaryFile {
+        match create_new(rt, &path, mode) {
+            Ok(text) => {
+                return Ok(TemporaryFile {
+                    text,
                     path,
                     destination,
                     replaced,
-                };
-                return Ok((file, temporary));
+                });
             }
             Err(error) if error.kind() == ErrorKind::AlreadyExists => {}
             Err(error) => return Err(error),
@@ -78,12 +81,21 @@ fn create_temporary(
     Err(io::Error::from(ErrorKind::AlreadyExists))
 }
 
+/// The file for a text that replaces another.
+#[derive(Drop)]
+pub(crate) enum Started {
+    /// A temporary file.
+    Beside(TemporaryFile),
+    /// What stands at the place and is written as it stands.
+    InPlace(File),
+}
+
 /// Makes the file for a text of this name: a temporary file, or the one that stands at its place, which is written as it stands.
-pub(crate) fn start(
-    rt: &HostRuntime,
-    name: &str,
-    tried: &mut usize,
-) -> io::Result<(File, Option<TemporaryFile>)> {
+///
+/// # Errors
+///
+/// Fails as `destination_of` does, and if a file cannot be made or opened.
+pub(crate) fn start(rt: &HostRuntime, name: &str, tried: &mut usize) -> io::Result<Started> {
     let (destination, replaced) = match destination_of(rt, name)? {
         Destination::Taken(path, found) => (path, Replaced::File(found)),
         Destination::Free(path) => (path, Replaced::Nothing),
@@ -91,33 +103,64 @@ pub(crate) fn start(
             path,
             Replaced::NothingBehind(String::from_str(rt.alloc(), name)?),
         ),
-        Destination::AsItStands(found) => return Ok((open_found(rt, name, &found)?, None)),
+        Destination::AsItStands(found) => {
+            return Ok(Started::InPlace(open_found(rt, name, &found)?));
+        }
     };
-    let (file, temporary) = create_temporary(rt, destination, replaced, tried)?;
-    Ok((file, Some(temporary)))
+    Ok(Started::Beside(create_temporary(
+        rt, destination, replaced, tried,
+    )?))
 }
 
-// The permissions of a file that replaces another. Its set-user-id and set-group-id bits go to no other owner or group.
-fn permissions_over(file: &File, replaced: &Metadata) -> io::Result<Permissions> {
-    let mode = replaced.mode() & MODE_BITS;
-    let made = file.metadata()?;
-    if made.uid() == replaced.uid() && made.gid() == replaced.gid() {
-        Ok(Permissions::from_mode(mode))
-    } else {
-        Ok(Permissions::from_mode(mode & ACCESS_BITS))
+impl TemporaryFile {
+    /// Writes a beginning of the bytes, and returns how many it took.
+    pub(crate) fn write(&mut self, bytes: &[u8]) -> io::Result<usize>
+        ensures { IfOk result (λ count. count ≤ length bytes.now) }
+    {
+        self.text.write(bytes)
+    }
+
+    // The permissions of the file, if it replaces another one.
+    fn permissions_over(
+        &self,
+        rt: &HostRuntime,
+        replaced: &Metadata,
+    ) -> io::Result<Permissions> {
+        let made = self.text.metadata()?;
+        let trust = if made.uid() == replaced.uid() {
+            if made.gid() == replaced.gid() {
+                Trust::Same
+            } else {
+                Trust::Known
+            }
+        } else if owner_of_folder(rt, &self.destination)? == replaced.uid() {
+            Trust::Known
+        } else {
+            Trust::Stranger
+        };
+        Ok(Permissions::from_mode(mode_over(replaced.mode(), trust)))
+    }
+
+    /// Gives a file that is written its permissions, and waits until the disk has it.
+    pub(crate) fn complete(&self, rt: &HostRuntime) -> io::Result<()> {
+        if let Replaced::File(replaced) = &self.replaced {
+            self.text
+                .set_permissions(self.permissions_over(rt, replaced)?)?;
+        }
+        self.text.sync_all()
     }
 }
 
-/// Gives a file that is written its permissions, and waits until the disk has it.
-pub(crate) fn complete(file: &File, temporary: &TemporaryFile) -> io::Result<()> {
-    if let Replaced::File(replaced) = &temporary.replaced {
-        file.set_permissions(permissions_over(file, replaced)?)?;
-    }
-    file.sync_all()
+// The owner of the folder of a file.
+#[inline(never)]
+fn owner_of_folder(rt: &HostRuntime, file: &PathBuf) -> io::Result<u32> {
+    let folder = file.as_path().with_file_name(rt.alloc(), ".")?;
+    Ok(fs::metadata(rt, folder.as_path())?.uid())
 }
 
 // Has the system make the file to which a name leads over links: it follows them by its own rules. That file has to be the
 // destination.
+#[inline(never)]
 fn make_behind_links(rt: &HostRuntime, name: &str, destination: &PathBuf) -> io::Result<()> {
     let made = OpenOptions::new()
         .write(true)
@@ -133,17 +176,29 @@ fn make_behind_links(rt: &HostRuntime, name: &str, destination: &PathBuf) -> io:
 }
 
 // Writes the text of a temporary file to the file that it cannot replace, where that lies.
+#[inline(never)]
 fn write_in_place(
     rt: &HostRuntime,
     temporary: &TemporaryFile,
     replaced: &Metadata,
 ) -> io::Result<()> {
-    let mut text = File::open(rt, temporary.path.as_path())?;
+    let mut text = &temporary.text;
+    text.seek(SeekFrom::Start(0))?;
     let mut place = open_found(rt, temporary.destination.as_path().as_str(), replaced)?;
     io::copy(&mut text, &mut place)?;
     place.sync_all()?;
-    let _ = fs::remove_file(rt, temporary.path.as_path());
+    remove(rt, temporary);
     Ok(())
+}
+
+// Renames a temporary file to its destination.
+#[inline(never)]
+fn rename(rt: &HostRuntime, temporary: &TemporaryFile) -> io::Result<()> {
+    fs::rename(
+        rt,
+        temporary.path.as_path(),
+        temporary.destination.as_path(),
+    )
 }
 
 /// Moves a temporary file to its destination. A file that the system does not let go, as one that is mounted there, is written
@@ -152,20 +207,13 @@ pub(crate) fn move_to_place(rt: &HostRuntime, temporary: &TemporaryFile) -> io::
     if let Replaced::NothingBehind(name) = &temporary.replaced {
         make_behind_links(rt, name, &temporary.destination)?;
     }
-    match (
-        fs::rename(
-            rt,
-            temporary.path.as_path(),
-            temporary.destination.as_path(),
-        ),
-        &temporary.replaced,
-    ) {
+    match (rename(rt, temporary), &temporary.replaced) {
         (Ok(()), _) => Ok(()),
         (Err(error), Replaced::File(replaced)) if is_held(&error) => write_in_place(
             rt, temporary, replaced,
         ),
         (Err(error), Replaced::NothingBehind(_)) => {
-            let _ = fs::remove_file(rt, temporary.destination.as_path());
+            remove_file(rt, &temporary.destination);
             Err(error)
         }
         (Err(error), _) => Err(error),
@@ -180,7 +228,13 @@ fn is_held(error: &io::Error) -> bool {
     )
 }
 
+// Removes a file. A fault in it changes nothing.
+#[inline(never)]
+fn remove_file(rt: &HostRuntime, path: &PathBuf) {
+    let _ = fs::remove_file(rt, path.as_path());
+}
+
 /// Removes a temporary file. A fault in it changes nothing.
 pub(crate) fn remove(rt: &HostRuntime, temporary: &TemporaryFile) {
-    let _ = fs::remove_file(rt, temporary.path.as_path());
+    remove_file(rt, &temporary.path);
 }

@@ -13,14 +13,14 @@ use std::alloc::{AllocError, Global};
 
 // The symbol whose name stands behind the prefix.
 fn symbol_behind(tree: &Tree, prefix: &Prefix, asked: &[u8]) -> Option<SymId>
-    ensures { result ≡ option_and_then (symbol_named tree.now) (without_prefix prefix.now asked.now) }
+    ensures { result ≡ option_and_then (symbol_named tree.now) (without_prefix prefix.now.prefix asked.now) }
 {
     tree.find(asked.strip_prefix(prefix.as_bytes())?)
 }
 
 /// The symbol of a name that is asked for, which may have the prefix in front (our own).
 pub fn asked_symbol(tree: &Tree, prefix: &Prefix, asked: &[u8]) -> Option<SymId>
-    ensures { result ≡ whole.asked_symbol tree.now prefix.now asked.now }
+    ensures { result ≡ whole.asked_symbol tree.now prefix.now.prefix asked.now }
 {
     match tree.find(asked) {
         Some(id) => Some(id),

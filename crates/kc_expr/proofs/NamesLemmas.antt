@@ -9,8 +9,7 @@ use Rattle.std.proofs.lemmas.Bool.{false≢true}
 use Rattle.std.proofs.lemmas.Grind.{flat_map-append}
 use Rattle.std.proofs.Math.ListN.{length-map}
 use Rattle.kc_expr.specs.declared.name.Name.{Name}
-use Rattle.std.specs.declared.hash.FoldHasher.{FoldHasher}
-use Rattle.std.specs.declared.hash.BuildHasherDefault.{BuildHasherDefault}
+use Rattle.kc_expr.specs.declared.hash_key.HashKey.{HashKey}
 use Rattle.indexmap.specs.IndexSet.{IndexSet}
 use Rattle.kc_language.specs.Expressions.{Terminal, Close, symbol, same_name, number_of, mention, all_mentioned}
 use Rattle.kc_expr.specs.PartsOfExpressions.{names_in_terminal, names_in_terminals}
@@ -64,7 +63,7 @@ position-number p xs i h = by (nat_lt (position_or_len p xs) (length xs)) (posit
     by true n j e = cc
     by false n j e = cc
 
-module _ (names : IndexSet Name (BuildHasherDefault FoldHasher)) (name : List ℕ) where
+module _ (names : IndexSet Name HashKey) (name : List ℕ) where
   abbrev seen : List (List ℕ)
   seen = map (λ v. v.bytes.items) names.keys
 

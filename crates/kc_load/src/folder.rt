@@ -4,6 +4,7 @@ ghost use Rattle.std.specs.Prelude.{◌≡◌, Option};
 ghost use Rattle.kc_load.specs.Folder.{FolderState, ReadsAt};
 ghost use Rattle.kc_load.specs.declared.folder.FolderFault.TheVariants.{Memory};
 
+use kc_expr::hash_key::HashKey;
 use std::alloc::AllocError;
 
 /// Why a file could not be read.
@@ -37,4 +38,9 @@ pub trait Folder {
     /// where a growth was refused: then nothing of what is told changes.
     fn read(&mut self, path: &str) -> Result<Option<Vec<u8>>, FolderFault>
         ensures { ReadsAt path.now (state self.old) (state self.new) result };
+
+    /// The key for the tables of names of the tree. A folder whose files come from strangers gives a secret one.
+    fn key(&self) -> HashKey {
+        HashKey::known()
+    }
 }

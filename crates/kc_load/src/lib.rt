@@ -19,6 +19,7 @@ mod rule;
 
 pub use fault::LoadFault;
 pub use folder::{Folder, FolderFault};
+pub use kc_expr::hash_key::HashKey;
 pub use loading::load;
 pub use path::begins_with_slash;
 pub use prerequisites::prerequisites_of;

@@ -4,7 +4,7 @@ use crate::arguments::{arguments_of, rerun_arguments};
 use crate::compare::is_same;
 use crate::folders::{Entry, entries_here, has_file};
 use crate::outcome::{Answer, bytes_of, is_as_written};
-use kc_disk::{Arguments, SystemDevice, SystemFolder, exit_status, kconf_over};
+use kc_disk::{Arguments, SystemDevice, SystemFolder, exit_status, kconf_over, showing_for};
 use std::{env, fs, io};
 
 // What a second run writes.
@@ -14,6 +14,7 @@ const AGAIN: &str = "again.config";
 fn run(rt: &HostRuntime, arguments: &Arguments) -> Answer {
     let mut folder = SystemFolder::new(rt);
     let mut device = SystemDevice::keeping(rt);
+    device.show(showing_for(rt.alloc(), arguments));
     let mut kept = None;
     let ended = kconf_over(rt, arguments, &mut folder, &mut device, &mut kept);
     Answer {

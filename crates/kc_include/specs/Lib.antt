@@ -1,0 +1,4 @@
+pub mod Included
+pub mod PartView
+pub mod Limits
+pub mod RestView
