@@ -9,12 +9,12 @@ use Rattle.kc_build.proofs.listing.read_listing.Goals as goal
 pub listing_of-requires : goal.listing_of-requires
 listing_of-requires c =
     let x = c.in_ok-expansion.ensures.expanded in
-    (x.0, rw c.new-names.ensures at x.2)
+    (x.0, rw c.keyed-names.ensures at x.2)
 
 pub returns-clause-listed : goal.returns-clause-listed
 returns-clause-listed c =
     let x = c.in_ok-expansion.ensures.expanded in
-    (x.0, x.1, c.listing_of.ensures.listing x.0 (rw c.new-names.ensures at x.2))
+    (x.0, x.1, c.listing_of.ensures.listing x.0 (rw c.keyed-names.ensures at x.2))
 
 pub returns-clause-opened : goal.returns-clause-opened
 returns-clause-opened c =
