@@ -15,8 +15,8 @@ use Rattle.kc_expr.proofs.NamesLemmas.{all_mentioned-append}
 use Rattle.kc_language.specs.declared.diagnostics.Cause.TheVariants as cause
 use Rattle.kc_language.specs.declared.statements.Keyword.{Keyword}
 use Rattle.kc_language.specs.declared.statements.Keyword.TheVariants as key
-use Rattle.kc_language.specs.Expansion.{definitions, defined_name, FileContext, Log, Refused, Rest, Expands, bytes_cause, context_of, limit_cause, with_file, refused, with_line, at_end, unclosed, too_long, no_tokens, blank, bad_line, over_limit, statement, bad_source, refused_inside, source, Files}
-use Rattle.kc_read.specs.PartsOfExpansion.{nothing_read, root_context}
+use Rattle.kc_language.specs.Expansion.{definitions, defined_name, FileContext, Log, Refused, Rest, Expands, bytes_cause, context_of, limit_cause, first_log, refused, with_line, at_end, unclosed, too_long, no_tokens, blank, renumbered, moved, bad_line, over_limit, statement, bad_source, refused_inside, source, Files}
+use Rattle.kc_read.specs.PartsOfExpansion.{root_context}
 use Rattle.kc_read.specs.PartsOfExpansion.{symbol_cause, defined, located_numbered}
 use Rattle.kc_language.specs.Statements.{Cause, LineContext, After, begins_with, ReadsLine, ReadsRest, ReadsWhole, ReadsCondition, ReadsValue, ReadsPrompt, finish, is_good_name, keyword_of, keyword_words, operand_of, option_line, placement_cause, plain_text, named_target, text_of, word_of, InputPrompt, Named, Located, numbered, ConfigLine, IfLine, EndIfLine, CommentLine, SourceLine, MenuLine, EndMenuLine, ChoiceLine, EndChoiceLine, MainMenuLine, TypeLine, PromptLine, DefaultLine, DefLine, DependsLine, VisibleLine, SelectLine, ImplyLine, RangeLine, HelpLine, ModulesLine, IgnoredLine, statements}
 use Rattle.kc_read.specs.PartsOfStatements.{ReadsTarget, ReadsType, choice_line, expected}
@@ -251,6 +251,8 @@ module _ (files : Files) where
   rest_known (too_long a l own log t) k = tt
   rest_known (no_tokens a l m own log ts why n) k = tt
   rest_known (blank a l m own log r n rest) k = rest_known rest k
+  rest_known (renumbered a l m own log n r marks rest) k = rest_known rest k
+  rest_known (moved a l m own log n name r marks differs rest) k = rest_known rest k
   rest_known (bad_line a l m own log c n) k = tt
   rest_known (over_limit a l m own log s c n e) k = tt
   rest_known (statement a l m own log s r n modeless effect rest) k =
@@ -260,14 +262,14 @@ module _ (files : Files) where
   rest_known (source a l m own log more name bytes r n allowed found inner rest) k = rest_known rest (rest_known inner k)
 
   by_bytes : (root : List ℕ) (log : Log) (o : Option Cause) →
-      MatchOption o ((bytes : List ℕ) × (files root ≡ Some bytes)
-      × Rest files (root_context root) (unread_lines bytes 1) [] (with_file nothing_read root bytes) (Ok log)) (λ c. Ok log ≡ Err (refused c root 0)) →
+      MatchOption o ((bytes : List ℕ) × (files.bytes root ≡ Some bytes)
+      × Rest files (root_context root) (unread_lines bytes 1) [] (first_log files root bytes) (Ok log)) (λ c. Ok log ≡ Err (refused c root 0)) →
       Known log.lines
   by_bytes root log None h = rest_known h.2 (record { good = All-nil (λ m. is_good_name m ≡ true); few = omega arith })
   by_bytes root log (Some c) h = absurd (let e : ◌≡◌ {A = Result Log Refused} (Ok log) (Err (refused c root 0)) = h in cc)
 
   pub expanded_known : (root : List ℕ) (log : Log) → Expands files root (Ok log) → AreNames (defined (statements log.lines))
-  expanded_known root log h = by_bytes root log (bytes_cause root 0 (files root)) h
+  expanded_known root log h = by_bytes root log (bytes_cause root 0 (files.bytes root)) h
 
   -- Each line is allowed.
   abbrev AreAllowed : List (Located Named) → Type 0
@@ -290,6 +292,8 @@ module _ (files : Files) where
   rest_allowed (too_long a l own log t) k = tt
   rest_allowed (no_tokens a l m own log ts why n) k = tt
   rest_allowed (blank a l m own log r n rest) k = rest_allowed rest k
+  rest_allowed (renumbered a l m own log n r marks rest) k = rest_allowed rest k
+  rest_allowed (moved a l m own log n name r marks differs rest) k = rest_allowed rest k
   rest_allowed (bad_line a l m own log c n) k = tt
   rest_allowed (over_limit a l m own log s c n e) k = tt
   rest_allowed (statement a l m own log s r n modeless effect rest) k =
@@ -299,14 +303,14 @@ module _ (files : Files) where
   rest_allowed (source a l m own log more name bytes r n allowed found inner rest) k = rest_allowed rest (rest_allowed inner k)
 
   allowed_by : (root : List ℕ) (log : Log) (o : Option Cause) →
-      MatchOption o ((bytes : List ℕ) × (files root ≡ Some bytes)
-      × Rest files (root_context root) (unread_lines bytes 1) [] (with_file nothing_read root bytes) (Ok log)) (λ c. Ok log ≡ Err (refused c root 0)) →
+      MatchOption o ((bytes : List ℕ) × (files.bytes root ≡ Some bytes)
+      × Rest files (root_context root) (unread_lines bytes 1) [] (first_log files root bytes) (Ok log)) (λ c. Ok log ≡ Err (refused c root 0)) →
       AreAllowed log.lines
   allowed_by root log None h = rest_allowed h.2 (λ i l e. absurd cc)
   allowed_by root log (Some c) h = absurd (let e : ◌≡◌ {A = Result Log Refused} (Ok log) (Err (refused c root 0)) = h in cc)
 
   pub expanded_allowed : (root : List ℕ) (log : Log) → Expands files root (Ok log) → (i : ℕ) (l : Located Named) → slice_get log.lines i ≡ Some l → IsAllowed l.statement
-  expanded_allowed root log h = allowed_by root log (bytes_cause root 0 (files root)) h
+  expanded_allowed root log h = allowed_by root log (bytes_cause root 0 (files.bytes root)) h
 
 -- The same of numbered lines.
 module _ (number : List ℕ → ℕ) where

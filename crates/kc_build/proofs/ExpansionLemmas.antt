@@ -7,11 +7,10 @@ use Rattle.std.proofs.lemmas.List.Folds.{list_any-append}
 use Rattle.kc_language.specs.Lines.{UnreadLines, unread_lines}
 use Rattle.kc_language.specs.declared.statements.Block.{Block}
 use Rattle.kc_language.specs.declared.statements.Block.TheVariants as block
-use Rattle.kc_read.specs.declared.statement.OpenBlock.{OpenBlock}
-use Rattle.kc_language.specs.Expansion.{Files, Bracket, Opens, Closes, NoBracket, bracket, last_of, open_blocks, FileContext, Log, Refused, Rest, Expands, bytes_cause, inside, with_file, refused, is_choice, context_of, with_line, at_end, unclosed, too_long, no_tokens, blank, bad_line, over_limit, statement, bad_source, refused_inside, source}
-use Rattle.kc_read.specs.PartsOfExpansion.{root_context, nothing_read, logged}
+use Rattle.kc_language.specs.Expansion.{Files, Bracket, Opens, Closes, NoBracket, bracket, last_of, open_blocks, FileContext, Log, Refused, Rest, Expands, bytes_cause, first_log, inside, with_file, refused, is_choice, context_of, with_line, at_end, unclosed, too_long, no_tokens, blank, renumbered, moved, bad_line, over_limit, statement, bad_source, refused_inside, source}
+use Rattle.kc_read.specs.PartsOfExpansion.{root_context, logged}
 use Rattle.kc_language.specs.Statements.{Statement, Named, Located, IfLine, EndIfLine, SourceLine, MenuLine, EndMenuLine, ChoiceLine, EndChoiceLine, statements, Cause, LineContext}
-use Rattle.kc_read.specs.Progress.{located_blocks, open_blocks_after}
+use Rattle.kc_read.specs.Progress.{Opener, located_blocks, open_blocks_after}
 use Rattle.kc_read.proofs.BlockLemmas.{blocks_of_located, located_blocks_push}
 use Rattle.kc_read.proofs.TurnLemmas.{Turn, Chooses, Leaves, Enables, Adds, Stays, turn, SuitsHere, read_suits}
 use Rattle.kc_read.proofs.ListLemmas.{last_of-append, but_last, but_last-take, but_last-append, map-push}
@@ -39,18 +38,18 @@ map-but_last f [] = refl
 map-but_last f (x ∷ []) = refl
 map-but_last f (x ∷ y ∷ ys) = ap (λ l. f x ∷ l) (map-but_last f (y ∷ ys))
 
-abbrev block_of : OpenBlock → Block
+abbrev block_of : Opener → Block
 block_of o = o.block
 
-blocks_after_one : (b : Bracket) (n : ℕ) (os : List OpenBlock) → map block_of (open_blocks_after b n os) ≡ blocks_after b (map block_of os)
-blocks_after_one (Opens b) n os = map-push block_of os (record { block = b; line = n })
-blocks_after_one Closes n os = ap (map block_of) (but_last-take os) ∙ map-but_last block_of os
-blocks_after_one NoBracket n os = refl
+blocks_after_one : (b : Bracket) (file : List ℕ) (n : ℕ) (os : List Opener) → map block_of (open_blocks_after b file n os) ≡ blocks_after b (map block_of os)
+blocks_after_one (Opens b) file n os = map-push block_of os (record { block = b; file = file; line = n })
+blocks_after_one Closes file n os = ap (map block_of) (but_last-take os) ∙ map-but_last block_of os
+blocks_after_one NoBracket file n os = refl
 
 blocks_push : (ls : List (Located Named)) (l : Located Named) → open_blocks (statements (ls ++ l ∷ [])) ≡ blocks_after (bracket l.statement) (open_blocks (statements ls))
 blocks_push ls l =
     sym (blocks_of_located (ls ++ l ∷ [])) ∙ ap (map block_of) (located_blocks_push ls l)
-    ∙ blocks_after_one (bracket l.statement) l.line (located_blocks ls)
+    ∙ blocks_after_one (bracket l.statement) l.file l.line (located_blocks ls)
     ∙ ap (blocks_after (bracket l.statement)) (blocks_of_located ls)
 
 last_there : (bs : List Block) (b : Block) → last_of bs ≡ Some b → (c : Block) × (cs : List Block) × (bs ≡ c ∷ cs)
@@ -151,6 +150,10 @@ rest_leaves (unclosed a l own log line e u) i = tt
 rest_leaves (too_long a l own log t) i = tt
 rest_leaves (no_tokens a l m own log ts why n) i = tt
 rest_leaves (blank a l m own log r n rest) i = rest_leaves rest i
+rest_leaves (renumbered a l m own log n r marks rest) i = rest_leaves rest i
+rest_leaves (moved a l m own log n name r marks differs rest) i =
+    let opener : Located Named = record { file = a.file; line = l.number; statement = SourceLine name } in
+    rest_leaves rest (record { nested = i.nested; blocks = i.blocks ∙ ap (λ bs. a.blocks ++ bs) (sym (blocks_push own opener)) })
 rest_leaves (bad_line a l m own log c n) i = tt
 rest_leaves (over_limit a l m own log s c n e) i = tt
 rest_leaves (statement a l m own log s r n e f rest) i = rest_leaves rest (line_stands a own log s l.number i (read_suits (context_of a own log) n.tokens s n.reads))
@@ -165,10 +168,10 @@ rest_leaves (source a l m own log more name bytes r n e f inner rest) i =
 
 -- In the expanded list each line suits its enclosing blocks, and no block is open at the end.
 pub expansion_is_nested : (files : Files) (root : List ℕ) (log : Log) → Expands files root (Ok log) → IsNested [] (statements log.lines)
-expansion_is_nested files root log x = by (bytes_cause root 0 (files root)) x
+expansion_is_nested files root log x = by (bytes_cause root 0 (files.bytes root)) x
   where
-    by : (o : Option Cause) → MatchOption o ((bytes : List ℕ) × (files root ≡ Some bytes)
-        × Rest files (root_context root) (unread_lines bytes 1) [] (with_file nothing_read root bytes) (Ok log)) (λ c. Ok log ≡ Err (refused c root 0)) →
+    by : (o : Option Cause) → MatchOption o ((bytes : List ℕ) × (files.bytes root ≡ Some bytes)
+        × Rest files (root_context root) (unread_lines bytes 1) [] (first_log files root bytes) (Ok log)) (λ c. Ok log ≡ Err (refused c root 0)) →
         IsNested [] (statements log.lines)
     by None e = rest_leaves e.2 (record { nested = λ i s f. absurd cc; blocks = refl })
     by (Some c) e = absurd cc

@@ -6,8 +6,8 @@ use Rattle.std.proofs.lemmas.List.{length-map}
 use Rattle.kc_language.specs.Expressions.{mention, same_name}
 use Rattle.kc_language.specs.Lines.{UnreadLines, unread_lines}
 use Rattle.kc_language.specs.declared.diagnostics.Cause.TheVariants as cause
-use Rattle.kc_language.specs.Expansion.{FileContext, Expands, Log, Refused, Rest, bytes_cause, with_file, refused, sourcing_cause, at_end, unclosed, too_long, no_tokens, blank, bad_line, over_limit, statement, bad_source, refused_inside, source, Files}
-use Rattle.kc_read.specs.PartsOfExpansion.{lines_of, nothing_read, root_context}
+use Rattle.kc_language.specs.Expansion.{FileContext, Expands, Log, Refused, Rest, bytes_cause, first_log, refused, sourced, sourcing_cause, at_end, unclosed, too_long, no_tokens, blank, renumbered, moved, bad_line, over_limit, statement, bad_source, refused_inside, source, Files}
+use Rattle.kc_read.specs.PartsOfExpansion.{lines_of, root_context}
 use Rattle.kc_read.specs.PartsOfExpansion.{number_line}
 use Rattle.kc_language.specs.Text.{most_lines}
 use Rattle.kc_text.specs.PartsOfText.{most_files}
@@ -25,11 +25,11 @@ few_opened name n bytes h = by (nat_lt most_lines (n + lines_of bytes)) refl h
     by true e f = absurd cc
     by false e f = grind (arith, nat_tests)
 
-few_sourced : (files : Files) (names : List (List ℕ)) (n : ℕ) (name bytes : List ℕ) → sourcing_cause files names n name ≡ None → files name ≡ Some bytes → n + lines_of bytes ≤ most_lines
+few_sourced : (files : Files) (names : List (List ℕ)) (n : ℕ) (name bytes : List ℕ) → sourcing_cause files names n name ≡ None → sourced files name ≡ Some bytes → n + lines_of bytes ≤ most_lines
 few_sourced files names n name bytes h there = by (list_any (same_name name) names) (nat_le most_files (length names)) h
   where
     by : (open_now full : Bool) →
-        cond open_now (Some (cause.InclusionLoop name)) (cond full (Some cause.TooDeep) (bytes_cause name n (files name))) ≡ None → n + lines_of bytes ≤ most_lines
+        cond open_now (Some (cause.InclusionLoop name)) (cond full (Some cause.TooDeep) (bytes_cause name n (sourced files name))) ≡ None → n + lines_of bytes ≤ most_lines
     by true full f = absurd cc
     by false true f = absurd cc
     by false false f = few_opened name n bytes (ap (bytes_cause name n) (sym there) ∙ f)
@@ -54,7 +54,11 @@ rest_adds (unclosed a l own log line e u) = tt
 rest_adds (too_long a l own log t) = tt
 rest_adds (no_tokens a l m own log ts why n) = tt
 rest_adds (blank a l m own log r n rest) =
-    later (length m.lines) (length l.lines) log log r (next_less l m [] None n) (omega arith) refl (rest_adds rest)
+    later (length m.lines) (length l.lines) log log r (next_less l m [] None n.0) (omega arith) refl (rest_adds rest)
+rest_adds (renumbered a l m own log n r marks rest) =
+    later (length m.lines) (length l.lines) log log r (next_less l m [] None marks.0) (omega arith) refl (rest_adds rest)
+rest_adds (moved a l m own log n name r marks differs rest) =
+    later (length m.lines) (length l.lines) log (record log { opened = mention log.opened name }) r (next_less l m [] None marks.0) (omega arith) refl (rest_adds rest)
 rest_adds (bad_line a l m own log c n) = tt
 rest_adds (over_limit a l m own log s c n e) = tt
 rest_adds (statement a l m own log s r n e f rest) =
@@ -68,13 +72,13 @@ rest_adds {files} (source a l m own log more name bytes r n e f inner rest) =
     (few_sourced files a.open_files log.total_lines name bytes e f) (rest_adds inner) (rest_adds rest)
 
 pub expansion_few : (files : Files) (root : List ℕ) (log : Log) → Expands files root (Ok log) → length log.lines ≤ most_lines
-expansion_few files root log x = by (bytes_cause root 0 (files root)) refl x
+expansion_few files root log x = by (bytes_cause root 0 (files.bytes root)) refl x
   where
-    by : (o : Option Cause) → bytes_cause root 0 (files root) ≡ o →
-        MatchOption o ((bytes : List ℕ) × (files root ≡ Some bytes) × Rest files (root_context root) (unread_lines bytes 1) [] (with_file nothing_read root bytes) (Ok log))
+    by : (o : Option Cause) → bytes_cause root 0 (files.bytes root) ≡ o →
+        MatchOption o ((bytes : List ℕ) × (files.bytes root ≡ Some bytes) × Rest files (root_context root) (unread_lines bytes 1) [] (first_log files root bytes) (Ok log))
         (λ c. Ok log ≡ Err (refused c root 0)) → length log.lines ≤ most_lines
     by None none e =
-        let few : 0 + lines_of e.0 ≤ most_lines = few_opened root 0 e.0 (ap (bytes_cause root 0) (sym e.1) ∙ none) in
+        let few : lines_of e.0 ≤ most_lines = omega (arith, few_opened root 0 e.0 (ap (bytes_cause root 0) (sym e.1) ∙ none)) in
         let h = rest_adds e.2 in
         omega (arith, h.0, h.1 few)
     by (Some c) none e = absurd cc

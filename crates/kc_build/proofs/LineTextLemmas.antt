@@ -154,7 +154,7 @@ unescaped_shorter (b ∷ c ∷ bs) = by (b == 92) (unescaped_shorter bs) (unesca
 
 spelled : (text : List ℕ) (x : Lexeme) → IsLineText text → Spells text x → IsLineLexeme x
 spelled text (AWord w) h (is, some, bytes) = subst IsLineText is h
-spelled text (AQuoted t) h (q, quote, inside, dollars, is) =
+spelled text (AQuoted t) h (q, quote, inside, is) =
     let whole : IsLineText (q ∷ t ++ q ∷ []) = subst IsLineText is h in
     let within = whole.within in
     let long = length-append t (q ∷ []) in

@@ -13,8 +13,8 @@ use Rattle.kc_expr.specs.PartsOfExpressions.{is_tristate_constant, terminals}
 use Rattle.kc_language.specs.declared.diagnostics.Cause.TheVariants as cause
 use Rattle.kc_language.specs.declared.statements.Keyword.{Keyword}
 use Rattle.kc_language.specs.declared.statements.Keyword.TheVariants as key
-use Rattle.kc_language.specs.Expansion.{FileContext, Log, Refused, Rest, Expands, NextLine, bytes_cause, context_of, with_file, refused, with_line, without_help, at_end, unclosed, too_long, no_tokens, blank, bad_line, over_limit, statement, bad_source, refused_inside, source, Files}
-use Rattle.kc_read.specs.PartsOfExpansion.{nothing_read, root_context, is_help}
+use Rattle.kc_language.specs.Expansion.{FileContext, Log, Refused, Rest, Expands, NextLine, bytes_cause, context_of, first_log, refused, with_line, without_help, at_end, unclosed, too_long, no_tokens, blank, renumbered, moved, bad_line, over_limit, statement, bad_source, refused_inside, source, Files}
+use Rattle.kc_read.specs.PartsOfExpansion.{root_context, is_help}
 use Rattle.kc_language.specs.Statements.{Cause, LineContext, After, Front, IsCondition, ReadsLine, ReadsRest, ReadsWhole, ReadsCondition, ReadsTextLine, ReadsValue, ReadsPrompt, StartsExpression, begins_with, finish, is_good_name, keyword_of, operand_of, option_line, placement_cause, plain_text, named_target, text_of, word_of, Statement, InputPrompt, Named, Located, ConfigLine, IfLine, EndIfLine, CommentLine, SourceLine, MenuLine, EndMenuLine, ChoiceLine, EndChoiceLine, MainMenuLine, TypeLine, PromptLine, DefaultLine, DefLine, DependsLine, VisibleLine, SelectLine, ImplyLine, RangeLine, HelpLine, ModulesLine, IgnoredLine, names_in_condition, names_in_statement, statements}
 use Rattle.kc_read.specs.PartsOfStatements.{IsWhole, ReadsTarget, ReadsType, choice_line, expected}
 use Rattle.kc_language.specs.Statements.{in_place, keyword_or_refusal}
@@ -229,10 +229,10 @@ after_help_lines : (m : UnreadLines) (b : Bool) → AreOneLine m.lines → AreOn
 after_help_lines m true h = helped m.lines h
 after_help_lines m false h = h
 
-next_line : (l m : UnreadLines) (ts : List Lexeme) (out : Option TextFault) → NextLine l m ts out → AreOneLine l.lines → AreInLine ts × AreOneLine m.lines
+next_line : {flat : Bool} (l m : UnreadLines) (ts : List Lexeme) (out : Option TextFault) → NextLine flat l m ts out → AreOneLine l.lines → AreInLine ts × AreOneLine m.lines
 next_line l m ts out n h =
     let taken = taken_line l n.middle n.text n.taken h in
-    (cut_line taken.0 n.cut, subst (λ (r : UnreadLines). AreOneLine r.lines) (sym n.left_after) (after_help_lines n.middle (is_help ts) taken.1))
+    (cut_line taken.0 n.cut.cut, subst (λ (r : UnreadLines). AreOneLine r.lines) (sym n.left_after) (after_help_lines n.middle (is_help ts) taken.1))
 
 abbrev AreInLines : List (Located Named) → Type 0
 AreInLines ls = All IsInLines (statements ls)
@@ -251,7 +251,9 @@ module _ (files : Files) where
   rest_lines (unclosed a l own log line e u) h k = tt
   rest_lines (too_long a l own log t) h k = tt
   rest_lines (no_tokens a l m own log ts why n) h k = tt
-  rest_lines (blank a l m own log r n rest) h k = rest_lines rest (next_line l m [] None n h).1 k
+  rest_lines (blank a l m own log r n rest) h k = rest_lines rest (next_line l m [] None n.0 h).1 k
+  rest_lines (renumbered a l m own log n r marks rest) h k = rest_lines rest (next_line l m [] None marks.0 h).1 k
+  rest_lines (moved a l m own log n name r marks differs rest) h k = rest_lines rest (next_line l m [] None marks.0 h).1 k
   rest_lines (bad_line a l m own log c n) h k = tt
   rest_lines (over_limit a l m own log s c n e) h k = tt
   rest_lines (statement a l m own log s r n modeless effect rest) h k =
@@ -263,12 +265,12 @@ module _ (files : Files) where
       rest_lines rest (next_line l m n.tokens None n.next h).1 (rest_lines inner (file_lines bytes) k)
 
   by_bytes : (root : List ℕ) (log : Log) (o : Option Cause) →
-      MatchOption o ((bytes : List ℕ) × (files root ≡ Some bytes)
-      × Rest files (root_context root) (unread_lines bytes 1) [] (with_file nothing_read root bytes) (Ok log)) (λ c. Ok log ≡ Err (refused c root 0)) →
+      MatchOption o ((bytes : List ℕ) × (files.bytes root ≡ Some bytes)
+      × Rest files (root_context root) (unread_lines bytes 1) [] (first_log files root bytes) (Ok log)) (λ c. Ok log ≡ Err (refused c root 0)) →
       AreInLines log.lines
   by_bytes root log None h = rest_lines h.2 (file_lines h.0) (All-nil IsInLines)
   by_bytes root log (Some c) h = absurd (let e : ◌≡◌ {A = Result Log Refused} (Ok log) (Err (refused c root 0)) = h in cc)
 
   -- each statement of an expanded list is what a line says
   pub expanded_lines : (root : List ℕ) (log : Log) → Expands files root (Ok log) → All IsInLines (statements log.lines)
-  expanded_lines root log h = by_bytes root log (bytes_cause root 0 (files root)) h
+  expanded_lines root log h = by_bytes root log (bytes_cause root 0 (files.bytes root)) h

@@ -1,10 +1,11 @@
 //! The tree of a root file.
 
+ghost use Rattle.kc_read.specs.Files.{files_in};
 ghost use Rattle.std.specs.Prelude.{◌≡◌, ◌≢◌, ◌<◌, ◌≤◌, ◌+◌, ◌*◌, ◌^◌, ℕ, List, length, map, IfOk, IfErr, OnOk, Ok, Err};
 ghost use Rattle.kc_expr.specs.PartsOfSymbols.{stands_in};
 ghost use Rattle.kc_language.specs.Symbols.{defined_symbols, IsTreeOf, modules_symbol, tree_with};
 ghost use Rattle.kc_build.specs.PartsOfSymbols.{symbol_if};
-ghost use Rattle.kc_language.specs.Expansion.{Files, bytes_in};
+ghost use Rattle.kc_language.specs.Expansion.{Files};
 ghost use Rattle.kc_read.specs.RefusalView.{IsMemory, refusal_view};
 ghost use Rattle.kc_read.specs.Entries.{lines_in};
 ghost use Rattle.kc_language.specs.declared.diagnostics.Cause.TheVariants.{Memory};
@@ -167,8 +168,8 @@ pub fn tree_of(alloc: Global, listing: Listing) -> Result<Tree, Refusal>
 /// The meaning of the statements is that of the kernel's kconfig-language document and of kconfiglib's
 /// documentation; the limits, the order of checks and the warnings are our own.
 pub fn build_tree(alloc: Global, map: &FileMap, root: &[u8]) -> Result<Tree, Refusal>
-    ensures built { IfOk result (λ t. IsTreeOf (bytes_in map.now) root.now (Ok t)) }
-    ensures refused { IfErr result (λ r. r.cause ≢ Memory → IsTreeOf (bytes_in map.now) root.now (Err (refusal_view r))) }
+    ensures built { IfOk result (λ t. IsTreeOf (files_in map.now) root.now (Ok t)) }
+    ensures refused { IfErr result (λ r. r.cause ≢ Memory → IsTreeOf (files_in map.now) root.now (Err (refusal_view r))) }
     ensures memory { IfErr result IsMemory }
 {
     let reading = read_listing(alloc, map, root)?;

@@ -1,10 +1,11 @@
 //! The lines of a root file, and the symbols that they define.
 
+ghost use Rattle.kc_read.specs.Files.{files_in};
 ghost use Rattle.std.specs.Prelude.{◌≡◌, ◌≢◌, IfOk, IfErr, Err, [], Some, codes, position, option_map};
 ghost use Rattle.std.specs.Option.{option_or};
 ghost use Rattle.kc_language.specs.Expressions.{same_name, symbol};
 ghost use Rattle.kc_read.specs.Expanded.{IsExpansion};
-ghost use Rattle.kc_language.specs.Expansion.{Log, Expands, bytes_in, AreOpened};
+ghost use Rattle.kc_language.specs.Expansion.{Log, Expands, AreOpened};
 ghost use Rattle.kc_read.specs.RefusalView.{IsMemory, refusal_view};
 ghost use Rattle.kc_language.specs.declared.diagnostics.Cause.TheVariants.{Memory};
 ghost use Rattle.kc_build.specs.Listings.{IsListing, IsListingOf};
@@ -75,9 +76,9 @@ fn listing_of(names: Names, expansion: Expansion) -> RootReading
 /// first line with a fault, as `expand` of kc_read answers them. The files are not looked at again afterwards. E20, which has
 /// no location, is being out of memory.
 pub fn read_listing(alloc: Global, map: &FileMap, root: &[u8]) -> Result<RootReading, Refusal>
-    ensures listed { IfOk result (λ r. IsListingOf (bytes_in map.now) root.now r.listing) }
-    ensures opened { IfOk result (λ r. AreOpened (bytes_in map.now) root.now r.opened) }
-    ensures refused { IfErr result (λ r. r.cause ≢ Memory → Expands (bytes_in map.now) root.now (Err (refusal_view r))) }
+    ensures listed { IfOk result (λ r. IsListingOf (files_in map.now) root.now r.listing) }
+    ensures opened { IfOk result (λ r. AreOpened (files_in map.now) root.now r.opened) }
+    ensures refused { IfErr result (λ r. r.cause ≢ Memory → Expands (files_in map.now) root.now (Err (refusal_view r))) }
     ensures memory { IfErr result IsMemory }
 {
     let mut names = Names::keyed(alloc, map.key());

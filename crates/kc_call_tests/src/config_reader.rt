@@ -188,7 +188,7 @@ fn leaves(alloc: Global, tree: &Tree, prefix: &Prefix, case: &Case) -> bool {
 
 impl Claim for Case {
     fn holds_of(&self, alloc: Global, tree: &Tree) -> bool {
-        match Prefix::new(alloc, b"CONFIG_") {
+        match Prefix::new(alloc, b"CONFIG_", false) {
             Ok(Some(prefix)) => leaves(alloc, tree, &prefix, self),
             _ => false,
         }
@@ -216,7 +216,7 @@ impl Cut {
 
 impl Claim for Cut {
     fn holds_of(&self, alloc: Global, tree: &Tree) -> bool {
-        match Prefix::new(alloc, b"CONFIG_") {
+        match Prefix::new(alloc, b"CONFIG_", false) {
             Ok(Some(prefix)) => self.leaves_all(alloc, tree, &prefix),
             _ => false,
         }

@@ -72,7 +72,7 @@ fn is_numbered(names: &mut Names, name: &[u8], number: usize) -> bool {
 
 fn read_mentions(alloc: Global, names: &mut Names) -> bool {
     let mut tokens = Vec::new(alloc);
-    lex(b"B && A = B || n || \"Q\" || X || C D", &mut tokens).is_ok()
+    lex(b"B && A = B || n || \"Q\" || X || C D", false, &mut tokens).is_ok()
         && parse(alloc, &tokens, 0, false, names).is_ok()
 }
 
@@ -126,7 +126,7 @@ fn is_worth(alloc: Global, line: &[u8], want: Tri) -> bool {
     let mut tokens = Vec::new(alloc);
     let mut names = Names::new(alloc);
     line.len() <= 8191
-        && lex(line, &mut tokens).is_ok()
+        && lex(line, false, &mut tokens).is_ok()
         && tokens_are_worth(alloc, &tokens, &mut names, want)
 }
 
@@ -166,7 +166,7 @@ fn are_named(alloc: Global) -> bool {
     let mut names = Names::new(alloc);
     let mut ids = Vec::new(alloc);
     ids.push(SymId(9)).is_ok()
-        && lex(b"C && !(A = C) || B <= \"B\" || m", &mut tokens).is_ok()
+        && lex(b"C && !(A = C) || B <= \"B\" || m", false, &mut tokens).is_ok()
         && named_into(alloc, &tokens, &mut names, &mut ids)
         && ids.as_slice() == NAMED
 }

@@ -18,7 +18,7 @@ struct MemoryFolder<'a> {
 }
 
 impl<'a> Folder for MemoryFolder<'a> {
-    ghost state = { λ s. Some (record { files = bytes_in s.files; failed = map (λ p. p.items) s.failed.items }) };
+    ghost state = { λ s. Some (record { files = bytes_in s.files.entries; failed = map (λ p. p.items) s.failed.items }) };
 
     fn read(&mut self, path: &str) -> Result<Option<Vec<u8>>, FolderFault> {
         note(&mut self.asked, path)?;
@@ -96,14 +96,14 @@ fn is_loaded(outcome: &Result<FileMap, LoadFault>, loaded: Loaded) -> bool {
 // Whether the case's files are loaded as it says.
 fn holds(alloc: Global, case: &Case) -> bool {
     let mut folder = MemoryFolder {
-        files: FileMap::new(alloc),
+        files: FileMap::new(alloc, false),
         failing: case.failing,
         failed: Vec::new(alloc),
         asked: String::new(alloc),
         alloc,
     };
     let filled = fill(alloc, &mut folder.files, case).is_ok();
-    let outcome = load(alloc, &mut folder, case.dir, case.root);
+    let outcome = load(alloc, &mut folder, case.dir, case.root, false);
     filled
         && is_loaded(&outcome, case.loaded)
         && folder.asked.as_str() == case.asked

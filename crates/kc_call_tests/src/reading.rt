@@ -119,7 +119,7 @@ fn gives_outcome(alloc: Global, map: &FileMap, want: &str) -> bool {
 
 // Whether this comes of a root file beside the file `a`.
 fn gives(alloc: Global, root: &[Piece], other: &[Piece], want: &str) -> bool {
-    let mut map = FileMap::new(alloc);
+    let mut map = FileMap::new(alloc, false);
     put_pieces(alloc, &mut map, b"Kconfig", root).is_ok()
         && put_pieces(alloc, &mut map, b"a", other).is_ok()
         && gives_outcome(alloc, &map, want)
@@ -323,7 +323,7 @@ fn put_chain(alloc: Global, map: &mut FileMap, chain: &Chain) -> Result<(), Allo
 }
 
 fn is_chain(alloc: Global, chain: &Chain) -> bool {
-    let mut map = FileMap::new(alloc);
+    let mut map = FileMap::new(alloc, false);
     put_chain(alloc, &mut map, chain).is_ok()
         && put(
             alloc,
@@ -461,7 +461,7 @@ const PUT: &[(&str, &[u8])] = &[("a", b"old"), ("b", b""), ("a", b"new")];
 const KEPT: &[(&str, &[u8])] = &[("a", b"new"), ("b", b"")];
 
 fn are_kept(alloc: Global) -> bool {
-    let mut map = FileMap::new(alloc);
+    let mut map = FileMap::new(alloc, false);
     put_all(alloc, &mut map, PUT).is_ok()
         && has_files(&map, KEPT)
         && has_names(&map, &[("c", false)])

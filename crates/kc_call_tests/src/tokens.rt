@@ -50,7 +50,7 @@ fn tokens_into(tokens: &[Token], text: &mut Vec<u8>) -> Result<(), AllocError> {
 fn is_cut(alloc: Global, line: &[u8], want: &[u8]) -> bool {
     let mut tokens = Vec::new(alloc);
     let mut text = Vec::new(alloc);
-    lex(line, &mut tokens).is_ok()
+    lex(line, false, &mut tokens).is_ok()
         && tokens_into(&tokens, &mut text).is_ok()
         && text.as_slice() == want
 }
@@ -83,7 +83,7 @@ fn each_kind_of_token_is_cut(rt: HostRuntime) {
 // Whether the line cannot be cut, for this reason.
 fn is_not_cut(alloc: Global, line: &[u8], want: &str) -> bool {
     let mut tokens = Vec::new(alloc);
-    match lex(line, &mut tokens) {
+    match lex(line, false, &mut tokens) {
         Ok(()) => false,
         Err(fault) => name_of_fault(fault) == want,
     }

@@ -39,7 +39,7 @@ fn put_file(alloc: Global, kconfig: &[u8], files: &mut FileMap) -> Result<(), Al
 
 // The tree of this file; none where it is refused.
 fn tree_of(alloc: Global, kconfig: &[u8]) -> Option<Tree> {
-    let mut files = FileMap::new(alloc);
+    let mut files = FileMap::new(alloc, false);
     match put_file(alloc, kconfig, &mut files) {
         Ok(()) => build_tree(alloc, &files, b"Kconfig").ok(),
         Err(_) => None,

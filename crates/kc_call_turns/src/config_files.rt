@@ -42,7 +42,7 @@ const UNKNOWN: &[u8] = b".config:1: warning K7: unknown symbol Q\n";
 
 // The prefix `CONFIG_`.
 fn prefix_of(alloc: Global) -> Result<Prefix, AllocError> {
-    match Prefix::new(alloc, b"CONFIG_")? {
+    match Prefix::new(alloc, b"CONFIG_", false)? {
         Some(prefix) => Ok(prefix),
         None => Err(AllocError),
     }

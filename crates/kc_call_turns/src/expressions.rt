@@ -69,7 +69,7 @@ const EXPRESSION: &[u8] =
 
 // Adds the tokens of `EXPRESSION`. The answer is whether there was memory for them.
 fn cut_into(tokens: &mut Vec<Token<'static>>) -> bool {
-    EXPRESSION.len() <= 8191 && lex(EXPRESSION, tokens).is_ok()
+    EXPRESSION.len() <= 8191 && lex(EXPRESSION, false, tokens).is_ok()
 }
 
 // Numbers the first two of `NAMES`. The answer is whether there was memory for them.

@@ -30,7 +30,7 @@ pub(crate) fn call_next_into(alloc: Global) -> CallEnd {
 /// `lex`, at a line of eleven tokens and a comment.
 pub(crate) fn call_lex(alloc: Global) -> CallEnd {
     let mut tokens = Vec::new(alloc);
-    match lex(b"default \"x\" if A && !(B || C) # why", &mut tokens) {
+    match lex(b"default \"x\" if A && !(B || C) # why", false, &mut tokens) {
         Ok(()) => {
             let is_last = matches!(tokens.last(), Some(Token::Op(Op::RParen)));
             done(tokens.len() == 11 && is_last)

@@ -59,7 +59,7 @@ fn insert_all(alloc: Global, files: &mut FileMap) -> Result<usize, AllocError> {
 
 /// `insert`, of each of `FILES`.
 pub(crate) fn call_insert(alloc: Global) -> Result<CallEnd, AllocError> {
-    let mut files = FileMap::new(alloc);
+    let mut files = FileMap::new(alloc, false);
     let count = insert_all(alloc, &mut files)?;
     let is_right = are_filled(&files, count);
     if count < FILES.len() {
@@ -114,7 +114,7 @@ pub(crate) const LOOP: &[u8] =
 
 // A map of this one file.
 fn files_of(alloc: Global, kconfig: &[u8]) -> Result<FileMap, AllocError> {
-    let mut files = FileMap::new(alloc);
+    let mut files = FileMap::new(alloc, false);
     if insert_one(alloc, &mut files, b"Kconfig", kconfig)? {
         Ok(files)
     } else {

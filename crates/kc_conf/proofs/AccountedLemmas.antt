@@ -1,5 +1,5 @@
 -- That no line of the streams goes unaccounted for where lost values are warned of.
-use Rattle.std.proofs.Common.{◌≡◌, ◌⊎◌, inl, inr, ℕ, ◌<◌, zero, suc, Bool, true, false, List, [], ◌∷◌, ◌++◌, length, Some, None, refl, sym, ap, subst, ◌∙◌, append_assoc, append-nil, arith, codes, eqb, map, Option}
+use Rattle.std.proofs.Common.{◌≡◌, ◌≢◌, ◌⊎◌, inl, inr, ℕ, ◌<◌, zero, suc, Bool, true, false, List, [], ◌∷◌, ◌++◌, length, Some, None, refl, sym, ap, subst, ◌∙◌, append_assoc, append-nil, codes, eqb, map, Option}
 use Rattle.std.specs.Prelude.{◌&&◌, ◌||◌, not, find, is_some, replicate, slice_index_or, if◌then◌else◌, option_map}
 use Rattle.std.specs.List.{All, Contains, flat_map, slice_get}
 use Rattle.std.proofs.lemmas.Grind.{flat_map-append}
@@ -10,28 +10,30 @@ use Rattle.std.proofs.lemmas.Bool.{eqb-false, eqb-true}
 use Rattle.std.proofs.lemmas.Option.{slice_get-get_or, slice_get_within}
 use Rattle.std.proofs.lemmas.Slice.Eq.{bytes_eq-Decides}
 use Rattle.kc_language.specs.declared.expressions.SymId.{SymId}
+use Rattle.kc_language.specs.declared.expressions.SymbolType.TheVariants.{Undefined}
 use Rattle.kc_language.specs.declared.expressions.Tri.{Tri}
 use Rattle.kc_language.specs.declared.expressions.Tri.TheVariants.{N, M, Y}
 use Rattle.kc_language.specs.Expansion.{Files, numbered_lines}
 use Rattle.kc_language.specs.Explanations.{explanation_text}
 use Rattle.kc_language.specs.Statements.{Located, Numbered}
-use Rattle.kc_language.specs.Symbols.{Condition, SymbolFacts, TreeFacts, Warning}
+use Rattle.kc_language.specs.Symbols.{SymbolFacts, TreeFacts, Warning}
 use Rattle.kc_tree.specs.TreeFacts.{IsWellFormed}
 use Rattle.kc_build.specs.Trees.{TreesAreWellFormed}
 use Rattle.kc_language.specs.Values.{GivenValue, GivenTruth, GivenText, Member, SymbolPlace, same_given, same_tri, given_of, facts, name, type_in}
-use Rattle.kc_language.specs.ConfigFile.{ArePlacesOf, Places, place_at, StreamLocation, change_text, Effect, Silent, Warns, Assigns, warning_line, Line, UserInput, effect, input_after, is_within, lines_of, reading, stream_location, warning, warnings}
+use Rattle.kc_language.specs.{ConfigFile.{ArePlacesOf, Assigns, Effect, Line, Notation, Places, Silent, StreamLocation, UserInput, Warns, change_text, effect, input_after, is_reported, is_within, lines_of, meaning, place_at, plain_line, plain_location, reading, stream_location, warning, warning_line, warnings}}
 use Rattle.kc_config_file.specs.PartsOfConfigFile.{change_line}
 use Rattle.kc_config_file.specs.PartsOfConfigFile.{type_of, before_too_long, effect_text, warning_line_if}
-use Rattle.kc_language.specs.Texts.{Solution, known, warnings as value_warnings, solution_view, config_text, has_prompt, lost_at, lost_by, lost_lines, lost_of}
+use Rattle.kc_language.specs.Texts.{Solution, known, warnings as value_warnings, has_prompt, lost_at, lost_by, lost_lines, lost_of}
 use Rattle.kc_conf.specs.PartsOfTexts.{lost_line}
 use Rattle.kc_language.specs.declared.diagnostics.Warning.TheVariants.{SetAgain}
 use Rattle.kc_config_file.specs.ReadingLaws.{LinesGiveInTurn, LinesInTurn}
-use Rattle.kc_conf.specs.Laws.{HoldsLine, IsAccountedFor, IsSetAgain, NothingIsLost, RefusesNothing, WrittenAreWhole}
+use Rattle.kc_conf.specs.Laws.{DoneAreWhole, HoldsLine, IsAccountedFor, IsSetAgain, NothingIsLost, RefusesNothing}
 use Rattle.kc_conf.specs.PartsOfLaws.{IsKeptOrWarned, LeavesAlone}
 use Rattle.kc_language.specs.Outcome.{Options, lead, Outcome, lines_text, lost_text, lost_warnings, names_of, reported, read_of, root_file, streams, warned_files, with_rule}
 use Rattle.kc_language.specs.Outcome.{fresh_input}
+use Rattle.kc_conf.specs.Computed.{explanation_lead}
 use Rattle.kc_conf.specs.Faults.{AreLines}
-use Rattle.kc_conf.proofs.OutcomeLemmas.{text_if_is}
+use Rattle.kc_conf.proofs.{EffectLemmas.{all_reported, assigned_typed, effect_is, silent_says}, RerunLemmas.{has_its_texts}}
 use Rattle.kc_conf.proofs.ExplainedLemmas.{AreLines-explanation, one_line}
 use Rattle.kc_conf.proofs.PartLemmas.{AreLines-append, AreLines-each, AreLines-nothing, AreLines-reading, AreLines-warning_if, AreLines-warnings}
 
@@ -95,11 +97,6 @@ one_of_all f (x ∷ ids) (suc i) id at =
     let (before, after, is) = one_of_all f ids i id at in
     (f x ++ before, after, ap (λ t. f x ++ t) is ∙ sym (append_assoc (f x) before (f id ++ after)))
 
--- a symbol with a prompt has one prompt at least
-pub some_prompts : (prompts : List Condition) → has_prompt prompts ≡ true → 0 < length prompts
-some_prompts [] e = absurd cc
-some_prompts (p ∷ prompts) e = omega arith
-
 line_stands : (line : List ℕ) (lines before after : List (List ℕ)) → lines ≡ before ++ ((line ∷ []) ++ after) → StandsIn (line ++ codes "\n") (lines_text lines)
 line_stands line lines before after is = (
   lines_text before,
@@ -108,39 +105,38 @@ line_stands line lines before after is = (
   (before, refl),
 )
 
-module _ (lines : List (Option StreamLocation)) (s : Solution) (id : SymId) (f : SymbolFacts) (given : GivenValue) (at : StreamLocation) (defined : facts s.tree id ≡ Some f)
-    (one : Contains s.tree.defined id) (prompted : has_prompt f.prompts ≡ true) (there : place_at s.places (SymbolPlace id.0) ≡ Some given) (by_line : slice_index_or lines id.0 None ≡ Some at) where
+module _ (is_raw : Bool) (lines : List (Option StreamLocation)) (s : Solution) (id : SymId) (f : SymbolFacts) (given : GivenValue) (at : StreamLocation) (defined : facts s.tree id ≡ Some f)
+    (one : Contains s.tree.defined id) (there : place_at s.places (SymbolPlace id.0) ≡ Some given) (by_line : slice_index_or lines id.0 None ≡ Some at) where
   abbrev value : GivenValue
   value = given_of (known s id)
 
   abbrev line_of : List ℕ
-  line_of = lost_line at (name s.tree id) f.symbol_type given value
+  line_of = lost_line is_raw (has_prompt f.prompts) at (name s.tree id) f.symbol_type given value
 
-  lost_here : lost_at lines s id ≡ (if same_given given value then [] else line_of ∷ [])
+  lost_here : lost_at is_raw lines s id ≡ (if same_given given value then [] else line_of ∷ [])
   lost_here =
-      ap (λ o. lost_of (name s.tree id) o (slice_index_or lines id.0 None) (place_at s.places (SymbolPlace id.0)) value) defined
-      ∙ ap (λ b. if b then lost_by (name s.tree id) f.symbol_type (slice_index_or lines id.0 None) (place_at s.places (SymbolPlace id.0)) value else []) prompted
-      ∙ ap (λ o. lost_by (name s.tree id) f.symbol_type (slice_index_or lines id.0 None) o value) there
-      ∙ ap (λ l. lost_by (name s.tree id) f.symbol_type l (Some given) value) by_line
+      ap (λ o. lost_of is_raw (name s.tree id) o (slice_index_or lines id.0 None) (place_at s.places (SymbolPlace id.0)) value) defined
+      ∙ ap (λ o. lost_by is_raw (has_prompt f.prompts) (name s.tree id) f.symbol_type (slice_index_or lines id.0 None) o value) there
+      ∙ ap (λ l. lost_by is_raw (has_prompt f.prompts) (name s.tree id) f.symbol_type l (Some given) value) by_line
 
-  kept_or_told : (given ≡ value) ⊎ StandsIn (line_of ++ codes "\n") (lines_text (lost_lines lines s))
+  kept_or_told : (given ≡ value) ⊎ StandsIn (line_of ++ codes "\n") (lines_text (lost_lines is_raw lines s))
   kept_or_told = by (same_given given value) refl where
-    by : (b : Bool) → same_given given value ≡ b → (given ≡ value) ⊎ StandsIn (line_of ++ codes "\n") (lines_text (lost_lines lines s))
+    by : (b : Bool) → same_given given value ≡ b → (given ≡ value) ⊎ StandsIn (line_of ++ codes "\n") (lines_text (lost_lines is_raw lines s))
     by true e = inl (given_is given value e)
     by false e =
-        let (before, after, is) = one_of_all (lost_at lines s) s.tree.defined one.0 id (slice_get-get_or s.tree.defined one.0 id one.1 ∙ ap Some one.2) in
-        let here : lost_at lines s id ≡ line_of ∷ [] = lost_here ∙ ap (λ b. if b then [] else line_of ∷ []) e in
-        inr (line_stands line_of (lost_lines lines s) before after (is ∙ ap (λ l. before ++ (l ++ after)) here))
+        let (before, after, is) = one_of_all (lost_at is_raw lines s) s.tree.defined one.0 id (slice_get-get_or s.tree.defined one.0 id one.1 ∙ ap Some one.2) in
+        let here : lost_at is_raw lines s id ≡ line_of ∷ [] = lost_here ∙ ap (λ b. if b then [] else line_of ∷ []) e in
+        inr (line_stands line_of (lost_lines is_raw lines s) before after (is ∙ ap (λ l. before ++ (l ++ after)) here))
 
   -- the same where whole lines follow each of them
   module _ (behind : SymId → List ℕ) (whole : (x : SymId) → AreLines (behind x)) where
     abbrev told_all : SymId → List ℕ
-    told_all x = flat_map (λ line. line ++ codes "\n" ++ behind x) (lost_at lines s x)
+    told_all x = flat_map (λ line. line ++ codes "\n" ++ behind x) (lost_at is_raw lines s x)
 
     all_whole : (x : SymId) → AreLines (told_all x)
-    all_whole x = AreLines-each (λ line. line ++ codes "\n" ++ behind x) (lost_at lines s x) (λ line. AreLines-append (line ++ codes "\n") (behind x) (one_line line) (whole x))
+    all_whole x = AreLines-each (λ line. line ++ codes "\n" ++ behind x) (lost_at is_raw lines s x) (λ line. AreLines-append (line ++ codes "\n") (behind x) (one_line line) (whole x))
 
-    told_here : lost_at lines s id ≡ line_of ∷ [] → StandsIn (line_of ++ codes "\n") (told_all id)
+    told_here : lost_at is_raw lines s id ≡ line_of ∷ [] → StandsIn (line_of ++ codes "\n") (told_all id)
     told_here is =
         subst (λ ls. StandsIn (line_of ++ codes "\n") (flat_map (λ line. line ++ codes "\n" ++ behind id) ls)) (sym is)
         (stands_before [] (line_of ++ codes "\n") (line_of ++ codes "\n" ++ behind id) (stands_first (line_of ++ codes "\n") (behind id)))
@@ -154,7 +150,7 @@ module _ (lines : List (Option StreamLocation)) (s : Solution) (id : SymId) (f :
           (told_here (lost_here ∙ ap (λ b. if b then [] else line_of ∷ []) e)))
 
   -- where no line is lost, what was given is the value
-  pub lost_if : lost_lines lines s ≡ [] → given ≡ value
+  pub lost_if : lost_lines is_raw lines s ≡ [] → given ≡ value
   lost_if none = by (same_given given value) refl where
     never : (before : List (List ℕ)) (x : List ℕ) (after : List (List ℕ)) → before ++ ((x ∷ []) ++ after) ≡ [] → ⊥
     never [] x after e = let clash : x ∷ after ≡ [] = e in cc
@@ -163,8 +159,8 @@ module _ (lines : List (Option StreamLocation)) (s : Solution) (id : SymId) (f :
     by : (b : Bool) → same_given given value ≡ b → given ≡ value
     by true e = given_is given value e
     by false e =
-        let (before, after, is) = one_of_all (lost_at lines s) s.tree.defined one.0 id (slice_get-get_or s.tree.defined one.0 id one.1 ∙ ap Some one.2) in
-        let here : lost_at lines s id ≡ line_of ∷ [] = lost_here ∙ ap (λ b. if b then [] else line_of ∷ []) e in
+        let (before, after, is) = one_of_all (lost_at is_raw lines s) s.tree.defined one.0 id (slice_get-get_or s.tree.defined one.0 id one.1 ∙ ap Some one.2) in
+        let here : lost_at is_raw lines s id ≡ line_of ∷ [] = lost_here ∙ ap (λ b. if b then [] else line_of ∷ []) e in
         absurd (never before line_of after (sym (ap (λ l. before ++ (l ++ after)) here) ∙ sym is ∙ none))
 
 -- ---- the lines of the streams
@@ -192,7 +188,7 @@ value_in i places = slice_index_or places i None
 abbrev pub line_in : ℕ → List (Option StreamLocation) → Option StreamLocation
 line_in i lines = slice_index_or lines i None
 
-module _ (tree : TreeFacts) (prefix : List ℕ) where
+module _ (tree : TreeFacts) (prefix : Notation) where
   -- no line is too long: all count
   all_count : (lines : List Line) → option_map stream_location (find (λ l. not (is_within l)) lines) ≡ None → before_too_long lines ≡ lines
   all_count [] e = refl
@@ -214,7 +210,7 @@ module _ (tree : TreeFacts) (prefix : List ℕ) where
   abbrev Next : UserInput → Line → List Line → SymId → GivenValue → StreamLocation → Type 0
   Next p l later s given at = Has (input_after tree prefix p (l ∷ [])) s.0 given at → StaysOrSet (input_after tree prefix p (l ∷ [])) later s given at
 
-module _ (tree : TreeFacts) (prefix : List ℕ) (turn : LinesInTurn tree prefix) where
+module _ (tree : TreeFacts) (prefix : Notation) (turn : LinesInTurn tree prefix) where
   -- a line's warning, and then those of the others from the input after it
   warnings-cons : (p : UserInput) (l : Line) (lines : List Line) → warnings tree prefix p (l ∷ lines) ≡ warning tree prefix p l ++ warnings tree prefix (input_after tree prefix p (l ∷ [])) lines
   warnings-cons p l lines =
@@ -307,7 +303,7 @@ module _ (files : Files) (options : Options) (all : List (List ℕ)) (tree : Tre
   abbrev lines : List Line
   lines = lines_of (streams (names_of options) all)
 
-  abbrev prefix : List ℕ
+  abbrev prefix : Notation
   prefix = options.prefix
 
   abbrev empty : UserInput
@@ -357,18 +353,21 @@ module _ (files : Files) (options : Options) (all : List (List ℕ)) (tree : Tre
 
     -- the warning of a line stands in the notes
     line_told : (before later : List Line) (l : Line) (e : Effect) → lines ≡ before ++ l ∷ later → effect tree prefix l ≡ e →
-        StandsIn (effect_text tree (input_after tree prefix empty before) (stream_location l) e) outcome.warned
+        StandsIn (effect_text prefix.is_raw tree (input_after tree prefix empty before) (stream_location l) e) outcome.warned
     unfolding warning
     line_told before later l e split is_effect =
-        of_streams (effect_text tree (input_after tree prefix empty before) (stream_location l) e)
-        (subst (λ ls. StandsIn (effect_text tree (input_after tree prefix empty before) (stream_location l) e) (warnings tree prefix empty ls)) (sym split)
-        (subst (λ x. StandsIn (effect_text tree (input_after tree prefix empty before) (stream_location l) x) (warnings tree prefix empty (before ++ l ∷ later))) is_effect
+        of_streams (effect_text prefix.is_raw tree (input_after tree prefix empty before) (stream_location l) e)
+        (subst (λ ls. StandsIn (effect_text prefix.is_raw tree (input_after tree prefix empty before) (stream_location l) e) (warnings tree prefix empty ls)) (sym split)
+        (subst (λ x. StandsIn (effect_text prefix.is_raw tree (input_after tree prefix empty before) (stream_location l) x) (warnings tree prefix empty (before ++ l ∷ later))) is_effect
         (warned_at tree prefix turn empty before later l)))
 
     module _ (before later : List Line) (l : Line) (split : lines ≡ before ++ l ∷ later) (s : SymId) (given : GivenValue) (assigns : effect tree prefix l ≡ Assigns s given)
-        (f : SymbolFacts) (defined : facts tree s ≡ Some f) (prompted : has_prompt f.prompts ≡ true) where
+        (f : SymbolFacts) (defined : facts tree s ≡ Some f) (typed : f.symbol_type ≢ Undefined) where
       abbrev here : UserInput
       here = input_after tree prefix empty (before ++ l ∷ [])
+
+      abbrev from : StreamLocation
+      from = plain_location (lead options) (stream_location l)
 
       counts : ArePlacesOf tree (input_after tree prefix empty before).places
       counts = turn.counts.places empty before (record { symbols = length-replicate (length tree.symbols) None; choices = length-replicate (length tree.choices) None })
@@ -395,22 +394,22 @@ module _ (files : Files) (options : Options) (all : List (List ℕ)) (tree : Tre
 
       -- what is told of lost values, with explanations or without
       abbrev line_told_of : TreeFacts → List ℕ
-      line_told_of t = lost_line (stream_location l) (name t s) f.symbol_type given (given_of (known solution s)) ++ codes "\n"
+      line_told_of t = lost_line prefix.is_raw (has_prompt f.prompts) (stream_location l) (name t s) f.symbol_type given (given_of (known solution s)) ++ codes "\n"
 
       abbrev explained : SymId → List ℕ
-      explained x = explanation_text tree_lines solution last (codes "  ") 1 x
+      explained x = explanation_text tree_lines solution last prefix.is_raw (explanation_lead options) 1 x
 
       abbrev text_by : Bool → List ℕ
-      text_by b = if b then flat_map (λ x. flat_map (λ line. line ++ codes "\n" ++ explained x) (lost_at last_lines solution x)) solution.tree.defined
+      text_by b = if b then flat_map (λ x. flat_map (λ line. line ++ codes "\n" ++ explained x) (lost_at prefix.is_raw last_lines solution x)) solution.tree.defined
           else lines_text (lost_warnings options last solution)
 
-      heard_in : (b : Bool) → (options.explain_lost && options.warn_lost) ≡ b → StandsIn (line_told_of solution.tree) (text_by b) → IsKeptOrWarned tree solution outcome.warned l s f given
+      heard_in : (b : Bool) → (options.explain_lost && options.warn_lost) ≡ b → StandsIn (line_told_of solution.tree) (text_by b) → IsKeptOrWarned prefix.is_raw tree solution outcome.warned l s f given
       heard_in b e told =
           inr (of_lost (line_told_of tree)
           (subst (λ (t : TreeFacts). StandsIn (line_told_of t) (lost_text options tree_lines last solution)) is_whole.solution_is.tree_is
           (subst (λ c. StandsIn (line_told_of solution.tree) (text_by c)) (sym e) told)))
 
-      kept : Has (input_after tree prefix here later) s.0 given (stream_location l) → IsKeptOrWarned tree solution outcome.warned l s f given
+      kept : Has (input_after tree prefix here later) s.0 given (stream_location l) → IsKeptOrWarned prefix.is_raw tree solution outcome.warned l s f given
       kept stays = by (options.explain_lost && options.warn_lost) refl
         where
           joined : lines ≡ (before ++ l ∷ []) ++ later
@@ -425,17 +424,17 @@ module _ (files : Files) (options : Options) (all : List (List ℕ)) (tree : Tre
           by_line : slice_index_or last_lines s.0 None ≡ Some (stream_location l)
           by_line = ap (λ (q : UserInput). slice_index_or q.lines s.0 None) at_end ∙ stays.1
 
-          by : (b : Bool) → (options.explain_lost && options.warn_lost) ≡ b → IsKeptOrWarned tree solution outcome.warned l s f given
-          by true e = elim (kept_or_explained last_lines solution s f given (stream_location l) (subst (λ (t : TreeFacts). facts t s ≡ Some f) (sym is_whole.solution_is.tree_is) defined)
-              (subst (λ (t : TreeFacts). Contains t.defined s) (sym is_whole.solution_is.tree_is) (formed.prompted_defined s f defined (some_prompts f.prompts prompted))) prompted there by_line
-              explained (AreLines-explanation tree_lines last solution (codes "  ") 1)) [
+          by : (b : Bool) → (options.explain_lost && options.warn_lost) ≡ b → IsKeptOrWarned prefix.is_raw tree solution outcome.warned l s f given
+          by true e = elim (kept_or_explained prefix.is_raw last_lines solution s f given (stream_location l) (subst (λ (t : TreeFacts). facts t s ≡ Some f) (sym is_whole.solution_is.tree_is) defined)
+              (subst (λ (t : TreeFacts). Contains t.defined s) (sym is_whole.solution_is.tree_is) (formed.typed_defined s f defined typed)) there by_line
+              explained (AreLines-explanation prefix.is_raw tree_lines last solution (explanation_lead options) 1)) [
                 | inl same ↦ inl same
                 | inr told ↦ heard_in true e told
               ]
-          by false e = elim (kept_or_told last_lines solution s f given (stream_location l) (subst (λ (t : TreeFacts). facts t s ≡ Some f) (sym is_whole.solution_is.tree_is) defined)
-              (subst (λ (t : TreeFacts). Contains t.defined s) (sym is_whole.solution_is.tree_is) (formed.prompted_defined s f defined (some_prompts f.prompts prompted))) prompted there by_line) [
+          by false e = elim (kept_or_told prefix.is_raw last_lines solution s f given (stream_location l) (subst (λ (t : TreeFacts). facts t s ≡ Some f) (sym is_whole.solution_is.tree_is) defined)
+              (subst (λ (t : TreeFacts). Contains t.defined s) (sym is_whole.solution_is.tree_is) (formed.typed_defined s f defined typed)) there by_line) [
                 | inl same ↦ inl same
-                | inr told ↦ heard_in false e (subst (λ c. StandsIn (line_told_of solution.tree) (lines_text (if c then lost_lines last_lines solution else []))) (sym asked) told)
+                | inr told ↦ heard_in false e (subst (λ c. StandsIn (line_told_of solution.tree) (lines_text (if c then lost_lines prefix.is_raw last_lines solution else []))) (sym asked) told)
               ]
 
       module _ (front back : List Line) (m : Line) (other : GivenValue) (is_later : later ≡ front ++ m ∷ back) (sets : effect tree prefix m ≡ Assigns s other)
@@ -456,14 +455,14 @@ module _ (files : Files) (options : Options) (all : List (List ℕ)) (tree : Tre
         first = warning_line m.stream m.number (SetAgain (name tree s))
 
         abbrev change : List ℕ
-        change = change_text (stream_location m) (name tree s) (type_of tree s) (Some given) (Some (stream_location l)) other
+        change = change_text prefix.is_raw (stream_location m) (name tree s) (type_of tree s) (Some given) (Some from) other
 
         told : StandsIn (first ++ change) outcome.warned
         told =
             subst (λ x. StandsIn x outcome.warned)
             (ap (λ o. warning_line_if m.stream m.number (if is_some o then Some (SetAgain (name tree s)) else None)
-            ++ change_text (stream_location m) (name tree s) (type_of tree s) o (slice_index_or mid.lines s.0 None) other) had_then.0
-            ∙ ap (λ o. first ++ change_text (stream_location m) (name tree s) (type_of tree s) (Some given) o other) had_then.1)
+            ++ change_text prefix.is_raw (stream_location m) (name tree s) (type_of tree s) o (plain_line mid mid.lines s) other) had_then.0
+            ∙ ap (λ o. first ++ change_text prefix.is_raw (stream_location m) (name tree s) (type_of tree s) (Some given) (option_map (plain_location mid.lead) o) other) had_then.1)
             (line_told (before ++ l ∷ front) back m (Assigns s other) joined sets)
 
         set_again_told : StandsIn first outcome.warned
@@ -472,37 +471,44 @@ module _ (files : Files) (options : Options) (all : List (List ℕ)) (tree : Tre
         type_is : type_of tree s ≡ f.symbol_type
         type_is = ap type_in defined
 
-        changed : same_given given other ≡ false → StandsIn (change_line (stream_location m) (name tree s) f.symbol_type given (stream_location l) other) outcome.warned
+        changed : same_given given other ≡ false → StandsIn (change_line prefix.is_raw (stream_location m) (name tree s) f.symbol_type given from other) outcome.warned
         changed differs =
-            stands_within first (change_line (stream_location m) (name tree s) f.symbol_type given (stream_location l) other) [] outcome.warned
+            stands_within first (change_line prefix.is_raw (stream_location m) (name tree s) f.symbol_type given from other) [] outcome.warned
             (AreLines-warning_if m.stream m.number (Some (SetAgain (name tree s))))
             (subst (λ x. StandsIn (first ++ x) outcome.warned)
-            (ap (λ k. change_text (stream_location m) (name tree s) k (Some given) (Some (stream_location l)) other) type_is
-            ∙ ap (λ b. if b then [] else change_line (stream_location m) (name tree s) f.symbol_type given (stream_location l) other) differs
-            ∙ sym (append-nil (change_line (stream_location m) (name tree s) f.symbol_type given (stream_location l) other))) told)
+            (ap (λ k. change_text prefix.is_raw (stream_location m) (name tree s) k (Some given) (Some from) other) type_is
+            ∙ ap (λ b. if b then [] else change_line prefix.is_raw (stream_location m) (name tree s) f.symbol_type given from other) differs
+            ∙ sym (append-nil (change_line prefix.is_raw (stream_location m) (name tree s) f.symbol_type given from other))) told)
 
-      again : SetsAgain tree prefix here s given (stream_location l) later → IsSetAgain tree prefix outcome.warned l s f.symbol_type given later
+      again : SetsAgain tree prefix here s given (stream_location l) later → IsSetAgain tree prefix outcome.warned from s f.symbol_type given later
       again (front, back, m, other, is_later, leaves, sets, had) =
           (front, back, m, other, is_later, leaves, sets, set_again_told front back m other is_later sets had, changed front back m other is_later sets had)
 
-      heard : IsSetAgain tree prefix outcome.warned l s f.symbol_type given later ⊎ IsKeptOrWarned tree solution outcome.warned l s f given
+      heard : IsSetAgain tree prefix outcome.warned from s f.symbol_type given later ⊎ IsKeptOrWarned prefix.is_raw tree solution outcome.warned l s f given
       heard = elim (stays_or_set tree prefix turn here later s given (stream_location l) has) [
         | inl stays ↦ inr (kept stays)
         | inr set ↦ inl (again set)
       ]
 
-    each_accounted_for : (before later : List Line) (l : Line) → lines ≡ before ++ l ∷ later → IsAccountedFor tree prefix solution outcome.warned l later (effect tree prefix l)
+    each_accounted_for : (before later : List Line) (l : Line) → lines ≡ before ++ l ∷ later → IsAccountedFor tree prefix (lead options) solution outcome.warned l later (effect tree prefix l)
     each_accounted_for before later l split = by (effect tree prefix l) refl where
-      by : (e : Effect) → effect tree prefix l ≡ e → IsAccountedFor tree prefix solution outcome.warned l later e
-      by Silent is_effect = tt
+      by : (e : Effect) → effect tree prefix l ≡ e → IsAccountedFor tree prefix (lead options) solution outcome.warned l later e
+      by Silent is_effect = silent_says prefix.is_raw tree (meaning tree prefix l) (effect_is tree prefix l ∙ is_effect)
       by (Warns line_warning) is_effect =
-          stands_within [] (warning_line l.stream l.number line_warning) [] outcome.warned AreLines-nothing (line_told before later l (Warns line_warning) split is_effect)
-      by (Assigns s given) is_effect = heard before later l split s given is_effect
+          stands_within [] (warning_line l.stream l.number line_warning) [] outcome.warned AreLines-nothing
+          (subst (λ b. StandsIn (warning_line_if l.stream l.number (if b then Some line_warning else None) ++ []) outcome.warned)
+          (ap (λ b. is_reported b line_warning) asked ∙ all_reported line_warning) (line_told before later l (Warns line_warning) split is_effect))
+      by (Assigns s given) is_effect =
+          let (f, defined, typed) = assigned_typed prefix.is_raw tree (meaning tree prefix l) s given (effect_is tree prefix l ∙ is_effect) in
+          (f, defined, heard before later l split s given is_effect f defined typed)
 
-pub nothing_lost : TreesAreWellFormed → WrittenAreWhole → LinesGiveInTurn → NothingIsLost
-nothing_lost trees written turns files options all outcome text is_outcome there asked =
-    let (tree, solution, is_whole, (opened, are, log, expands, is), passed) = written files options all outcome text is_outcome there in
-    let text_is : text ≡ config_text tree options.prefix (solution_view solution) =
-    sym (text_if_is options.out _ text (sym (ap (λ (o : Outcome). o.config) is) ∙ there))
-    in
-    (tree, solution, is_whole, text_is, each_accounted_for files options all tree solution is_whole (trees files (root_file options) tree is_whole.accepted.built) (turns tree options.prefix) asked outcome opened (numbered_lines log.lines) is)
+pub nothing_lost : TreesAreWellFormed → DoneAreWhole → LinesGiveInTurn → NothingIsLost
+nothing_lost trees wholes turns files options all outcome is_outcome done asked =
+    let (tree, solution, is_whole, (opened, are, log, expands, is), passed) = wholes files options all outcome is_outcome done in (
+      tree,
+      solution,
+      is_whole,
+      has_its_texts files options all outcome tree solution opened log is,
+      each_accounted_for files options all tree solution is_whole (trees files (root_file options) tree is_whole.accepted.built) (turns tree options.prefix) asked outcome opened
+          (numbered_lines log.lines) is,
+    )

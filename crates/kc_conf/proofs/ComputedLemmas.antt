@@ -10,7 +10,7 @@ use Rattle.kc_language.specs.Statements.{Located, Numbered}
 use Rattle.kc_language.specs.Texts.{Solution, solution_view, warnings}
 use Rattle.kc_read.specs.Entries.{lines_in}
 use Rattle.kc_conf.specs.Accepted.{AreSources}
-use Rattle.kc_conf.specs.Computed.{explained_by, explained_lost, files_from, lost_by, lost_from, new_by, ruled_files, sources_if}
+use Rattle.kc_conf.specs.Computed.{explained_by, explained_lost, explanation_lead, files_from, lost_by, lost_from, new_by, ruled_files, sources_if}
 use Rattle.kc_conf.specs.Faults.{AreLines}
 use Rattle.kc_conf.specs.PartsOfOutcome.{files_of, list_text, text_if}
 use Rattle.kc_conf.specs.declared.accepted.TreeSources.{TreeSources}
@@ -35,11 +35,11 @@ none_is (Some x) rest text e = absurd (let clash : true ≡ false = e in cc)
 
 module _ (files : Files) (lines : List (Located Numbered)) (options : Options) (input : UserInput) (solution : Solution) where
   lost_as : (b : Bool) → (options.explain_lost && options.warn_lost) ≡ b → (o : Option (Bor TreeSources)) → AreSources files lines options o →
-      lost_by (sources_if b o) options input solution ≡ (if b then explained_lost lines input solution else lines_text (lost_warnings options input solution))
+      lost_by (sources_if b o) options input solution ≡ (if b then explained_lost options.prefix.is_raw (explanation_lead options) lines input solution else lines_text (lost_warnings options input solution))
   lost_as false e o are = refl
   lost_as true e None are =
       never _ (ap (λ x. is_some options.explanation || (x || (options.with_help && is_some options.list_new))) e ∙ or_middle (is_some options.explanation) (options.with_help && is_some options.list_new)) are
-  lost_as true e (Some s) are = ap (λ (ls : List (Located Numbered)). explained_lost ls input solution) are.1
+  lost_as true e (Some s) are = ap (λ (ls : List (Located Numbered)). explained_lost options.prefix.is_raw (explanation_lead options) ls input solution) are.1
 
   pub lost_is : (o : Option (Bor TreeSources)) → AreSources files lines options o → lost_from options o input solution ≡ lost_text options lines input solution
   lost_is o are = lost_as (options.explain_lost && options.warn_lost) refl o are
@@ -77,7 +77,7 @@ module _ (files : Files) (lines : List (Located Numbered)) (options : Options) (
 -- what is told of lost values is whole lines
 AreLines-lost_by : (o : Option (Bor TreeSources)) (options : Options) (input : UserInput) (solution : Solution) → AreLines (lost_by o options input solution)
 AreLines-lost_by None options input solution = (lost_warnings options input solution, refl)
-AreLines-lost_by (Some s) options input solution = AreLines-explained (lines_in s.now.entries) input solution solution.tree.defined
+AreLines-lost_by (Some s) options input solution = AreLines-explained options.prefix.is_raw (lines_in s.now.entries) input solution (explanation_lead options) solution.tree.defined
 
 pub lines_added : (options : Options) (o : Option (Bor TreeSources)) (input : UserInput) (solution : Solution) (old new : List ℕ) →
     new ≡ old ++ (lines_text (map (λ line. lead options ++ line) (warnings solution)) ++ lost_from options o input solution) → AreLines old → AreLines new

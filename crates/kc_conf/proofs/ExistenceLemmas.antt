@@ -99,7 +99,7 @@ module _ (opens : OpenedAreOneList) (formed : TreesAreWellFormed) (leaves : Stre
   of_stop files options all tree log accepted (Some stop) is = (reported (read_of options tree all).warned (refused (too_long_line stop)), long_line stop is refl)
   of_stop files options all tree log accepted None is =
       let held : ArePlaces tree (read_of options tree all).input.places =
-      leaves tree options.prefix (options.warn_lost || is_some options.explanation) (fresh_input options tree).gone (streams (names_of options) all) (formed files (root_file options) tree accepted.built) in
+      leaves tree options.prefix (options.warn_lost || is_some options.explanation) (fresh_input options tree).gone options.warn_lost (lead options) (streams (names_of options) all) (formed files (root_file options) tree accepted.built) in
       let (solution, for) = solved tree (read_of options tree all).input.places accepted.accepted held.there in (
         reported (read_of options tree all).warned (outcome_of files options tree (numbered_lines log.lines) (read_of options tree all).input solution),
         whole solution is for refl,

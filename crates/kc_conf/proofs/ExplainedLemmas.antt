@@ -8,35 +8,37 @@ use Rattle.kc_language.specs.Outcome.{Options, lines_text, lost_text, lost_warni
 use Rattle.kc_language.specs.Statements.{Located, Numbered}
 use Rattle.kc_language.specs.Texts.{Solution, lost_at}
 use Rattle.kc_language.specs.declared.expressions.SymId.{SymId}
+use Rattle.kc_conf.specs.Computed.{explanation_lead}
 use Rattle.kc_conf.specs.Faults.{AreLines}
 use Rattle.kc_conf.proofs.PartLemmas.{AreLines-append, AreLines-each}
 
 pub one_line : (text : List ℕ) → AreLines (text ++ codes "\n")
 one_line text = (text ∷ [], sym (append-nil (text ++ codes "\n")))
 
-module _ (lines : List (Located Numbered)) (input : UserInput) (solution : Solution) where
-  pub AreLines-explanation : (lead : List ℕ) (n : ℕ) (s : SymId) → AreLines (explanation_text lines solution input lead n s)
+module _ (is_raw : Bool) (lines : List (Located Numbered)) (input : UserInput) (solution : Solution) where
+  pub AreLines-explanation : (lead : List ℕ) (n : ℕ) (s : SymId) → AreLines (explanation_text lines solution input is_raw lead n s)
   AreLines-explanation lead n s =
       let others = drop 1 (reached lines solution n (s ∷ []) (s ∷ [])) in
-      AreLines-append (flat_map (λ l. lead ++ l ++ codes "\n") (symbol_lines lines solution input s))
-      (flat_map (λ t. flat_map (λ l. lead ++ codes "  " ++ l ++ codes "\n") (symbol_lines lines solution input t)) others)
-      (AreLines-each (λ l. lead ++ l ++ codes "\n") (symbol_lines lines solution input s) (λ l. one_line (lead ++ l)))
-      (AreLines-each (λ t. flat_map (λ l. lead ++ codes "  " ++ l ++ codes "\n") (symbol_lines lines solution input t)) others
-      (λ t. AreLines-each (λ l. lead ++ codes "  " ++ l ++ codes "\n") (symbol_lines lines solution input t) (λ l. one_line (lead ++ codes "  " ++ l))))
+      AreLines-append (flat_map (λ l. lead ++ l ++ codes "\n") (symbol_lines lines solution input is_raw s))
+      (flat_map (λ t. flat_map (λ l. lead ++ codes "  " ++ l ++ codes "\n") (symbol_lines lines solution input is_raw t)) others)
+      (AreLines-each (λ l. lead ++ l ++ codes "\n") (symbol_lines lines solution input is_raw s) (λ l. one_line (lead ++ l)))
+      (AreLines-each (λ t. flat_map (λ l. lead ++ codes "  " ++ l ++ codes "\n") (symbol_lines lines solution input is_raw t)) others
+      (λ t. AreLines-each (λ l. lead ++ codes "  " ++ l ++ codes "\n") (symbol_lines lines solution input is_raw t) (λ l. one_line (lead ++ codes "  " ++ l))))
 
-  -- the lines of one symbol whose value is lost, each with its explanation
-  abbrev explained_at : SymId → List ℕ
-  explained_at s = flat_map (λ line. line ++ codes "\n" ++ explanation_text lines solution input (codes "  ") 1 s) (lost_at input.lines solution s)
+  module _ (front : List ℕ) where
+    -- the lines of one symbol whose value is lost, each with its explanation
+    abbrev explained_at : SymId → List ℕ
+    explained_at s = flat_map (λ line. line ++ codes "\n" ++ explanation_text lines solution input is_raw front 1 s) (lost_at is_raw input.lines solution s)
 
-  pub AreLines-explained : (all : List SymId) → AreLines (flat_map explained_at all)
-  AreLines-explained all =
-      AreLines-each explained_at all
-      (λ s. AreLines-each (λ line. line ++ codes "\n" ++ explanation_text lines solution input (codes "  ") 1 s) (lost_at input.lines solution s)
-      (λ line. AreLines-append (line ++ codes "\n") (explanation_text lines solution input (codes "  ") 1 s) (one_line line) (AreLines-explanation (codes "  ") 1 s)))
+    pub AreLines-explained : (all : List SymId) → AreLines (flat_map explained_at all)
+    AreLines-explained all =
+        AreLines-each explained_at all
+        (λ s. AreLines-each (λ line. line ++ codes "\n" ++ explanation_text lines solution input is_raw front 1 s) (lost_at is_raw input.lines solution s)
+        (λ line. AreLines-append (line ++ codes "\n") (explanation_text lines solution input is_raw front 1 s) (one_line line) (AreLines-explanation front 1 s)))
 
-  lost_by : (b : Bool) (told : List (List ℕ)) → AreLines (if b then flat_map explained_at solution.tree.defined else lines_text told)
-  lost_by true told = AreLines-explained solution.tree.defined
-  lost_by false told = (told, refl)
+    lost_by : (b : Bool) (told : List (List ℕ)) → AreLines (if b then flat_map explained_at solution.tree.defined else lines_text told)
+    lost_by true told = AreLines-explained solution.tree.defined
+    lost_by false told = (told, refl)
 
 pub AreLines-lost : (options : Options) (lines : List (Located Numbered)) (input : UserInput) (solution : Solution) → AreLines (lost_text options lines input solution)
-AreLines-lost options lines input solution = lost_by lines input solution (options.explain_lost && options.warn_lost) (lost_warnings options input solution)
+AreLines-lost options lines input solution = lost_by options.prefix.is_raw lines input solution (explanation_lead options) (options.explain_lost && options.warn_lost) (lost_warnings options input solution)

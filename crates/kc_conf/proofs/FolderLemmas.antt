@@ -6,7 +6,7 @@ use Rattle.kc_io.specs.Log.{Event, Log}
 use Rattle.kc_load.specs.Loading.{ExpandsAlike}
 use Rattle.kc_language.specs.declared.outcome.Status.{Status}
 use Rattle.kc_conf.specs.declared.stop.Stop.{Stop}
-use Rattle.kc_conf.specs.Faults.{AreReads, Breaks, Broken, Completes, Runs, in_delivery, in_input, in_diagnostics, no_memory, of_tree, refused_name as reads_no_name, refused_tree as reads_no_tree}
+use Rattle.kc_conf.specs.Faults.{AreFirstReads, AreReads, Breaks, Broken, Completes, Runs, in_delivery, in_input, in_diagnostics, no_memory, nothing, of_accepted, of_tree, refused_name as reads_no_name, refused_tree as reads_no_tree}
 use Rattle.kc_io.specs.Inputs.{InputFile}
 use Rattle.kc_conf.specs.Many.{AreRootedAt, EndsTurn, IsPart, RunsEach, RunsTurn, StopsAtTree, TakeTurns, TakesTurn}
 use Rattle.kc_conf.specs.Many as many
@@ -87,10 +87,14 @@ module _ (options : Options) (files others : Files) (alike : ExpandsAlike (root_
   reads_over inputs told events (reads_no_name name x) = reads_no_name name (name_over name x)
   reads_over inputs told events (of_tree tree events' x read there to) = of_tree tree events (accepted_over top files others alike tree x) (read_over read) there to
 
+  first_over : (inputs : List InputFile) (done : List Event) → AreFirstReads files options inputs done → AreFirstReads others options inputs done
+  first_over inputs done nothing = nothing
+  first_over inputs done (of_accepted tree d left x read split) = of_accepted tree d left (accepted_over top files others alike tree x) (read_over read) split
+
   breaks_over : (before : TreeFacts → List ℕ) (inputs : List InputFile) (outcome : Outcome) (told : Log) (stop : Stop) (done : List Event) (front : List ℕ) →
       Breaks files options before inputs outcome told stop done front → Breaks others options before inputs outcome told stop done front
-  breaks_over before inputs outcome told stop done front (no_memory d left f all lines begins) = no_memory d left f all lines begins
-  breaks_over before inputs outcome told stop done front (in_diagnostics f d left fr action name all lines more) = in_diagnostics f d left fr action name all lines more
+  breaks_over before inputs outcome told stop done front (no_memory d f first lines begins) = no_memory d f (first_over inputs d first) lines begins
+  breaks_over before inputs outcome told stop done front (in_diagnostics f d fr action name first lines more) = in_diagnostics f d fr action name (first_over inputs d first) lines more
   breaks_over before inputs outcome told stop done front (in_input f tree file d saying x read action name up_to) =
       in_input f tree file d saying (accepted_over top files others alike tree x) (read_over read) action name up_to
   breaks_over before inputs outcome told stop done front (in_delivery f events d are left) = in_delivery f events d (reads_over inputs told events are) left

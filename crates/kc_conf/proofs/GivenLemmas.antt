@@ -9,7 +9,7 @@ use Rattle.kc_io.proofs.LogLemmas.{keeps_both, keeps_bytes}
 use Rattle.kc_language.specs.ConfigFile.{StreamLocation}
 use Rattle.kc_language.specs.Expansion.{Files}
 use Rattle.kc_language.specs.Symbols.{TreeFacts}
-use Rattle.kc_conf.specs.Faults.{AreReads, refused_tree, refused_name, of_tree, ReadsUpTo}
+use Rattle.kc_conf.specs.Faults.{AreFirstReads, AreReads, nothing, of_accepted, refused_tree, refused_name, of_tree, ReadsUpTo}
 use Rattle.kc_io.specs.Inputs.{AreInputs, AreThere, InputFile, IsAsTold, IsThere, ReadsTo, all, line, reads, reads_one, still_told}
 use Rattle.kc_language.specs.Outcome.{Options}
 use Rattle.kc_conf.proofs.TellingLemmas.{Tells-first, Tells-later}
@@ -208,6 +208,18 @@ pub reads-front : {files : Files} {options : Options} {inputs : List InputFile} 
 reads-front {inputs = inputs} (refused_tree r is) = (reads inputs, refl)
 reads-front {inputs = inputs} (refused_name name is) = (reads inputs, refl)
 reads-front (of_tree tree events accepted named there to) = reads_to-front to
+
+-- they are first reads
+pub first-of-reads : {files : Files} {options : Options} {inputs : List InputFile} {told : Log} {events : List Event} → AreReads files options inputs told events →
+    AreFirstReads files options inputs events
+first-of-reads (refused_tree r is) = nothing
+first-of-reads (refused_name name is) = nothing
+first-of-reads (of_tree tree events accepted named there to) = let (left, split) = reads_to-front to in of_accepted tree events left accepted named split
+
+-- which begin the reads of all files
+pub first-begin : {files : Files} {options : Options} {inputs : List InputFile} {done : List Event} → AreFirstReads files options inputs done → (left : List Event) × (done ++ left ≡ reads inputs)
+first-begin {inputs = inputs} nothing = (reads inputs, refl)
+first-begin (of_accepted tree done left accepted named split) = (left, split)
 
 -- and changes no file
 pub keeps-are_reads : (files : Files) (options : Options) (inputs : List InputFile) (told : Log) (events : List Event) → AreReads files options inputs told events → keeps_files events ≡ true

@@ -18,10 +18,10 @@ use Rattle.kc_conf.specs.PartsOfOutcome.{outcome_of}
 use Rattle.kc_conf.specs.LawSteps.{OneAnswer}
 use Rattle.kc_conf.specs.Computed.{Computes, refuses, ruled_files, value_lines}
 use Rattle.kc_conf.specs.Endings.{Ends, line_if, status_if, texts_or}
-use Rattle.kc_conf.specs.Faults.{AreReads, of_tree}
+use Rattle.kc_conf.specs.Faults.{AreFirstReads, AreReads, nothing, of_tree}
 use Rattle.kc_io.specs.Delivery.{texts_of}
 use Rattle.kc_conf.specs.PartsOfFaults.{nothing_said}
-use Rattle.kc_io.specs.Inputs.{AreInputs, AreThere, InputFile, ReadsTo, bytes_of, reads, still_told}
+use Rattle.kc_io.specs.Inputs.{AreInputs, AreThere, InputFile, ReadsTo, bytes_of, still_told}
 use Rattle.kc_conf.specs.Laws.{ExactlyOneOutcome}
 use Rattle.kc_conf.specs.PartRuns.{LeavesPart}
 use Rattle.kc_conf.specs.Reads.{BreaksInputs, ReadsInputs, ended_with}
@@ -31,7 +31,7 @@ use Rattle.kc_conf.specs.declared.reading.Waiting.{Waiting}
 use Rattle.kc_conf.specs.declared.stop.Stop.{Stop}
 use Rattle.kc_conf.specs.declared.stop.Stop.TheVariants.{OutOfMemory}
 use Rattle.kc_conf.proofs.EndingLemmas.{Ends-log}
-use Rattle.kc_conf.proofs.GivenLemmas.{AreInputs-later, AreThere-later, inputs-exist, reads-front}
+use Rattle.kc_conf.proofs.GivenLemmas.{AreInputs-later, AreThere-later, first-of-reads, inputs-exist}
 use Rattle.kc_conf.proofs.PartLemmas.{AreLines-nothing, AreLines-reading}
 use Rattle.kc_conf.proofs.PartOutcomes.{Ends-part, is_part, names-taken, part-has, part-says, part-warned, part_of, rest-begins, rest-exists, rest-long, rest-whole, texts-none}
 use Rattle.kc_conf.proofs.RunParts.{EndsSo-behind, IsBrokenOff-memory, IsBrokenOff-reading}
@@ -97,9 +97,9 @@ module _ (law : OneAnswer) (outcomes : ExactlyOneOutcome) (files : Files) (optio
   begins-part all rest of = let (more, is) = rest-begins files options tree lines_of_tree (read_of options tree all) rest of in (more, part-warned options opened before_it rest ∙ is)
 
   -- memory ran out
-  pub LeavesPart-memory : (inputs : List InputFile) (old new : Log) (done left : List Event) (front : List ℕ) → AreInputs (still_told old new) options inputs → done ++ left ≡ reads inputs → AreLines front →
+  pub LeavesPart-memory : (inputs : List InputFile) (old new : Log) (done : List Event) (front : List ℕ) → AreInputs (still_told old new) options inputs → AreFirstReads files options inputs done → AreLines front →
       BeginsWith (read_of options tree (bytes_of inputs)).warned front → Leads done front old new → LeavesPart files options tree (Err OutOfMemory) old new
-  LeavesPart-memory inputs old new done left front are_inputs split lines begins log =
+  LeavesPart-memory inputs old new done front are_inputs first lines begins log =
       let all = bytes_of inputs in
       let (rest, of) = rest-exists law files options tree accepted opened are taken log_of_tree expands outcomes all in
       let (more, is) = begins-part all rest of in
@@ -109,14 +109,14 @@ module _ (law : OneAnswer) (outcomes : ExactlyOneOutcome) (files : Files) (optio
         are_inputs = are_inputs;
         part = part_by rest;
         is_part = is_part law files options tree accepted opened are taken log_of_tree expands all rest of;
-        ends = IsBrokenOff-memory files options nothing_said inputs (part_by rest) old new done left front split lines
+        ends = IsBrokenOff-memory files options nothing_said inputs (part_by rest) old new done front first lines
             (others ++ more, is ∙ ap (λ l. l ++ more) is' ∙ append_assoc front others more) log;
       }
 
   pub LeavesPart-nothing : (log : Log) → LeavesPart files options tree (Err OutOfMemory) log log
   LeavesPart-nothing log =
       let (inputs, are_inputs) = inputs-exist (still_told log log) options in
-      LeavesPart-memory inputs log log [] (reads inputs) [] are_inputs refl AreLines-nothing ((read_of options tree (bytes_of inputs)).warned, refl) (leads_nothing log)
+      LeavesPart-memory inputs log log [] [] are_inputs nothing AreLines-nothing ((read_of options tree (bytes_of inputs)).warned, refl) (leads_nothing log)
 
   -- reading was broken off
   pub LeavesPart-broken : (stop : Stop) (before : UserInput) (old new : Log) → before ≡ fresh_input options tree → BreaksInputs options tree stop before old new → LeavesPart files options tree (Err stop) old new
@@ -198,7 +198,6 @@ module _ (law : OneAnswer) (outcomes : ExactlyOneOutcome) (files : Files) (optio
       let named = names-taken law files options tree accepted opened are taken in
       let of_files : AreReads files options r.inputs (still_told old new) r.events =
       of_tree tree r.events accepted named r.there (subst (λ s. ReadsTo r.inputs s r.events) (sym (ap (λ (x : ReadResult). x.stopped) e)) r.reads_to) in
-      let (left, split) = reads-front of_files in
-      LeavesPart-memory r.inputs old new r.events left (if waiting.holds then [] else r.warned) r.are_inputs split
+      LeavesPart-memory r.inputs old new r.events (if waiting.holds then [] else r.warned) r.are_inputs (first-of-reads of_files)
       (AreLines-said waiting.holds r.warned (lines-of options tree r.inputs after r.warned None e))
       (subst (λ (x : ReadResult). BeginsWith x.warned (if waiting.holds then [] else r.warned)) (sym e) (begins-said waiting.holds r.warned)) r.log

@@ -1,4 +1,5 @@
 pub mod ExistenceLemmas
+pub mod EffectLemmas
 pub mod AccountedLemmas
 pub mod ListLemmas
 pub mod MoreLemmas

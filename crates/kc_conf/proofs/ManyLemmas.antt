@@ -18,7 +18,7 @@ use Rattle.kc_conf.specs.Endings.{Ends}
 use Rattle.kc_conf.specs.Faults.{clearing, event_of, refused_name_of, stop_line}
 use Rattle.kc_conf.specs.PartsOfFaults.{nothing_said}
 use Rattle.kc_conf.specs.Endings.{Reports}
-use Rattle.kc_io.specs.Inputs.{bytes_of, reads, still_told}
+use Rattle.kc_io.specs.Inputs.{bytes_of, still_told}
 use Rattle.kc_io.specs.Log.{TriesToSay}
 use Rattle.kc_conf.specs.Faults as ends
 use Rattle.kc_conf.specs.Laws.{ExactlyOneOutcome}
@@ -134,7 +134,7 @@ module _ (files : Files) (options : Options) (tree : TreeFacts) (accepted : IsAc
         are_inputs = are_inputs;
         part = part;
         is_part = is_part;
-        ends = IsBrokenOff-memory files options nothing_said inputs part log log [] (reads inputs) [] refl AreLines-nothing (part.warned, refl) (leads_nothing log);
+        ends = IsBrokenOff-memory files options nothing_said inputs part log log [] [] ends.nothing AreLines-nothing (part.warned, refl) (leads_nothing log);
       }
 
   module _ (opened : List (List ℕ)) (are : AreOpened files (root_file options) opened) (result : Result Status Stop) (old new : Log) where

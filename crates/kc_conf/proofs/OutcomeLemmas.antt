@@ -2,7 +2,7 @@
 use Rattle.std.proofs.Common.{◌≡◌, ℕ, Bool, true, false, List, [], ◌∷◌, ◌++◌, refl, sym, ap, ◌∙◌, append_assoc, length, map, not, Option, Some, None, is_some, Vec, Global, arith}
 use Rattle.std.specs.Prelude.{◌&&◌, ◌||◌, ◌==◌, if◌then◌else◌}
 use Rattle.kc_language.specs.Outcome.{Options, Outcome, has_text, is_done, lines_text, reported, refused_if, strictly, with_rule}
-use Rattle.kc_conf.specs.PartsOfOutcome.{text_if}
+use Rattle.kc_language.specs.declared.outcome.Status.{Status}
 use Rattle.kc_conf.specs.Faults.{diagnostics_of}
 use Rattle.kc_conf.specs.PartsOfOutcome.{depfile_text}
 use Rattle.kc_conf.specs.PartRuns.{strictly_after}
@@ -67,6 +67,20 @@ module _ (options : Options) (opened : List (List ℕ)) where
   pub rule-config : (o : Outcome) → (with_rule options opened o).config ≡ o.config
   rule-config o = config_ruled (is_done o.status) o
 
+  header_ruled : (b : Bool) (o : Outcome) → (ruled_if b o).header ≡ o.header
+  header_ruled true o = refl
+  header_ruled false o = refl
+
+  pub rule-header : (o : Outcome) → (with_rule options opened o).header ≡ o.header
+  rule-header o = header_ruled (is_done o.status) o
+
+  status_ruled : (b : Bool) (o : Outcome) → (ruled_if b o).status ≡ o.status
+  status_ruled true o = refl
+  status_ruled false o = refl
+
+  pub rule-status : (o : Outcome) → (with_rule options opened o).status ≡ o.status
+  rule-status o = status_ruled (is_done o.status) o
+
   minimal_ruled : (b : Bool) (o : Outcome) → (ruled_if b o).minimal ≡ o.minimal
   minimal_ruled true o = refl
   minimal_ruled false o = refl
@@ -88,42 +102,17 @@ warned_if options part false = refl
 pub strictly_after-warned : (options : Options) (before : Bool) (part : Outcome) → (strictly_after options before part).warned ≡ part.warned
 strictly_after-warned options before part = warned_if options part (is_done part.status && (options.strict_tree && (before || has_text part.warned)))
 
--- ---- texts that are wanted
+-- ---- what is done is not refused
 
-pub text_if_is : {T : Type 0} → (o : Option T) (text found : List ℕ) → text_if o text ≡ Some found → text ≡ found
-text_if_is None text found e = cc
-text_if_is (Some x) text found e = cc
-
-pub text_if-same : {T U : Type 0} → (o : Option T) (p : Option U) (text : List ℕ) → is_some o ≡ is_some p → text_if o text ≡ text_if p text
-text_if-same None None text e = refl
-text_if-same None (Some y) text e = absurd (let clash : false ≡ true = e in cc)
-text_if-same (Some x) None text e = absurd (let clash : true ≡ false = e in cc)
-text_if-same (Some x) (Some y) text e = refl
-
--- ---- what has a file is not refused
-
-pub config_kept : (options : Options) (b : Bool) (part : Outcome) (text : List ℕ) → (refused_if options b part).config ≡ Some text → b ≡ false
-config_kept options true part text there = absurd (let e : None ≡ Some text = there in cc)
-config_kept options false part text there = refl
-
-pub minimal_kept : (options : Options) (b : Bool) (part : Outcome) (text : List ℕ) → (refused_if options b part).minimal ≡ Some text → b ≡ false
-minimal_kept options true part text there = absurd (let e : None ≡ Some text = there in cc)
-minimal_kept options false part text there = refl
+pub done_kept : (options : Options) (b : Bool) (part : Outcome) → (refused_if options b part).status ≡ Status.Done → b ≡ false
+done_kept options true part done = absurd (let e : Status.Refused ≡ Status.Done = done in cc)
+done_kept options false part done = refl
 
 -- and it is as without --strict-tree
-config_if : (options : Options) (part outcome : Outcome) (text : List ℕ) (b : Bool) → outcome ≡ refused_if options b part → outcome.config ≡ Some text → outcome ≡ part
-config_if options part outcome text true is there = absurd (let e : None ≡ Some text = sym (ap (λ (o : Outcome). o.config) is) ∙ there in cc)
-config_if options part outcome text false is there = is
-
-minimal_if : (options : Options) (part outcome : Outcome) (text : List ℕ) (b : Bool) → outcome ≡ refused_if options b part → outcome.minimal ≡ Some text → outcome ≡ part
-minimal_if options part outcome text true is there = absurd (let e : None ≡ Some text = sym (ap (λ (o : Outcome). o.minimal) is) ∙ there in cc)
-minimal_if options part outcome text false is there = is
-
-pub strictly-config : (options : Options) (lenient outcome : Outcome) (text : List ℕ) → outcome ≡ strictly options lenient → outcome.config ≡ Some text → outcome ≡ lenient
-strictly-config options lenient outcome text = config_if options lenient outcome text (is_done lenient.status && (options.strict_tree && has_text lenient.warned))
-
-pub strictly-minimal : (options : Options) (lenient outcome : Outcome) (text : List ℕ) → outcome ≡ strictly options lenient → outcome.minimal ≡ Some text → outcome ≡ lenient
-strictly-minimal options lenient outcome text = minimal_if options lenient outcome text (is_done lenient.status && (options.strict_tree && has_text lenient.warned))
+pub strictly-done : (options : Options) (lenient outcome : Outcome) → outcome ≡ strictly options lenient → outcome.status ≡ Status.Done → outcome ≡ lenient
+strictly-done options lenient outcome is done =
+    let kept = done_kept options (is_done lenient.status && (options.strict_tree && has_text lenient.warned)) lenient (sym (ap (λ (o : Outcome). o.status) is) ∙ done) in
+    is ∙ ap (λ b. refused_if options b lenient) kept
 
 -- without --strict-tree nothing is changed
 pub strictly-off : (options : Options) (lenient : Outcome) → options.strict_tree ≡ false → strictly options lenient ≡ lenient

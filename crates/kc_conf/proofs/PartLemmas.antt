@@ -13,7 +13,7 @@ use Rattle.kc_text.specs.PartsOfLines.{HoldsNoLineFeed}
 use Rattle.kc_language.specs.Symbols.{TreeFacts, Warning, located_warning}
 use Rattle.kc_language.specs.declared.expressions.SymbolType.{SymbolType}
 use Rattle.kc_language.specs.Values.{GivenValue, SymbolPlace, same_given, name as name_of}
-use Rattle.kc_language.specs.ConfigFile.{place_at, StreamLocation, change_text, value_text, Effect, Silent, Warns, Assigns, warning_line, UserInput, Line, ReadResult, effect, effect_warning, is_within, lines_from, lines_in_stream, input_after, reading, stream_location, warning, warnings}
+use Rattle.kc_language.specs.ConfigFile.{Notation, place_at, plain_line, StreamLocation, change_text, value_text, Effect, Silent, Warns, Assigns, warning_line, UserInput, Line, ReadResult, effect, effect_warning, is_within, lines_from, lines_in_stream, input_after, reading, stream_location, warning, warnings}
 use Rattle.kc_config_file.specs.PartsOfConfigFile.{change_line}
 use Rattle.kc_config_file.specs.PartsOfConfigFile.{type_of, before_too_long, effect_change, effect_text, last_line, line, warning_line_if}
 use Rattle.kc_language.specs.declared.diagnostics.Warning.TheVariants.{Changed}
@@ -43,31 +43,31 @@ AreLines-warning_if stream number None = AreLines-nothing
 AreLines-warning_if stream number (Some told) =
     (located_warning stream number told ∷ [], sym (append-nil (warning_line stream number told)))
 
-AreLines-change : (at : StreamLocation) (name : List ℕ) (symbol_type : SymbolType) (old : Option GivenValue) (from : Option StreamLocation) (given : GivenValue) →
-    AreLines (change_text at name symbol_type old from given)
-AreLines-change at name symbol_type None from given = AreLines-nothing
-AreLines-change at name symbol_type (Some old) None given = AreLines-nothing
-AreLines-change at name symbol_type (Some old) (Some from) given = by (same_given old given)
+AreLines-change : (is_raw : Bool) (at : StreamLocation) (name : List ℕ) (symbol_type : SymbolType) (old : Option GivenValue) (from : Option StreamLocation) (given : GivenValue) →
+    AreLines (change_text is_raw at name symbol_type old from given)
+AreLines-change is_raw at name symbol_type None from given = AreLines-nothing
+AreLines-change is_raw at name symbol_type (Some old) None given = AreLines-nothing
+AreLines-change is_raw at name symbol_type (Some old) (Some from) given = by (same_given old given)
   where
     front : List ℕ
-    front = located_warning at.stream at.number (Changed name (value_text symbol_type old) from.stream from.number (value_text symbol_type given))
+    front = located_warning at.stream at.number (Changed name (value_text is_raw symbol_type old) from.stream from.number (value_text is_raw symbol_type given))
 
-    whole : change_line at name symbol_type old from given ≡ (front ++ codes "\n") ++ []
+    whole : change_line is_raw at name symbol_type old from given ≡ (front ++ codes "\n") ++ []
     whole = sym (append-nil (front ++ codes "\n"))
 
-    by : (b : Bool) → AreLines (if b then [] else change_line at name symbol_type old from given)
+    by : (b : Bool) → AreLines (if b then [] else change_line is_raw at name symbol_type old from given)
     by true = AreLines-nothing
     by false = (front ∷ [], whole)
 
-AreLines-effect : (tree : TreeFacts) (input : UserInput) (at : StreamLocation) (e : Effect) → AreLines (effect_text tree input at e)
-AreLines-effect tree input at e =
-    AreLines-append (warning_line_if at.stream at.number (effect_warning tree input.places e)) (effect_change tree input at e)
-    (AreLines-warning_if at.stream at.number (effect_warning tree input.places e)) (changed e)
+AreLines-effect : (is_raw : Bool) (tree : TreeFacts) (input : UserInput) (at : StreamLocation) (e : Effect) → AreLines (effect_text is_raw tree input at e)
+AreLines-effect is_raw tree input at e =
+    AreLines-append (warning_line_if at.stream at.number (effect_warning input.asks_unset tree input.places e)) (effect_change is_raw tree input at e)
+    (AreLines-warning_if at.stream at.number (effect_warning input.asks_unset tree input.places e)) (changed e)
   where
-    changed : (e : Effect) → AreLines (effect_change tree input at e)
+    changed : (e : Effect) → AreLines (effect_change is_raw tree input at e)
     changed Silent = AreLines-nothing
     changed (Warns line_warning) = AreLines-nothing
-    changed (Assigns s given) = AreLines-change at (name_of tree s) (type_of tree s) (place_at input.places (SymbolPlace s.0)) (slice_index_or input.lines s.0 None) given
+    changed (Assigns s given) = AreLines-change is_raw at (name_of tree s) (type_of tree s) (place_at input.places (SymbolPlace s.0)) (plain_line input input.lines s) given
 
 -- a line that is too long, behind the others, does not count
 counted-long_end : (lines : List Line) (l : Line) → is_within l ≡ false → before_too_long (lines ++ l ∷ []) ≡ before_too_long lines
@@ -77,10 +77,10 @@ counted-long_end (m ∷ lines) l long =
     ∙ ap (λ ls. cond (is_within m) (m ∷ ls) []) (counted-long_end lines l long)
     ∙ sym (take_while-cons is_within m lines)
 
-module _ (tree : TreeFacts) (prefix : List ℕ) where
+module _ (tree : TreeFacts) (prefix : Notation) where
   AreLines-warning : (input : UserInput) (l : Line) → AreLines (warning tree prefix input l)
   unfolding warning
-  AreLines-warning input l = AreLines-effect tree input (stream_location l) (effect tree prefix l)
+  AreLines-warning input l = AreLines-effect prefix.is_raw tree input (stream_location l) (effect tree prefix l)
 
   -- what lines warn of is whole lines
   pub AreLines-warnings : (lines : List Line) (places : UserInput) → AreLines (warnings tree prefix places lines)
@@ -183,7 +183,7 @@ module _ (name tail : List ℕ) (one : HoldsNoLineFeed tail) (some : 0 < length 
         )
   ]
 
-module _ (tree : TreeFacts) (prefix name : List ℕ) where
+module _ (tree : TreeFacts) (prefix : Notation) (name : List ℕ) where
   -- what was told of these bytes is what their lines warn of that have ended
   pub warned-ended : (bytes : List ℕ) (new : StreamPosition) (before after : UserInput) (warned : List ℕ) → HoldsNoLineFeed new.pending →
       ReadsPiece tree prefix name bytes stream_start new before after warned → warned ≡ (reading tree prefix before (ended_lines name bytes)).warned
@@ -253,7 +253,7 @@ short-not_found (l ∷ lines) short =
     let first : is_within l ≡ true = short 0 l (omega arith) in
     rw first (short-not_found lines (λ i d within. short (suc i) d (omega (arith, within))))
 
-module _ (tree : TreeFacts) (prefix : List ℕ) where
+module _ (tree : TreeFacts) (prefix : Notation) where
   -- lines of which none is too long stop no reading
   unstopped-short : (lines : List Line) (places : UserInput) → All (λ l. is_within l ≡ true) lines → (reading tree prefix places lines).stopped ≡ None
   unfolding reading

@@ -21,10 +21,10 @@ use Rattle.kc_diagnostics.proofs.CauseLemmas.{memory_or_not}
 use Rattle.kc_language.specs.declared.diagnostics.Cause.TheVariants.{Memory as NoMemory}
 use Rattle.kc_read.specs.declared.refusal.Refusal.{Refusal}
 use Rattle.kc_language.specs.declared.outcome.Status.TheVariants.{Refused}
-use Rattle.kc_conf.specs.Faults.{AreReads, Breaks, Completes, Runs, in_delivery, in_input, in_diagnostics, no_memory, refused_name as name_refused, refused_tree as tree_refused, clearing, event_of, stop_line}
+use Rattle.kc_conf.specs.Faults.{AreFirstReads, AreReads, Breaks, Completes, Runs, nothing, of_accepted, in_delivery, in_input, in_diagnostics, no_memory, refused_name as name_refused, refused_tree as tree_refused, clearing, event_of, stop_line}
 use Rattle.kc_io.specs.Delivery.{delivers, stale_lines, stale_texts, texts_of, cleared_by}
 use Rattle.kc_conf.specs.PartsOfFaults.{nothing_said, said_of_tree}
-use Rattle.kc_io.specs.Inputs.{InputFile, bytes_of, reads, still_told}
+use Rattle.kc_io.specs.Inputs.{InputFile, bytes_of, still_told}
 use Rattle.kc_conf.specs.Laws.{ExactlyOneOutcome}
 use Rattle.kc_conf.specs.PartRuns.{EndsSo, IsBrokenOff, LeavesPart, LeavesRun, StopsLines}
 use Rattle.kc_conf.specs.Reads.{IsReportStop, StopsInputs}
@@ -35,7 +35,7 @@ use Rattle.kc_language.specs.declared.outcome.Status.{Status}
 use Rattle.kc_conf.specs.declared.stop.Stop.{Stop}
 use Rattle.kc_conf.specs.declared.stop.Stop.TheVariants.{OutOfMemory, Failed}
 use Rattle.kc_conf.proofs.EndingLemmas.{beyond-nothing, cleared-report, delivers-same, stale-same}
-use Rattle.kc_conf.proofs.GivenLemmas.{AreInputs-before, AreInputs-later, AreReads-before, AreReads-later, ReadsUpTo-before, ReadsUpTo-later, inputs-exist, keeps-are_reads, reads-front}
+use Rattle.kc_conf.proofs.GivenLemmas.{AreInputs-before, AreInputs-later, AreReads-before, AreReads-later, ReadsUpTo-before, ReadsUpTo-later, first-of-reads, inputs-exist, keeps-are_reads}
 use Rattle.kc_conf.proofs.OutcomeLemmas.{diagnostics-reported, rule-warned, warned_if}
 use Rattle.kc_conf.proofs.PartLemmas.{AreLines-append, AreLines-nothing}
 use Rattle.kc_conf.proofs.PartOutcomes.{both-taken, texts-none}
@@ -82,10 +82,10 @@ module _ (before : TreeFacts → List ℕ) (files : Files) (options : Options) (
   broken-behind : {stop : Stop} {done : List Event} {front : List ℕ} → EndStops options waits part.refusal texts (still_told mid new) stop done front →
       Leads (done ++ event_of stop ++ clearing options stop) front mid new → IsBrokenOff files options before inputs part stop old new
   broken-behind (tail.in_diagnostics f front report name are_lines beyond) w =
-      let (left, split) = reads-front are in record {
+      record {
         done = events;
         front = said0 ++ front;
-        breaks = in_diagnostics f events left (said0 ++ front) report name split (AreLines-append said0 front lines are_lines)
+        breaks = in_diagnostics f events (said0 ++ front) report name (first-of-reads are) (AreLines-append said0 front lines are_lines)
             (Tells-first (λ journal. GoesBeyond (diagnostics_of part ++ stale_lines options (stale_texts options texts journal)) (said0 ++ front)) old mid new events
             (event_of (Failed f) ++ clearing options (Failed f)) said0 front keeps
             (λ j k same p. subst (λ (s : List NamedText). GoesBeyond (diagnostics_of part ++ stale_lines options s) (said0 ++ front)) (stale-same options.delivery texts j k same) p) h w
@@ -138,11 +138,11 @@ module _ (files : Files) (options : Options) (tree : TreeFacts) (accepted : IsAc
   stops-in (reading_stops.no_memory done left front split lines front_begins) =
       let (more, is) = begins in
       let (rest, is') = front_begins in
-      (no_memory done left front split lines (rest ++ more, is ∙ ap (λ l. l ++ more) is' ∙ append_assoc front rest more), refl)
+      (no_memory done front (of_accepted tree done left accepted named split) lines (rest ++ more, is ∙ ap (λ l. l ++ more) is' ∙ append_assoc front rest more), refl)
   stops-in (reading_stops.in_diagnostics f done left front report name split lines goes) =
       let (more, is) = begins in
       let (b, rest, is') = goes in (
-        in_diagnostics f done left front report name split lines
+        in_diagnostics f done front report name (of_accepted tree done left accepted named split) lines
             (λ journal e.
             let behind = part.refusal ++ stale_lines options (stale_texts options (texts_of options part) journal) in (
               b,
@@ -167,12 +167,12 @@ module _ (files : Files) (options : Options) (tree : TreeFacts) (accepted : IsAc
 
 -- ---- memory ran out
 
-pub IsBrokenOff-memory : (files : Files) (options : Options) (before : TreeFacts → List ℕ) (inputs : List InputFile) (outcome : Outcome) (old new : Log) (done left : List Event) (front : List ℕ) →
-    done ++ left ≡ reads inputs → AreLines front → BeginsWith outcome.warned front → Leads done front old new → IsBrokenOff files options before inputs outcome OutOfMemory old new
-IsBrokenOff-memory files options before inputs outcome old new done left front split lines begins log = record {
+pub IsBrokenOff-memory : (files : Files) (options : Options) (before : TreeFacts → List ℕ) (inputs : List InputFile) (outcome : Outcome) (old new : Log) (done : List Event) (front : List ℕ) →
+    AreFirstReads files options inputs done → AreLines front → BeginsWith outcome.warned front → Leads done front old new → IsBrokenOff files options before inputs outcome OutOfMemory old new
+IsBrokenOff-memory files options before inputs outcome old new done front first lines begins log = record {
   done = done;
   front = front;
-  breaks = no_memory done left front split lines begins;
+  breaks = no_memory done front first lines begins;
   log = leads_as done (done ++ [] ++ []) front old new (sym (append-nil done) ∙ sym (append-nil (done ++ []))) log;
 }
 
@@ -207,11 +207,11 @@ module _ (law : OneAnswer) (files : Files) (options : Options) (tree : TreeFacts
 
   breaks-told : {stop : Stop} {done : List Event} {front : List ℕ} (b : List Event) (t : List ℕ) → Leads b t mid new → Breaks files options nothing_said inputs part (still_told mid new) stop done front →
       Breaks files options said_of_tree inputs (reported told part) (still_told old new) stop done (told ++ front)
-  breaks-told b t w (no_memory done left front split lines begins) =
-      no_memory done left (told ++ front) split (AreLines-append told front told-lines lines)
+  breaks-told b t w (no_memory done front first lines begins) =
+      no_memory done (told ++ front) first (AreLines-append told front told-lines lines)
       (begins.0, ap (λ l. told ++ l) begins.1 ∙ sym (append_assoc told front begins.0))
-  breaks-told b t w (in_diagnostics f done left front report name split lines beyond) =
-      in_diagnostics f done left (told ++ front) report name split (AreLines-append told front told-lines lines)
+  breaks-told b t w (in_diagnostics f done front report name first lines beyond) =
+      in_diagnostics f done (told ++ front) report name first (AreLines-append told front told-lines lines)
       (Tells-first (λ journal. GoesBeyond (diagnostics_of (reported told part) ++ stale_lines options (stale_texts options made journal)) (told ++ front)) old mid new [] b told t refl
       (λ j k same p. subst (λ (s : List NamedText). GoesBeyond (diagnostics_of (reported told part) ++ stale_lines options s) (told ++ front)) (stale-same options.delivery made j k same) p) h w
       (Tells-weaker (λ journal. GoesBeyond (diagnostics_of part ++ stale_lines options (stale_texts options made journal)) front)
@@ -285,7 +285,7 @@ LeavesRun-memory outcomes files options old new log =
       are_inputs = are;
       outcome = outcome;
       is_outcome = is;
-      ends = IsBrokenOff-memory files options said_of_tree inputs outcome old new [] (reads inputs) [] refl AreLines-nothing (outcome.warned, refl) log;
+      ends = IsBrokenOff-memory files options said_of_tree inputs outcome old new [] [] nothing AreLines-nothing (outcome.warned, refl) log;
     }
 
 -- ---- the tree's warnings were not said
@@ -323,7 +323,7 @@ module _ (law : OneAnswer) (outcomes : ExactlyOneOutcome) (files : Files) (optio
         ends = record {
           done = [];
           front = [];
-          breaks = in_diagnostics f [] (reads inputs) [] report name refl AreLines-nothing
+          breaks = in_diagnostics f [] [] report name nothing AreLines-nothing
               (λ journal e.
               let more = stale_lines options (stale_texts options (texts_of options outcome) journal) in
               subst (λ l. GoesBeyond l [])
@@ -339,9 +339,9 @@ module _ (law : OneAnswer) (outcomes : ExactlyOneOutcome) (files : Files) (optio
 -- why it was broken off does not change when it is said
 pub breaks-later : (files : Files) (options : Options) (before : TreeFacts → List ℕ) (inputs : List InputFile) (outcome : Outcome) (more : List Event) (text : List ℕ) (old mid new : Log) → Leads more text mid new →
     {stop : Stop} {done : List Event} {front : List ℕ} → Breaks files options before inputs outcome (still_told old mid) stop done front → Breaks files options before inputs outcome (still_told old new) stop done front
-breaks-later files options before inputs outcome more text old mid new log (no_memory done left front split lines begins) = no_memory done left front split lines begins
-breaks-later files options before inputs outcome more text old mid new log (in_diagnostics f done left front report name split lines beyond) =
-    in_diagnostics f done left front report name split lines
+breaks-later files options before inputs outcome more text old mid new log (no_memory done front first lines begins) = no_memory done front first lines begins
+breaks-later files options before inputs outcome more text old mid new log (in_diagnostics f done front report name first lines beyond) =
+    in_diagnostics f done front report name first lines
     (Tells-later (λ journal. GoesBeyond (diagnostics_of outcome ++ stale_lines options (stale_texts options (texts_of options outcome) journal)) front) old mid new more text log beyond)
 breaks-later files options before inputs outcome more text old mid new log (in_input f tree file done front accepted named which name up_to) =
     in_input f tree file done front accepted named which name (ReadsUpTo-later old mid new more text log options tree inputs f.action file done front up_to)

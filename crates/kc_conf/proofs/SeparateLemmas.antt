@@ -28,7 +28,7 @@ use Rattle.kc_language.specs.declared.outcome.Delivery.TheVariants as delivered
 use Rattle.kc_language.specs.declared.outcome.Status.{Status}
 use Rattle.kc_conf.specs.declared.stop.Stop.{Stop}
 use Rattle.kc_conf.specs.declared.stop.Stop.TheVariants.{OutOfMemory, Failed}
-use Rattle.kc_conf.proofs.GivenLemmas.{keeps-are_reads, keeps-reads}
+use Rattle.kc_conf.proofs.GivenLemmas.{first-begin, keeps-are_reads, keeps-reads}
 use Rattle.kc_conf.specs.Many.{is_among, name_if, output_files, written_files}
 use Rattle.kc_conf.specs.PartsOfMany.{written_by}
 
@@ -219,8 +219,8 @@ module _ (name : List ℕ) where
     pass_reads done left e = pass_front done left (ap pass e ∙ keeps_pass (reads inputs) (keeps-reads inputs))
 
     pass_breaks : (before : TreeFacts → List ℕ) (old : Journal) (stop : Stop) (done : List Event) (front : List ℕ) → Breaks files options before inputs part (Some old) stop done front → pass done ≡ true
-    pass_breaks before old _ _ _ (no_memory done left front all lines begins) = pass_reads done left all
-    pass_breaks before old _ _ _ (in_diagnostics f done left front action named all lines more) = pass_reads done left all
+    pass_breaks before old _ _ _ (no_memory done front first lines begins) = let (left, all) = first-begin first in pass_reads done left all
+    pass_breaks before old _ _ _ (in_diagnostics f done front action named first lines more) = let (left, all) = first-begin first in pass_reads done left all
     pass_breaks before old _ _ _ (in_input f tree file done said_of_inputs accepted readable action named to) =
         ap pass to.done_is ∙ pass_both (reads (take to.i inputs)) (begun f.action file.name to.bytes) (keeps_pass (reads (take to.i inputs)) (keeps-reads (take to.i inputs))) (pass_begun action)
       where

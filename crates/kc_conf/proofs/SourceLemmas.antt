@@ -3,14 +3,14 @@ use Rattle.std.proofs.Common.{◌≡◌, ℕ, zero, suc, List, [], ◌∷◌, �
 use Rattle.std.specs.List.{flat_map}
 use Rattle.std.specs.Prelude.{All, if◌then◌else◌, option_map, slice_get}
 use Rattle.std.proofs.lemmas.List.Elements.{All-head, All-map, All-tail}
-use Rattle.kc_language.specs.ConfigFile.{UserInput}
+use Rattle.kc_language.specs.ConfigFile.{Notation, UserInput}
 use Rattle.kc_language.specs.Expansion.{Files, Log, names_of, numbered_lines}
 use Rattle.kc_language.specs.Expressions.{number_of}
 use Rattle.kc_language.specs.Explanations.{definition_comments, excerpt, new_text_with_help}
 use Rattle.kc_language.specs.Outcome.{Options, Outcome, warned_files}
 use Rattle.kc_language.specs.Statements.{Located, Named, Numbered, numbered, statements}
 use Rattle.kc_language.specs.Symbols.{TreeFacts, definitions_of, listed}
-use Rattle.kc_language.specs.Texts.{Solution, SolutionView, new_text, solution_view, symbol_config}
+use Rattle.kc_language.specs.Texts.{Solution, SolutionView, new_text, solution_view, symbol_new}
 use Rattle.kc_language.specs.declared.expressions.SymId.{SymId}
 
 each_same : {X Y : Type 0} (f g : X → List Y) (xs : List X) → ((x : X) → f x ≡ g x) → flat_map f xs ≡ flat_map g xs
@@ -19,10 +19,10 @@ each_same f g (x ∷ xs) same = ap (λ l. l ++ flat_map f xs) (same x) ∙ ap (�
 
 module _ (files others : Files) where
   abbrev Same : Located Numbered → Type 0
-  Same l = others l.file ≡ files l.file
+  Same l = others.bytes l.file ≡ files.bytes l.file
 
   -- the lines are of files that hold the same
-  numbered_same : (lines : List (Located Named)) → All (λ (l : Located Named). others l.file ≡ files l.file) lines → All Same (numbered_lines lines)
+  numbered_same : (lines : List (Located Named)) → All (λ (l : Located Named). others.bytes l.file ≡ files.bytes l.file) lines → All Same (numbered_lines lines)
   numbered_same lines same =
       All-map Same (λ (l : Located Named). let n : Located Numbered = record { file = l.file; line = l.line; statement = numbered (number_of (names_of (statements lines))) l.statement } in n) lines same
 
@@ -31,8 +31,8 @@ module _ (files others : Files) where
   excerpt_of bytes n = flat_map (λ line. codes "# " ++ line ++ codes "\n") (flat_map (λ bytes. excerpt bytes n) (listed bytes))
 
   comment_same : (lines : List (Located Numbered)) (i : ℕ) → All Same lines →
-      flat_map (λ (l : Located Numbered). codes "# " ++ l.file ++ codes ":" ++ decimal l.line ++ codes "\n" ++ excerpt_of (files l.file) l.line) (listed (slice_get lines i))
-      ≡ flat_map (λ (l : Located Numbered). codes "# " ++ l.file ++ codes ":" ++ decimal l.line ++ codes "\n" ++ excerpt_of (others l.file) l.line) (listed (slice_get lines i))
+      flat_map (λ (l : Located Numbered). codes "# " ++ l.file ++ codes ":" ++ decimal l.line ++ codes "\n" ++ excerpt_of (files.bytes l.file) l.line) (listed (slice_get lines i))
+      ≡ flat_map (λ (l : Located Numbered). codes "# " ++ l.file ++ codes ":" ++ decimal l.line ++ codes "\n" ++ excerpt_of (others.bytes l.file) l.line) (listed (slice_get lines i))
   comment_same [] i same = refl
   comment_same (l ∷ lines) zero same =
       ap (λ (bytes : Option (List ℕ)). (codes "# " ++ l.file ++ codes ":" ++ decimal l.line ++ codes "\n" ++ excerpt_of bytes l.line) ++ []) (sym (All-head Same l lines same))
@@ -43,10 +43,10 @@ module _ (files others : Files) where
     comments_same s =
         each_same _ _ (definitions_of (statements lines) s) (λ i. comment_same lines i same)
 
-    help_same : (tree : TreeFacts) (prefix : List ℕ) (view : SolutionView) → new_text_with_help files lines tree prefix view ≡ new_text_with_help others lines tree prefix view
+    help_same : (tree : TreeFacts) (prefix : Notation) (view : SolutionView) → new_text_with_help files lines tree prefix view ≡ new_text_with_help others lines tree prefix view
     help_same tree prefix view =
         each_same _ _ tree.defined
-        (λ s. ap (λ t. if view.is_new s then t ++ symbol_config tree prefix view s ++ codes "\n" else []) (comments_same s))
+        (λ s. ap (λ t. if view.is_new s then t ++ symbol_new tree prefix view s ++ codes "\n" else []) (comments_same s))
 
     pub warned_files-same : (options : Options) (tree : TreeFacts) (input : UserInput) (solution : Solution) →
         warned_files files options tree lines input solution ≡ warned_files others options tree lines input solution
@@ -56,5 +56,5 @@ module _ (files others : Files) where
         (help_same tree options.prefix (solution_view solution))
 
 -- the files of the lines of a log hold the same
-pub lines-same : (files others : Files) (log : Log) → All (λ (l : Located Named). others l.file ≡ files l.file) log.lines → All (λ (l : Located Numbered). others l.file ≡ files l.file) (numbered_lines log.lines)
+pub lines-same : (files others : Files) (log : Log) → All (λ (l : Located Named). others.bytes l.file ≡ files.bytes l.file) log.lines → All (λ (l : Located Numbered). others.bytes l.file ≡ files.bytes l.file) (numbered_lines log.lines)
 lines-same files others log same = numbered_same files others log.lines same

@@ -1,5 +1,5 @@
 -- That --strict lets no line pass that was not taken as written.
-use Rattle.std.proofs.Common.{◌≡◌, ℕ, zero, suc, ◌<◌, Bool, true, false, true≢false, List, [], ◌∷◌, ◌++◌, length, Some, None, refl, sym, ap, subst, ◌∙◌, arith, eqb}
+use Rattle.std.proofs.Common.{◌≡◌, ◌≢◌, ℕ, zero, suc, ◌<◌, Bool, true, false, true≢false, List, [], ◌∷◌, ◌++◌, length, Some, None, refl, sym, ap, subst, ◌∙◌, arith, eqb}
 use Rattle.std.specs.Prelude.{is_some, not, ◌&&◌, ◌||◌, ◌==◌, replicate, slice_index_or, if◌then◌else◌}
 use Rattle.std.specs.List.{Contains, list_any}
 use Rattle.std.proofs.Math.Dec.{eqb-suc-zero}
@@ -7,20 +7,20 @@ use Rattle.std.proofs.lemmas.Bool.{eqb-false, eqb-true}
 use Rattle.std.proofs.lemmas.List.{get_or-set_same, get_or-set_other, length-replicate}
 use Rattle.std.proofs.lemmas.Option.{slice_get_within}
 use Rattle.kc_language.specs.declared.expressions.SymId.{SymId}
+use Rattle.kc_language.specs.declared.expressions.SymbolType.TheVariants.{Undefined}
 use Rattle.kc_language.specs.Expansion.{Files}
 use Rattle.kc_tree.specs.TreeFacts.{IsWellFormed}
-use Rattle.kc_language.specs.Symbols.{SymbolFacts, TreeFacts}
+use Rattle.kc_language.specs.Symbols.{SymbolFacts, TreeFacts, Warning}
 use Rattle.kc_build.specs.Trees.{TreesAreWellFormed}
 use Rattle.kc_language.specs.Values.{GivenValue, SymbolPlace, same_given, given_of, facts}
-use Rattle.kc_language.specs.ConfigFile.{ArePlacesOf, Places, place_at, StreamLocation, is_change, Effect, Silent, Warns, Assigns, Line, UserInput, effect, input_after, lines_of, places_after, stream_location, untaken, untaken_line, is_taken as is_taken_by}
-use Rattle.kc_language.specs.Texts.{Solution, known, value_warnings, solution_view, config_text, has_prompt, lost_lines}
+use Rattle.kc_language.specs.{ConfigFile.{ArePlacesOf, Assigns, Effect, Line, Notation, Places, Silent, StreamLocation, UserInput, Warns, effect, input_after, is_change, is_reported, is_taken as is_taken_by, lines_of, meaning, place_at, places_after, stream_location, untaken, untaken_line}, Texts.{Solution, known, lost_lines, value_warnings}}
 use Rattle.kc_config_file.specs.ReadingLaws.{LinesGiveInTurn, LinesInTurn}
-use Rattle.kc_conf.proofs.OutcomeLemmas.{text_if_is}
+use Rattle.kc_conf.proofs.{EffectLemmas.{assigned_typed, effect_is, silent_says}, RerunLemmas.{has_its_texts}}
 use Rattle.kc_language.specs.Outcome.{Options, Outcome, names_of, read_of, root_file, streams, is_outside, lost_warnings, refuses_input}
 use Rattle.kc_conf.specs.PartsOfOutcome.{is_taken}
 use Rattle.kc_language.specs.Outcome.{fresh_input}
-use Rattle.kc_conf.specs.Laws.{RefusesNothing, WrittenAreWhole, IsTakenAsWritten, StrictTakesAll}
-use Rattle.kc_conf.proofs.AccountedLemmas.{given_is, some_prompts, input_is, lost_if, line_in, no_line, number_of, places_are, same_symbol, value_in}
+use Rattle.kc_conf.proofs.{AccountedLemmas.{given_is, input_is, line_in, lost_if, no_line, number_of, places_are, same_symbol, value_in}}
+use Rattle.kc_conf.specs.{Laws.{DoneAreWhole, IsTakenAsWritten, RefusesNothing, StrictTakesAll}}
 
 -- ---- lists and truths
 
@@ -54,10 +54,10 @@ not_is_true false e = refl
 
 -- ---- lines
 
-module _ (tree : TreeFacts) (prefix : List ℕ) where
+module _ (tree : TreeFacts) (prefix : Notation) where
   -- each line was taken, given what was given before it
   abbrev pub AllTaken : UserInput → List Line → Type 0
-  AllTaken p lines = untaken tree prefix p.places lines ≡ []
+  AllTaken p lines = untaken tree prefix p.asks_unset p.places lines ≡ []
 
   module _ (s : SymId) (given : GivenValue) where
     -- each of these lines that gives the symbol a value gives it this one
@@ -73,29 +73,30 @@ module _ (asked : Bool) where
   abbrev Fits : UserInput → SymId → Type 0
   Fits p s = (s.0 < length p.places.symbols) × (asked ≡ true → s.0 < length p.lines)
 
-module _ (tree : TreeFacts) (prefix : List ℕ) (turn : LinesInTurn tree prefix) (asked : Bool) where
+module _ (tree : TreeFacts) (prefix : Notation) (turn : LinesInTurn tree prefix) (asked : Bool) where
   untaken-cons : (p : UserInput) (l : Line) (later : List Line) →
-      untaken tree prefix p.places (l ∷ later) ≡ untaken_line tree prefix p.places l ++ untaken tree prefix (places_after tree prefix p.places (l ∷ [])) later
+      untaken tree prefix p.asks_unset p.places (l ∷ later)
+      ≡ untaken_line tree prefix p.asks_unset p.places l ++ untaken tree prefix p.asks_unset (places_after tree prefix p.places (l ∷ [])) later
   untaken-cons p l later =
-      turn.add_up.are_untaken p.places (l ∷ []) later
-      ∙ ap (λ (ls : List Line). ls ++ untaken tree prefix (places_after tree prefix p.places (l ∷ [])) later) (turn.add_up.one_untaken p.places l)
+      turn.add_up.are_untaken p.asks_unset p.places (l ∷ []) later
+      ∙ ap (λ (ls : List Line). ls ++ untaken tree prefix p.asks_unset (places_after tree prefix p.places (l ∷ [])) later) (turn.add_up.one_untaken p.asks_unset p.places l)
 
-  taken_here : (p : UserInput) (l : Line) (later : List Line) (e : Effect) → effect tree prefix l ≡ e → AllTaken tree prefix p (l ∷ later) → is_taken_by p.places e ≡ true
+  taken_here : (p : UserInput) (l : Line) (later : List Line) (e : Effect) → effect tree prefix l ≡ e → AllTaken tree prefix p (l ∷ later) → is_taken_by p.asks_unset p.places e ≡ true
   unfolding untaken_line
-  taken_here p l later e is none = by (is_taken_by p.places e) refl
+  taken_here p l later e is none = by (is_taken_by p.asks_unset p.places e) refl
     where
-      line_is : untaken_line tree prefix p.places l ≡ []
-      line_is = first_nothing (untaken_line tree prefix p.places l) (untaken tree prefix (places_after tree prefix p.places (l ∷ [])) later) (sym (untaken-cons p l later) ∙ none)
+      line_is : untaken_line tree prefix p.asks_unset p.places l ≡ []
+      line_is = first_nothing (untaken_line tree prefix p.asks_unset p.places l) (untaken tree prefix p.asks_unset (places_after tree prefix p.places (l ∷ [])) later) (sym (untaken-cons p l later) ∙ none)
 
-      by : (b : Bool) → is_taken_by p.places e ≡ b → is_taken_by p.places e ≡ true
+      by : (b : Bool) → is_taken_by p.asks_unset p.places e ≡ b → is_taken_by p.asks_unset p.places e ≡ true
       by true t = t
       by false t =
-          let listed : untaken_line tree prefix p.places l ≡ l ∷ [] = ap (λ x. if is_taken_by p.places x then [] else l ∷ []) is ∙ ap (λ b. if b then [] else l ∷ []) t in
+          let listed : untaken_line tree prefix p.asks_unset p.places l ≡ l ∷ [] = ap (λ x. if is_taken_by p.asks_unset p.places x then [] else l ∷ []) is ∙ ap (λ b. if b then [] else l ∷ []) t in
           absurd (let clash : l ∷ [] ≡ [] = sym listed ∙ line_is in cc)
 
   taken_later : (p : UserInput) (l : Line) (later : List Line) → AllTaken tree prefix p (l ∷ later) → AllTaken tree prefix (input_after tree prefix p (l ∷ [])) later
   taken_later p l later none =
-      second_nothing (untaken_line tree prefix p.places l) (untaken tree prefix (places_after tree prefix p.places (l ∷ [])) later) (sym (untaken-cons p l later) ∙ none)
+      second_nothing (untaken_line tree prefix p.asks_unset p.places l) (untaken tree prefix p.asks_unset (places_after tree prefix p.places (l ∷ [])) later) (sym (untaken-cons p l later) ∙ none)
 
   assigned_keeps : (p : UserInput) (l : Line) (s : SymId) (given : GivenValue) → effect tree prefix l ≡ Assigns s given → Fits asked p s → Keeps asked (input_after tree prefix p (l ∷ [])) s given
   assigned_keeps p l s given is fits = (
@@ -114,6 +115,14 @@ module _ (tree : TreeFacts) (prefix : List ℕ) (turn : LinesInTurn tree prefix)
   quiet_keeps : (p : UserInput) (l : Line) (s : SymId) (given : GivenValue) → effect tree prefix l ≡ Silent → Keeps asked p s given → Keeps asked (input_after tree prefix p (l ∷ [])) s given
   quiet_keeps p l s given is keeps =
       let here = turn.says.silent p l is in (
+        ap (λ (q : UserInput). value_in s.0 q.places.symbols) here ∙ keeps.0,
+        λ on. let (at, by_line) = keeps.1 on in (at, ap (λ (q : UserInput). line_in s.0 q.lines) here ∙ by_line),
+      )
+
+  warned_keeps : (p : UserInput) (l : Line) (line_warning : Warning) (s : SymId) (given : GivenValue) → effect tree prefix l ≡ Warns line_warning → Keeps asked p s given →
+      Keeps asked (input_after tree prefix p (l ∷ [])) s given
+  warned_keeps p l line_warning s given is keeps =
+      let here = turn.says.warned p l line_warning is in (
         ap (λ (q : UserInput). value_in s.0 q.places.symbols) here ∙ keeps.0,
         λ on. let (at, by_line) = keeps.1 on in (at, ap (λ (q : UserInput). line_in s.0 q.lines) here ∙ by_line),
       )
@@ -164,7 +173,7 @@ module _ (tree : TreeFacts) (prefix : List ℕ) (turn : LinesInTurn tree prefix)
 
         by : (e : Effect) → effect tree prefix l ≡ e → GiveThis tree prefix s given (l ∷ lines) × Keeps asked (input_after tree prefix p (l ∷ lines)) s given
         by Silent is = on (λ g sets. absurd (let clash : Silent ≡ Assigns s g = sym is ∙ sets in cc)) (quiet_keeps p l s given is keeps)
-        by (Warns line_warning) is = absurd (true≢false (sym (taken_here p l lines (Warns line_warning) is none)))
+        by (Warns line_warning) is = on (λ g sets. absurd (let clash : Warns line_warning ≡ Assigns s g = sym is ∙ sets in cc)) (warned_keeps p l line_warning s given is keeps)
         by (Assigns t other) is = same_or t other is (eqb t.0 s.0) refl
 
     -- lines that are all taken keep the value
@@ -182,7 +191,7 @@ module _ (files : Files) (options : Options) (all : List (List ℕ)) (tree : Tre
   abbrev lines : List Line
   lines = lines_of (streams (names_of options) all)
 
-  abbrev prefix : List ℕ
+  abbrev prefix : Notation
   prefix = options.prefix
 
   abbrev empty : UserInput
@@ -206,16 +215,16 @@ module _ (files : Files) (options : Options) (all : List (List ℕ)) (tree : Tre
       (and_left (not (list_any is_outside (value_warnings solution))) (length (lost_warnings options last solution) == 0)
       (and_right last.all_taken (not (list_any is_outside (value_warnings solution)) && (length (lost_warnings options last solution) == 0)) all_is_taken))
 
-  none_lost : options.warn_lost ≡ true → lost_lines last.lines solution ≡ []
+  none_lost : options.warn_lost ≡ true → lost_lines options.prefix.is_raw last.lines solution ≡ []
   none_lost asked =
-      sym (ap (λ b. if b then lost_lines last.lines solution else []) asked)
+      sym (ap (λ b. if b then lost_lines options.prefix.is_raw last.lines solution else []) asked)
       ∙ nothing_left (lost_warnings options last solution)
       (and_right (not (list_any is_outside (value_warnings solution))) (length (lost_warnings options last solution) == 0)
       (and_right last.all_taken (not (list_any is_outside (value_warnings solution)) && (length (lost_warnings options last solution) == 0)) all_is_taken))
 
-  none_untaken : untaken tree prefix empty.places lines ≡ []
+  none_untaken : untaken tree prefix empty.asks_unset empty.places lines ≡ []
   none_untaken =
-      nothing_left (untaken tree prefix empty.places lines)
+      nothing_left (untaken tree prefix empty.asks_unset empty.places lines)
       (and_left last.all_taken (not (list_any is_outside (value_warnings solution)) && (length (lost_warnings options last solution) == 0)) all_is_taken)
 
   module _ (before later : List Line) (l : Line) (split : lines ≡ before ++ l ∷ later) where
@@ -224,13 +233,13 @@ module _ (files : Files) (options : Options) (all : List (List ℕ)) (tree : Tre
 
     from_here : AllTaken tree prefix here (l ∷ later)
     from_here =
-        second_nothing (untaken tree prefix empty.places before) (untaken tree prefix (places_after tree prefix empty.places before) (l ∷ later))
-        (sym (turn.add_up.are_untaken empty.places before (l ∷ later)) ∙ ap (untaken tree prefix empty.places) (sym split) ∙ none_untaken)
+        second_nothing (untaken tree prefix empty.asks_unset empty.places before) (untaken tree prefix empty.asks_unset (places_after tree prefix empty.places before) (l ∷ later))
+        (sym (turn.add_up.are_untaken empty.asks_unset empty.places before (l ∷ later)) ∙ ap (untaken tree prefix empty.asks_unset empty.places) (sym split) ∙ none_untaken)
 
     counts : ArePlacesOf tree here.places
     counts = turn.counts.places empty before (record { symbols = length-replicate (length tree.symbols) None; choices = length-replicate (length tree.choices) None })
 
-    module _ (s : SymId) (given : GivenValue) (assigns : effect tree prefix l ≡ Assigns s given) (f : SymbolFacts) (defined : facts tree s ≡ Some f) where
+    module _ (s : SymId) (given : GivenValue) (assigns : effect tree prefix l ≡ Assigns s given) (f : SymbolFacts) (defined : facts tree s ≡ Some f) (typed : f.symbol_type ≢ Undefined) where
       within : s.0 < length tree.symbols
       within = slice_get_within tree.symbols s.0 f defined
 
@@ -252,32 +261,32 @@ module _ (files : Files) (options : Options) (all : List (List ℕ)) (tree : Tre
       at_end =
           ap (input_after tree prefix empty) split ∙ turn.add_up.leave empty before (l ∷ later) ∙ turn.add_up.leave here (l ∷ []) later
 
-      value_is : options.warn_lost ≡ true → has_prompt f.prompts ≡ true → given ≡ given_of (known solution s)
-      value_is asked prompted =
+      value_is : options.warn_lost ≡ true → given ≡ given_of (known solution s)
+      value_is asked =
           let (at, by_line) = after.1.1 (ap (λ b. b || is_some options.explanation) asked) in
-          lost_if last.lines solution s f given at (subst (λ (t : TreeFacts). facts t s ≡ Some f) (sym is_whole.solution_is.tree_is) defined)
-          (subst (λ (t : TreeFacts). Contains t.defined s) (sym is_whole.solution_is.tree_is) (formed.prompted_defined s f defined (some_prompts f.prompts prompted))) prompted
+          lost_if options.prefix.is_raw last.lines solution s f given at (subst (λ (t : TreeFacts). facts t s ≡ Some f) (sym is_whole.solution_is.tree_is) defined)
+          (subst (λ (t : TreeFacts). Contains t.defined s) (sym is_whole.solution_is.tree_is) (formed.typed_defined s f defined typed))
           (ap (λ (q : Places). place_at q (SymbolPlace s.0)) (places_are files options all tree solution is_whole) ∙ ap (λ (q : UserInput). place_at q.places (SymbolPlace s.0)) at_end ∙ after.1.0)
           (ap (λ (q : UserInput). slice_index_or q.lines s.0 None) at_end ∙ by_line) (none_lost asked)
 
-    is_taken_as_written : IsTakenAsWritten tree prefix options.warn_lost solution later (effect tree prefix l)
+    is_taken_as_written : IsTakenAsWritten tree prefix options.warn_lost solution l later (effect tree prefix l)
     is_taken_as_written = by (effect tree prefix l) refl
       where
-        by : (e : Effect) → effect tree prefix l ≡ e → IsTakenAsWritten tree prefix options.warn_lost solution later e
-        by Silent is = tt
-        by (Warns line_warning) is = true≢false (sym (taken_here tree prefix turn keeps_lines here l later (Warns line_warning) is from_here))
-        by (Assigns s given) is = λ f defined. ((after s given is f defined).0, value_is s given is f defined)
+        by : (e : Effect) → effect tree prefix l ≡ e → IsTakenAsWritten tree prefix options.warn_lost solution l later e
+        by Silent is = silent_says prefix.is_raw tree (meaning tree prefix l) (effect_is tree prefix l ∙ is)
+        by (Warns line_warning) is =
+            not_is_true (is_reported options.warn_lost line_warning) (taken_here tree prefix turn keeps_lines here l later (Warns line_warning) is from_here)
+        by (Assigns s given) is =
+            let (f, defined, typed) = assigned_typed prefix.is_raw tree (meaning tree prefix l) s given (effect_is tree prefix l ∙ is) in
+            ((after s given is f defined typed).0, value_is s given is f defined typed)
 
-pub strict_takes_all : TreesAreWellFormed → WrittenAreWhole → LinesGiveInTurn → StrictTakesAll
-strict_takes_all trees written turns files options all outcome text is_outcome there strict =
-    let (tree, solution, is_whole, (opened, are, log, expands, is), passed) = written files options all outcome text is_outcome there in
-    let text_is : text ≡ config_text tree options.prefix (solution_view solution) =
-    sym (text_if_is options.out _ text (sym (ap (λ (o : Outcome). o.config) is) ∙ there))
-    in (
+pub strict_takes_all : TreesAreWellFormed → DoneAreWhole → LinesGiveInTurn → StrictTakesAll
+strict_takes_all trees wholes turns files options all outcome is_outcome done strict =
+    let (tree, solution, is_whole, (opened, are, log, expands, is), passed) = wholes files options all outcome is_outcome done in (
       tree,
       solution,
       is_whole,
-      text_is,
+      has_its_texts files options all outcome tree solution opened log is,
       none_outside files options all tree solution is_whole (trees files (root_file options) tree is_whole.accepted.built) (turns tree options.prefix) strict passed,
       is_taken_as_written files options all tree solution is_whole (trees files (root_file options) tree is_whole.accepted.built) (turns tree options.prefix) strict passed,
     )

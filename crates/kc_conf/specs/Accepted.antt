@@ -1,9 +1,10 @@
 -- For proofs: A tree that was read, and one that was accepted.
+use Rattle.kc_read.specs.Files.{files_in}
 use Rattle.std.specs.Borrow.{Bor}
 use Rattle.std.specs.Prelude.{◌≡◌, ◌≢◌, ℕ, Bool, false, List, Option, None, Some, Result, Ok, Err, IfOk, IfErr}
 use Rattle.kc_language.specs.Statements.{Located, Numbered}
 use Rattle.kc_language.specs.Symbols.{IsTreeOf}
-use Rattle.kc_language.specs.Expansion.{AreOpened, Expands, Files, Log, bytes_in, numbered_lines}
+use Rattle.kc_language.specs.Expansion.{AreOpened, Expands, Files, Log, numbered_lines}
 use Rattle.kc_read.specs.Entries.{lines_in}
 use Rattle.kc_read.specs.RefusalView.{refusal_view}
 use Rattle.kc_language.specs.declared.diagnostics.Cause.TheVariants.{Memory}
@@ -17,7 +18,7 @@ use Rattle.kc_conf.specs.declared.accepted.TreeSources.{TreeSources}
 
 -- the files of a tree, and its lines
 abbrev pub IsSources : Files → List (Located Numbered) → TreeSources → Type 0
-IsSources files lines sources = (bytes_in sources.files ≡ files) × (lines_in sources.entries ≡ lines)
+IsSources files lines sources = (files_in sources.files ≡ files) × (lines_in sources.entries ≡ lines)
 
 -- they were kept, or were not to be
 abbrev pub AreKept : Files → List (Located Numbered) → Bool → Option TreeSources → Type 0

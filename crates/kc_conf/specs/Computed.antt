@@ -1,12 +1,13 @@
 -- For proofs: What follows from the user's input.
+use Rattle.kc_read.specs.Files.{files_in}
 use Rattle.std.specs.Borrow.{Bor}
-use Rattle.std.specs.Prelude.{◌≡◌, ℕ, Bool, ◌||◌, ◌&&◌, if◌then◌else◌, List, [], ◌++◌, codes, flat_map, map, Option, None, Some, option_map}
-use Rattle.kc_language.specs.Expansion.{Files, bytes_in}
+use Rattle.std.specs.Prelude.{◌≡◌, ℕ, Bool, false, ◌||◌, ◌&&◌, if◌then◌else◌, List, [], ◌++◌, codes, flat_map, map, Option, None, Some, option_map}
+use Rattle.kc_language.specs.Expansion.{Files}
 use Rattle.kc_language.specs.Explanations.{explanation_text, new_text_with_help}
 use Rattle.kc_language.specs.Statements.{Located, Numbered}
 use Rattle.kc_language.specs.Symbols.{TreeFacts}
 use Rattle.kc_language.specs.Texts.{Solution, SolutionView, lost_at, new_text, solution_view, warnings}
-use Rattle.kc_language.specs.ConfigFile.{UserInput}
+use Rattle.kc_language.specs.ConfigFile.{Notation, UserInput}
 use Rattle.kc_io.specs.Delivery.{NamedText}
 use Rattle.kc_language.specs.Outcome.{Options, rule_text, lead, target, IsSolutionFor, Outcome, explained_text, has_text, lines_text, lost_text, lost_warnings, refuses_input}
 use Rattle.kc_read.specs.Entries.{lines_in}
@@ -19,10 +20,14 @@ abbrev pub ruled_files : Files → Options → TreeFacts → List (Located Numbe
 ruled_files files options tree lines input solution names =
     record (files_of files options tree lines input solution) { depfile = option_map (rule_text (target options)) names }
 
+-- what each line of such an explanation begins with
+abbrev pub explanation_lead : Options → List ℕ
+explanation_lead options = lead options ++ codes "  "
+
 -- the lines of the values that are lost, each with the explanation of its symbol
-abbrev pub explained_lost : List (Located Numbered) → UserInput → Solution → List ℕ
-explained_lost lines input solution = flat_map (λ s. flat_map (λ line. line ++ codes "\n" ++ explanation_text lines solution input (codes "  ") 1 s)
-    (lost_at input.lines solution s)) solution.tree.defined
+abbrev pub explained_lost : Bool → List ℕ → List (Located Numbered) → UserInput → Solution → List ℕ
+explained_lost is_raw front lines input solution = flat_map (λ s. flat_map (λ line. line ++ codes "\n" ++ explanation_text lines solution input is_raw front 1 s)
+    (lost_at is_raw input.lines solution s)) solution.tree.defined
 
 -- the sources, where they are wanted
 abbrev pub sources_if : Bool → Option (Bor TreeSources) → Option (Bor TreeSources)
@@ -31,11 +36,11 @@ sources_if wanted sources = if wanted then sources else None
 -- what is told of lost values, of new symbols and of the symbols that are asked for, by the sources that are wanted for it
 abbrev pub lost_by : Option (Bor TreeSources) → Options → UserInput → Solution → List ℕ
 lost_by None options input solution = lines_text (lost_warnings options input solution)
-lost_by (Some sources) options input solution = explained_lost (lines_in sources.now.entries) input solution
+lost_by (Some sources) options input solution = explained_lost options.prefix.is_raw (explanation_lead options) (lines_in sources.now.entries) input solution
 
-abbrev pub new_by : Option (Bor TreeSources) → TreeFacts → List ℕ → SolutionView → List ℕ
+abbrev pub new_by : Option (Bor TreeSources) → TreeFacts → Notation → SolutionView → List ℕ
 new_by None tree prefix view = new_text tree prefix view
-new_by (Some sources) tree prefix view = new_text_with_help (bytes_in sources.now.files) (lines_in sources.now.entries) tree prefix view
+new_by (Some sources) tree prefix view = new_text_with_help (files_in sources.now.files) (lines_in sources.now.entries) tree prefix view
 
 abbrev pub explained_by : Option (Bor TreeSources) → Options → UserInput → Solution → Option (List ℕ)
 explained_by None options input solution = None
@@ -47,9 +52,13 @@ lost_from options sources input solution = lost_by (sources_if (options.explain_
 abbrev pub new_from : Options → Option (Bor TreeSources) → Solution → List ℕ
 new_from options sources solution = new_by (sources_if options.with_help sources) solution.tree options.prefix (solution_view solution)
 
+-- a map without files
+abbrev no_files : Files
+no_files = record { bytes = λ file. None; flat = false }
+
 -- the files of a solution, made of these sources
 abbrev pub files_from : Options → Option (Bor TreeSources) → UserInput → Solution → Option (List (List ℕ)) → Outcome
-files_from options sources input solution names = record (files_of (λ file. None) options solution.tree [] input solution) {
+files_from options sources input solution names = record (files_of no_files options solution.tree [] input solution) {
   list_new = text_if options.list_new (new_from options sources solution);
   depfile = option_map (rule_text (target options)) names;
   explanation = explained_by sources options input solution;

@@ -97,16 +97,23 @@ pub record Completes (files : Files) (options : Options) (inputs : List InputFil
   pub status_is : status ≡ status_with stale outcome.status
   pub only_checked : (stale ≡ []) ⊎ ((options.delivery ≡ Delivery.Check) × (outcome.status ≡ Status.Done))
 
+-- What was read when memory ran out or the diagnostics failed: nothing for a tree or a name that is refused; else the first reads of the input files,
+-- or nothing.
+pub data AreFirstReads (files : Files) (options : Options) (inputs : List InputFile) : List Event → Type 0 where
+  nothing : AreFirstReads files options inputs []
+  of_accepted : (tree : TreeFacts) (done left : List Event) → IsAcceptedTree files (root_file options) tree → NamesAreTaken files options →
+      done ++ left ≡ reads inputs → AreFirstReads files options inputs done
+
 -- Why a run with this outcome was broken off, what was done until then and what was reported. (`before` is what is reported of the tree before
 -- anything is read, and `told` what the device recorded at first.)
 pub data Breaks (files : Files) (options : Options) (before : TreeFacts → List ℕ) (inputs : List InputFile) (outcome : Outcome) (told : Log) :
     Stop → List Event → List ℕ → Type 0 where
   -- It ran out of memory before any text was delivered. Whole lines were reported.
-  no_memory : (done left : List Event) (front : List ℕ) → done ++ left ≡ reads inputs → AreLines front → BeginsWith outcome.warned front →
+  no_memory : (done : List Event) (front : List ℕ) → AreFirstReads files options inputs done → AreLines front → BeginsWith outcome.warned front →
       Breaks files options before inputs outcome told Stop.OutOfMemory done front
   -- The diagnostics failed. Whole lines were reported, and more were to come.
-  in_diagnostics : (f : Failure) (done left : List Event) (front : List ℕ) → f.action ≡ Report → f.name.now ≡ [] →
-      done ++ left ≡ reads inputs → AreLines front → Tells told (λ journal.
+  in_diagnostics : (f : Failure) (done : List Event) (front : List ℕ) → f.action ≡ Report → f.name.now ≡ [] →
+      AreFirstReads files options inputs done → AreLines front → Tells told (λ journal.
       GoesBeyond (diagnostics_of outcome ++ stale_lines options (stale_texts options (texts_of options outcome) journal)) front) →
       Breaks files options before inputs outcome told (Stop.Failed f) done front
   -- An input file could not be opened or read on.
@@ -145,7 +152,7 @@ abbrev pub load_line : LoadFault → List ℕ
 load_line fault = elim fault [ LoadFault.CannotRead name ↦ cannot_read_line name.items | LoadFault.Memory ↦ out_of_memory_line ]
 
 pub data FolderRuns (options : Options) (folder folder_after : Option FolderState) (old new : Log) (status : Status) : Type 0 where
-  loaded : (files : Files) → AreFilesOf (files_told folder_after) (string_bytes options.root) files → FolderLeads [] folder folder_after →
+  loaded : (files : Files) → AreFilesOf (files_told folder_after) (string_bytes options.root) (root_file options) options.is_flat files → FolderLeads [] folder folder_after →
       Runs files options old new status → FolderRuns options folder folder_after old new status
   unloaded : (fault : LoadFault) → IsLoadFault (files_told folder_after) (string_bytes options.root) (root_file options) fault →
       FolderLeads (failed_load {A = Unit {0}} (string_bytes options.root) (Err fault)) folder folder_after → TriesToSay (load_line fault) old new →

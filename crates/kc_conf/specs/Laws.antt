@@ -1,7 +1,7 @@
 -- Trusted: The laws of outcomes: there is exactly one, its texts give the values back, no line is lost, and --strict passes only lines taken as written.
 -- Our own. Each law is the contract of a function that does nothing (src/laws.rt).
-use Rattle.std.specs.{List.list_any, Prelude.{◌≡◌, ◌⊎◌, ℕ, Bool, true, false, All, Contains, List, [], ◌∷◌, ◌++◌, Ok, Some, None, is_some}}
-use Rattle.kc_language.specs.{ConfigFile.{Assigns, Effect, Line, Silent, Warns, effect, is_prefix, lines_of, value_text, warning_line}, Expansion.{AreOpened, Expands, Files, Log, Refused, numbered_lines}, Symbols.{SymbolFacts, TreeFacts}, Texts.{ConfigGivesBack, HasShortLines, MinimalGivesBack, MinimalNeedsEach, Solution, config_text, has_prompt, known, minimal_text, solution_view, value_of, value_warnings}, Values.{GivenValue, facts, given_of, name, same_given}, Outcome.{IsAcceptedTree, IsOutcome, IsRefusedTree, IsSolutionFor, Options, Outcome, is_outside, lines_text, names_of, read_of, refuses_input, reported, root_file, streams, warned_files, with_rule}, declared.{diagnostics.Warning.TheVariants.{Changed, Lost, SetAgain}, expressions.{SymId.SymId, SymbolType.SymbolType}}}
+use Rattle.kc_language.specs.{ConfigFile.{Assigns, Effect, Line, Notation, Nothing, Silent, StreamLocation, Warns, effect, is_prefix, is_reported, lines_of, meaning, plain_location, stream_location, value_text, warning_line}, Expansion.{AreOpened, Expands, Files, Log, Refused, numbered_lines}, Outcome.{IsAcceptedTree, IsOutcome, IsRefusedTree, IsSolutionFor, Options, Outcome, is_outside, lead, lines_text, names_of, read_of, refuses_input, reported, root_file, streams, warned_files, with_rule}, Symbols.{SymbolFacts, TreeFacts}, Texts.{ConfigGivesBack, HasShortLines, MinimalGivesBack, MinimalNeedsEach, Solution, config_text, has_prompt, header_text, known, lost_warning, minimal_text, solution_view, value_of, value_warnings}, Values.{GivenValue, facts, given_of, name, same_given}, declared.{diagnostics.{Warning.{TheVariants.{Changed, SetAgain}}}, expressions.{SymId.{SymId}, SymbolType.{SymbolType}}, outcome.{Status.{Status}}}}
+use Rattle.std.specs.{List.{list_any}, Prelude.{All, Bool, Contains, List, None, Ok, Some, [], false, option_map, true, ℕ, ◌++◌, ◌∷◌, ◌≡◌, ◌⊎◌}}
 use Rattle.kc_conf.specs.Faults.{AreLines, NamesAreTaken, diagnostics_of}
 
 -- ---- There is exactly one outcome
@@ -29,10 +29,16 @@ pub record RefusesNothing (files : Files) (options : Options) (all : List (List 
   pub read_whole : (read_of options tree all).stopped ≡ None
   pub solution_is : IsSolutionFor tree (read_of options tree all).input.places solution
 
--- An outcome with a .config is that of a run that refuses nothing, and all its texts are those of the values.
-abbrev pub WrittenAreWhole : Type 0
-WrittenAreWhole = (files : Files) (options : Options) (all : List (List ℕ)) (outcome : Outcome) (text : List ℕ) →
-    IsOutcome files options all outcome → outcome.config ≡ Some text →
+-- The `.config`, the header and the minimal file, if they are wanted, are the texts of this solution.
+pub record HasItsTexts (options : Options) (tree : TreeFacts) (solution : Solution) (outcome : Outcome) : Type 0 where
+  pub config : outcome.config ≡ option_map (λ file. config_text tree options.prefix (solution_view solution)) options.out
+  pub header : outcome.header ≡ option_map (λ file. header_text tree options.prefix (solution_view solution)) options.header
+  pub minimal : outcome.minimal ≡ option_map (λ file. minimal_text tree options.prefix (solution_view solution)) options.minimal
+
+-- An outcome of status Done is that of a run that refuses nothing, and all its texts are those of the values.
+abbrev pub DoneAreWhole : Type 0
+DoneAreWhole = (files : Files) (options : Options) (all : List (List ℕ)) (outcome : Outcome) →
+    IsOutcome files options all outcome → outcome.status ≡ Status.Done →
     (tree : TreeFacts) × (solution : Solution) × RefusesNothing files options all tree solution
     × ((opened : List (List ℕ)) × AreOpened files (root_file options) opened × (log : Log) × Expands files (root_file options) (Ok log)
     × (outcome ≡ with_rule options opened (reported (lines_text tree.warnings)
@@ -43,83 +49,94 @@ WrittenAreWhole = (files : Files) (options : Options) (all : List (List ℕ)) (o
 -- left out it does not. The .config gives them back exactly where `ConfigGivesBack` says. No line of them is too long to be read again.
 abbrev pub TextsAreReadAgain : Type 0
 TextsAreReadAgain = (files : Files) (options : Options) (all : List (List ℕ)) (tree : TreeFacts) (solution : Solution) →
-    is_prefix options.prefix ≡ true → RefusesNothing files options all tree solution →
+    is_prefix options.prefix.prefix ≡ true → RefusesNothing files options all tree solution →
     MinimalGivesBack tree options.prefix solution.places (value_of solution) × MinimalNeedsEach tree options.prefix solution.places (value_of solution)
     × ConfigGivesBack tree options.prefix solution.places (value_of solution)
     × HasShortLines (config_text tree options.prefix (solution_view solution)) × HasShortLines (minimal_text tree options.prefix (solution_view solution))
 
--- The texts of an outcome are those of one solution, and all this holds of them.
+-- The texts of an outcome of status Done are those of one solution, and all this holds of its texts, whichever of them are wanted.
 abbrev pub OutcomesAreReadAgain : Type 0
-OutcomesAreReadAgain = (files : Files) (options : Options) (all : List (List ℕ)) (outcome : Outcome) (config : List ℕ) →
-    is_prefix options.prefix ≡ true → IsOutcome files options all outcome → outcome.config ≡ Some config →
-    (tree : TreeFacts) × (solution : Solution) × RefusesNothing files options all tree solution
-    × (config ≡ config_text tree options.prefix (solution_view solution)) × HasShortLines config
-    × ConfigGivesBack tree options.prefix solution.places (value_of solution) × ((minimal : List ℕ) → outcome.minimal ≡ Some minimal →
-    (minimal ≡ minimal_text tree options.prefix (solution_view solution)) × HasShortLines minimal
-    × MinimalGivesBack tree options.prefix solution.places (value_of solution) × MinimalNeedsEach tree options.prefix solution.places (value_of solution))
+OutcomesAreReadAgain = (files : Files) (options : Options) (all : List (List ℕ)) (outcome : Outcome) →
+    is_prefix options.prefix.prefix ≡ true → IsOutcome files options all outcome → outcome.status ≡ Status.Done →
+    (tree : TreeFacts) × (solution : Solution) × RefusesNothing files options all tree solution × HasItsTexts options tree solution outcome
+    × MinimalGivesBack tree options.prefix solution.places (value_of solution) × MinimalNeedsEach tree options.prefix solution.places (value_of solution)
+    × ConfigGivesBack tree options.prefix solution.places (value_of solution)
+    × HasShortLines (config_text tree options.prefix (solution_view solution)) × HasShortLines (minimal_text tree options.prefix (solution_view solution))
 
--- options with the same root file and prefix, which ask for the full `.config` where these do, and without fragments
+-- options with the same root file and prefix, and without fragments
 pub record AreAlone (options alone : Options) : Type 0 where
   pub root : root_file alone ≡ root_file options
   pub prefix : alone.prefix ≡ options.prefix
-  pub out : is_some alone.out ≡ is_some options.out
   pub no_fragments : alone.fragments.items ≡ []
 
--- A run on the minimal file alone, which lets warnings pass and refuses no name, writes the .config that was written with it. (One that
--- refuses them may write nothing: what that file assigns may be warned of where the input files were not.)
+-- The later run is done with the values of this solution. It writes the `.config` and the header of this solution, if it is asked for them.
+pub record HasSameValues (files : Files) (alone : Options) (all : List (List ℕ)) (tree : TreeFacts) (solution : Solution) (later : Outcome) : Type 0 where
+  pub done : later.status ≡ Status.Done
+  pub again : Solution
+  pub is_whole : RefusesNothing files alone all tree again
+  pub values : again.values ≡ solution.values
+  pub config : later.config ≡ option_map (λ file. config_text tree alone.prefix (solution_view solution)) alone.out
+  pub header : later.header ≡ option_map (λ file. header_text tree alone.prefix (solution_view solution)) alone.header
+
+-- A run on the minimal file alone, which lets warnings pass and refuses no name, has the values of the outcome that the file is of. (One that
+-- refuses warnings may write nothing: what that file assigns may be warned of where the input files were not.)
 abbrev pub MinimalIsRunAgain : Type 0
-MinimalIsRunAgain = (files : Files) (options alone : Options) (all : List (List ℕ)) (outcome later : Outcome) (text : List ℕ) →
-    is_prefix options.prefix ≡ true → AreAlone options alone → alone.strict ≡ false → alone.strict_tree ≡ false → NamesAreTaken files alone →
-    IsOutcome files options all outcome → outcome.minimal ≡ Some text → IsOutcome files alone (text ∷ []) later → later.config ≡ outcome.config
+MinimalIsRunAgain = (files : Files) (options alone : Options) (all : List (List ℕ)) (outcome : Outcome) →
+    is_prefix options.prefix.prefix ≡ true → AreAlone options alone → alone.strict ≡ false → alone.strict_tree ≡ false → NamesAreTaken files alone →
+    IsOutcome files options all outcome → outcome.status ≡ Status.Done →
+    (tree : TreeFacts) × (solution : Solution) × RefusesNothing files options all tree solution × HasItsTexts options tree solution outcome
+    × (let text = minimal_text tree options.prefix (solution_view solution) in
+    (later : Outcome) → IsOutcome files alone (text ∷ []) later → HasSameValues files alone (text ∷ []) tree solution later)
 
 -- ---- With warn_lost, no line of the input files is lost
 -- The line stands in the text, after whole lines.
 abbrev pub HoldsLine : List ℕ → List ℕ → Type 0
 HoldsLine text line = (before after : List ℕ) × (text ≡ before ++ line ++ after) × AreLines before
 
--- The next line that gives the symbol a value is reported to set it again and, if the value is another one, to change it from this line's value.
-abbrev pub IsSetAgain : TreeFacts → List ℕ → List ℕ → Line → SymId → SymbolType → GivenValue → List Line → Type 0
-IsSetAgain tree prefix warned l s symbol_type given later = (front back : List Line) × (next : Line) × (other : GivenValue)
+-- The next line that gives the symbol a value is reported to set it again and, if the value is another one, to change it from the value of this line,
+-- which stands there without the configuration.
+abbrev pub IsSetAgain : TreeFacts → Notation → List ℕ → StreamLocation → SymId → SymbolType → GivenValue → List Line → Type 0
+IsSetAgain tree prefix warned from s symbol_type given later = (front back : List Line) × (next : Line) × (other : GivenValue)
     × (later ≡ front ++ next ∷ back) × All (λ m. (value : GivenValue) → effect tree prefix m ≡ Assigns s value → ⊥) front
     × (effect tree prefix next ≡ Assigns s other)
     × HoldsLine warned (warning_line next.stream next.number (SetAgain (name tree s))) × (same_given given other ≡ false →
     HoldsLine warned (warning_line next.stream next.number
-    (Changed (name tree s) (value_text symbol_type given) l.stream l.number (value_text symbol_type other))))
+    (Changed (name tree s) (value_text prefix.is_raw symbol_type given) from.stream from.number (value_text prefix.is_raw symbol_type other))))
 
--- A line of this effect, before these lines, is accounted for: it is warned of, or what it gives a prompted symbol is replaced, kept or reported.
-module _ (tree : TreeFacts) (prefix : List ℕ) (solution : Solution) (warned : List ℕ) where
+-- A line of this effect, before these lines, is accounted for: it says nothing, it is warned of, or what it gives is replaced, kept or reported.
+module _ (tree : TreeFacts) (prefix : Notation) (lead : List ℕ) (solution : Solution) (warned : List ℕ) where
   abbrev pub IsAccountedFor : Line → List Line → Effect → Type 0
-  IsAccountedFor l later Silent = Unit {0}
+  IsAccountedFor l later Silent = meaning tree prefix l ≡ Nothing
   IsAccountedFor l later (Warns line_warning) = HoldsLine warned (warning_line l.stream l.number line_warning)
-  IsAccountedFor l later (Assigns s given) = (f : SymbolFacts) → facts tree s ≡ Some f → has_prompt f.prompts ≡ true →
-      IsSetAgain tree prefix warned l s f.symbol_type given later ⊎ ((given ≡ given_of (known solution s))
+  IsAccountedFor l later (Assigns s given) = (f : SymbolFacts) × (facts tree s ≡ Some f)
+      × (IsSetAgain tree prefix warned (plain_location lead (stream_location l)) s f.symbol_type given later ⊎ ((given ≡ given_of (known solution s))
       ⊎ HoldsLine warned (warning_line l.stream l.number
-      (Lost (name tree s) (value_text f.symbol_type given) (value_text f.symbol_type (given_of (known solution s))))))
+      (lost_warning prefix.is_raw (has_prompt f.prompts) (name tree s) f.symbol_type given (given_of (known solution s))))))
 
--- If files are written, the .config is the text of the solution, and the warnings account for each line of the input files by its values.
+-- If the status is Done, the texts are those of the solution, and the warnings account for each line of the input files by its values.
 abbrev pub NothingIsLost : Type 0
-NothingIsLost = (files : Files) (options : Options) (all : List (List ℕ)) (outcome : Outcome) (text : List ℕ) →
-    IsOutcome files options all outcome → outcome.config ≡ Some text → options.warn_lost ≡ true →
-    (tree : TreeFacts) × (solution : Solution) × RefusesNothing files options all tree solution
-    × (text ≡ config_text tree options.prefix (solution_view solution))
+NothingIsLost = (files : Files) (options : Options) (all : List (List ℕ)) (outcome : Outcome) →
+    IsOutcome files options all outcome → outcome.status ≡ Status.Done → options.warn_lost ≡ true →
+    (tree : TreeFacts) × (solution : Solution) × RefusesNothing files options all tree solution × HasItsTexts options tree solution outcome
     × ((before later : List Line) (l : Line) → lines_of (streams (names_of options) all) ≡ before ++ l ∷ later →
-    IsAccountedFor tree options.prefix solution outcome.warned l later (effect tree options.prefix l))
+    IsAccountedFor tree options.prefix (lead options) solution outcome.warned l later (effect tree options.prefix l))
 
 -- ---- With --strict, no line passes that was not taken as written
--- A line of this effect, before these lines: it was not warned of, no later line gives its symbol another value, and where lost values are asked
--- for, what it gives a symbol with a prompt is the symbol's value.
-abbrev pub IsTakenAsWritten : TreeFacts → List ℕ → Bool → Solution → List Line → Effect → Type 0
-IsTakenAsWritten tree prefix warn_lost solution later Silent = Unit {0}
-IsTakenAsWritten tree prefix warn_lost solution later (Warns line_warning) = ⊥
-IsTakenAsWritten tree prefix warn_lost solution later (Assigns s given) = (f : SymbolFacts) → facts tree s ≡ Some f →
-    ((m : Line) (other : GivenValue) → Contains later m → effect tree prefix m ≡ Assigns s other → other ≡ given)
-    × (warn_lost ≡ true → has_prompt f.prompts ≡ true → given ≡ given_of (known solution s))
+-- A line of this effect, before these lines: it says nothing; or its warning is not reported (K16, only without warn_lost); or no later line gives its
+-- symbol another value, and with warn_lost the value that it gives is the symbol's.
+module _ (tree : TreeFacts) (prefix : Notation) (warn_lost : Bool) (solution : Solution) where
+  abbrev pub IsTakenAsWritten : Line → List Line → Effect → Type 0
+  IsTakenAsWritten l later Silent = meaning tree prefix l ≡ Nothing
+  IsTakenAsWritten l later (Warns line_warning) = is_reported warn_lost line_warning ≡ false
+  IsTakenAsWritten l later (Assigns s given) =
+      ((m : Line) (other : GivenValue) → Contains later m → effect tree prefix m ≡ Assigns s other → other ≡ given)
+      × (warn_lost ≡ true → given ≡ given_of (known solution s))
 
--- If files are written, each line of the input files was taken as written, and no user value is warned of.
+-- If the status is Done, each line of the input files was taken as written, and no user value is warned of.
 abbrev pub StrictTakesAll : Type 0
-StrictTakesAll = (files : Files) (options : Options) (all : List (List ℕ)) (outcome : Outcome) (text : List ℕ) →
-    IsOutcome files options all outcome → outcome.config ≡ Some text → options.strict ≡ true →
-    (tree : TreeFacts) × (solution : Solution) × RefusesNothing files options all tree solution
-    × (text ≡ config_text tree options.prefix (solution_view solution)) × (list_any is_outside (value_warnings solution) ≡ false)
+StrictTakesAll = (files : Files) (options : Options) (all : List (List ℕ)) (outcome : Outcome) →
+    IsOutcome files options all outcome → outcome.status ≡ Status.Done → options.strict ≡ true →
+    (tree : TreeFacts) × (solution : Solution) × RefusesNothing files options all tree solution × HasItsTexts options tree solution outcome
+    × (list_any is_outside (value_warnings solution) ≡ false)
     × ((before later : List Line) (l : Line) → lines_of (streams (names_of options) all) ≡ before ++ l ∷ later →
-    IsTakenAsWritten tree options.prefix options.warn_lost solution later (effect tree options.prefix l))
+    IsTakenAsWritten tree options.prefix options.warn_lost solution l later (effect tree options.prefix l))

@@ -2,7 +2,7 @@
 use Rattle.std.specs.Option.{option_map_or}
 use Rattle.std.specs.List.{list_any}
 use Rattle.std.specs.Prelude.{Bool, List, None, Option, Some, [], if◌then◌else◌, option_map, ℕ, ◌&&◌, ◌++◌, ◌==◌, length, not}
-use Rattle.kc_language.specs.ConfigFile.{StreamLocation, UserInput}
+use Rattle.kc_language.specs.ConfigFile.{Notation, StreamLocation, UserInput}
 use Rattle.kc_language.specs.Expansion.{Files}
 use Rattle.kc_language.specs.Outcome.{Options, Outcome, explained_text, first_line, is_outside, lost_warnings, names_listed, near_text, refused_if, refuses_input, rule_text, run_error_text, target, unknown_name, unreadable_name, warned_files}
 use Rattle.kc_language.specs.Explanations.{new_text_with_help}
@@ -45,7 +45,7 @@ abbrev pub error_if_at : Option (List ℕ × ℕ) → List ℕ → List ℕ
 error_if_at location text = elim location [ None ↦ error_line text | Some place ↦ error_at place.0 place.1 text ]
 
 -- ---- What reading and solving give
--- The user's lines were all taken as written: none was warned of (K7 to K9) or changed what another gave, no user value that counts lies outside
+-- The user's lines were all taken as written: none was warned of (K7 to K9 and K16) or changed what another gave, no user value that counts lies outside
 -- its range, and none is reported as lost.
 abbrev pub is_taken : Options → UserInput → Solution → Bool
 is_taken options input solution =
@@ -56,7 +56,7 @@ abbrev pub text_if : {T : Type 0} → Option T → List ℕ → Option (List ℕ
 text_if name text = option_map (λ file. text) name
 
 -- the files of a solution for the user's input
-abbrev pub list_text : Files → List (Located Numbered) → TreeFacts → List ℕ → SolutionView → Bool → List ℕ
+abbrev pub list_text : Files → List (Located Numbered) → TreeFacts → Notation → SolutionView → Bool → List ℕ
 list_text files lines tree prefix view with_help = if with_help then new_text_with_help files lines tree prefix view else new_text tree prefix view
 
 abbrev pub files_of : Files → Options → TreeFacts → List (Located Numbered) → UserInput → Solution → Outcome

@@ -1,6 +1,7 @@
 //! A tree that was read, and one that was accepted.
+ghost use Rattle.kc_read.specs.Files.{files_in};
 ghost use Rattle.std.specs.Prelude.{◌≡◌, ℕ, List, true, false, option_map};
-ghost use Rattle.kc_language.specs.Expansion.{AreOpened, Files, bytes_in};
+ghost use Rattle.kc_language.specs.Expansion.{AreOpened, Files};
 ghost use Rattle.kc_build.specs.Listings.{IsListingOf};
 ghost use Rattle.kc_conf.specs.Accepted.{IsReadingOf};
 
@@ -48,6 +49,15 @@ pub struct AcceptedTree {
     pub(crate) sources: Option<TreeSources>,
 }
 
+impl AcceptedTree {
+    /// The tree.
+    pub fn tree(&self) -> &Tree
+        ensures { result.now ≡ self.now.tree }
+    {
+        &self.tree
+    }
+}
+
 /// The sources of a tree, if they were kept.
 pub(crate) fn borrowed(sources: &Option<TreeSources>) -> Option<&TreeSources>
     ensures { option_map (λ s. s.now) result ≡ sources.now }
@@ -77,8 +87,8 @@ fn read_with_sources(
     opened: Names,
     files: FileMap,
 ) -> Result<TreeReading, Refusal>
-    requires { (root : List ℕ) × IsListingOf (bytes_in files) root listing }
-    ensures { (root : List ℕ) → IsListingOf (bytes_in files) root listing → AreOpened (bytes_in files) root opened → IsReadingOf (bytes_in files) root true result }
+    requires { (root : List ℕ) × IsListingOf (files_in files) root listing }
+    ensures { (root : List ℕ) → IsListingOf (files_in files) root listing → AreOpened (files_in files) root opened → IsReadingOf (files_in files) root true result }
 {
     match built_tree(alloc, listing) {
         Ok(built) => Ok(TreeReading {
@@ -104,7 +114,7 @@ pub(crate) fn read_tree(
     root: &[u8],
     keeps: bool,
 ) -> Result<TreeReading, Refusal>
-    ensures { IsReadingOf (bytes_in files) root.now keeps result }
+    ensures { IsReadingOf (files_in files) root.now keeps result }
 {
     let RootReading { listing, opened } = match read_listing(alloc, &files, root) {
         Ok(reading) => reading,

@@ -15,12 +15,12 @@ ghost use Rattle.kc_conf.specs.Accepted.{AreSources, IsReady};
 ghost use Rattle.kc_conf.specs.Faults.{AreLines};
 ghost use Rattle.kc_language.specs.Outcome.{lead, target, has_text, lines_text, names_listed, is_outside, lost_warnings, refuses_input};
 ghost use Rattle.kc_conf.specs.PartsOfOutcome.{text_if};
-ghost use Rattle.kc_conf.specs.Computed.{Computes, explained_by, explained_lost, files_from, lost_by, lost_from, new_by, new_from, sources_if};
+ghost use Rattle.kc_conf.specs.Computed.{Computes, explained_by, explained_lost, explanation_lead, files_from, lost_by, lost_from, new_by, new_from, sources_if};
 ghost use Rattle.kc_read.specs.Entries.{lines_in};
 ghost use Rattle.kc_io.specs.Delivery.{text_at, texts_of};
 
 use crate::accepted::{OrderedTree, TreeSources};
-use crate::explained::{add_explained_lost, explained_text};
+use crate::explained::{add_explained_lost, explained_text, explanation_lead};
 use crate::lost::lost_warnings;
 use kc_config_file::config::config_text;
 use kc_config_file::header::{header_text, list_of_new, minimal_text};
@@ -119,15 +119,25 @@ fn explains_lost(options: &Options) -> bool
 // Adds the lines of the values that are lost, each with the explanation of its symbol.
 fn add_explained(
     alloc: Global,
+    options: &Options,
     sources: &TreeSources,
     input: &UserInput<'_>,
     solved: &Solved<'_>,
     text: &mut Vec<u8>,
 ) -> Result<(), AllocError>
-    ensures { OnOk result (text.new.items ≡ text.old.items ++ explained_lost (lines_in sources.now.entries) input.now solved.now) }
+    ensures { OnOk result (text.new.items ≡ text.old.items ++ explained_lost options.now.prefix.is_raw (explanation_lead options.now) (lines_in sources.now.entries) input.now solved.now) }
 {
     let lines = Lines::of(alloc, &sources.entries)?;
-    add_explained_lost(alloc, &lines, input, solved, text)
+    let front = explanation_lead(alloc, options)?;
+    add_explained_lost(
+        alloc,
+        options.prefix.is_raw(),
+        &lines,
+        input,
+        solved,
+        &front,
+        text,
+    )
 }
 
 // Adds these lines of the values that are lost, with explanations from these sources, if there are any.
@@ -144,7 +154,7 @@ fn add_lost_by(
     ensures { OnOk result (text.new.items ≡ text.old.items ++ lost_by sources.entry options.now input.now solved.now) }
 {
     match sources {
-        Some(sources) => add_explained(alloc, sources, input, solved, text),
+        Some(sources) => add_explained(alloc, options, sources, input, solved, text),
         None => add_lines(&[], lost, text),
     }
 }

@@ -6,12 +6,13 @@ ghost use Rattle.kc_language.specs.Symbols.{listed};
 ghost use Rattle.kc_language.specs.Texts as texts;
 ghost use Rattle.kc_language.specs.Outcome as rules;
 ghost use Rattle.kc_language.specs.Values.{name_count};
+ghost use Rattle.kc_conf.specs.Computed.{explanation_lead};
 
 use crate::lost::lost_into;
 use kc_config_file::user_input::UserInput;
 use kc_explain::{Lines, add_explanation, asked_symbol};
 use kc_expr::expression::SymId;
-use kc_options::Options;
+use kc_options::{Options, lead};
 use kc_solve::solved::Solved;
 use std::alloc::{AllocError, Global};
 
@@ -26,7 +27,8 @@ fn add_asked(
     text: &mut Vec<u8>,
 ) -> Result<(), AllocError>
     ensures { OnOk result (text.new.items ≡ text.old.items
-        ++ flat_map (explanation_text lines.now solved.now input.now [] options.now.explain_depth) (listed (asked_symbol solved.now.tree options.now.prefix asked.now))) }
+        ++ flat_map (explanation_text lines.now solved.now input.now options.now.prefix.is_raw [] options.now.explain_depth)
+        (listed (asked_symbol solved.now.tree options.now.prefix.prefix asked.now))) }
 {
     match asked_symbol(solved.tree(), &options.prefix, asked) {
         Some(id) => add_explanation(
@@ -34,6 +36,7 @@ fn add_asked(
             lines,
             solved,
             input,
+            options.prefix.is_raw(),
             b"",
             options.explain_depth,
             id,
@@ -71,20 +74,22 @@ pub(crate) fn explained_text(
 // Adds these lines about a symbol, each with the explanation of the symbol behind it.
 fn add_with_explanation(
     alloc: Global,
+    is_raw: bool,
     lines: &Lines<'_>,
     input: &UserInput<'_>,
     solved: &Solved<'_>,
+    front: &[u8],
     id: SymId,
     told: &[Vec<u8>],
     text: &mut Vec<u8>,
 ) -> Result<(), AllocError>
     ensures { OnOk result (text.new.items ≡ text.old.items
-        ++ flat_map (λ line. line ++ codes "\n" ++ explanation_text lines.now solved.now input.now (codes "  ") 1 id) (map (λ line. line.items) told.now)) }
+        ++ flat_map (λ line. line ++ codes "\n" ++ explanation_text lines.now solved.now input.now is_raw front.now 1 id) (map (λ line. line.items) told.now)) }
 {
     for line in told {
         text.extend_from_slice(line)?;
         text.extend_from_slice(b"\n")?;
-        add_explanation(alloc, lines, solved, input, b"  ", 1, id, text)?;
+        add_explanation(alloc, lines, solved, input, is_raw, front, 1, id, text)?;
     }
     Ok(())
 }
@@ -92,36 +97,62 @@ fn add_with_explanation(
 // Adds the line of a symbol's lost value, if it was lost, with the explanation of the symbol.
 fn add_lost_of(
     alloc: Global,
+    is_raw: bool,
     lines: &Lines<'_>,
     input: &UserInput<'_>,
     solved: &Solved<'_>,
+    front: &[u8],
     id: SymId,
     text: &mut Vec<u8>,
 ) -> Result<(), AllocError>
     requires { id.0 < name_count solved.now.tree }
     ensures { OnOk result (text.new.items ≡ text.old.items
-        ++ flat_map (λ line. line ++ codes "\n" ++ explanation_text lines.now solved.now input.now (codes "  ") 1 id) (texts.lost_at input.now.lines solved.now id)) }
+        ++ flat_map (λ line. line ++ codes "\n" ++ explanation_text lines.now solved.now input.now is_raw front.now 1 id) (texts.lost_at is_raw input.now.lines solved.now id)) }
 {
     let mut told = Vec::new(alloc);
-    lost_into(alloc, input, solved, id, &mut told)?;
-    add_with_explanation(alloc, lines, input, solved, id, &told, text)
+    lost_into(alloc, is_raw, input, solved, id, &mut told)?;
+    add_with_explanation(alloc, is_raw, lines, input, solved, front, id, &told, text)
 }
 
-/// Adds the lines of all values that are lost, each with the explanation of its symbol. Fails only where it is out of memory.
+/// Returns what each line of the explanation of a lost value begins with: the name of the configuration, where that is told, and
+/// two blanks. Fails only where it is out of memory.
+pub(crate) fn explanation_lead(alloc: Global, options: &Options) -> Result<Vec<u8>, AllocError>
+    ensures { IfOk result (λ front. front.items ≡ explanation_lead options.now) }
+{
+    let [config, colon] = lead(options);
+    let mut front = Vec::from_slice(alloc, config)?;
+    front.extend_from_slice(colon)?;
+    front.extend_from_slice(b"  ")?;
+    Ok(front)
+}
+
+/// Adds the lines of all values that are lost, each with the explanation of its symbol, whose lines begin with `front`. Fails
+/// only where it is out of memory. With `is_raw` strings have no escapes.
 pub(crate) fn add_explained_lost(
     alloc: Global,
+    is_raw: bool,
     lines: &Lines<'_>,
     input: &UserInput<'_>,
     solved: &Solved<'_>,
+    front: &[u8],
     text: &mut Vec<u8>,
 ) -> Result<(), AllocError>
     ensures { OnOk result (text.new.items ≡ text.old.items
-        ++ flat_map (λ s. flat_map (λ line. line ++ codes "\n" ++ explanation_text lines.now solved.now input.now (codes "  ") 1 s)
-        (texts.lost_at input.now.lines solved.now s)) solved.now.tree.defined) }
+        ++ flat_map (λ s. flat_map (λ line. line ++ codes "\n" ++ explanation_text lines.now solved.now input.now is_raw front.now 1 s)
+        (texts.lost_at is_raw input.now.lines solved.now s)) solved.now.tree.defined) }
 {
     let tree = solved.tree();
     for i in 0..tree.symbol_count() {
-        add_lost_of(alloc, lines, input, solved, tree.symbol(i), text)?;
+        add_lost_of(
+            alloc,
+            is_raw,
+            lines,
+            input,
+            solved,
+            front,
+            tree.symbol(i),
+            text,
+        )?;
     }
     Ok(())
 }

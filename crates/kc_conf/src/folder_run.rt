@@ -40,6 +40,7 @@ pub fn run_in_folder<F: Folder, D: Device>(
         folder,
         options.root.as_str(),
         options.kconfig.as_str(),
+        options.is_flat,
     ) {
         Ok(files) => run(alloc, files, options, device, kept),
         Err(fault) => {

@@ -1,5 +1,5 @@
 //! What holds of the outcomes of runs, stated as the contracts of functions that do nothing.
-ghost use Rattle.kc_conf.specs.Laws.{ExactlyOneAnswer, ExactlyOneOutcome, NothingIsLost, StrictTakesAll, DiagnosticsAreLines, MinimalIsRunAgain, OutcomesAreReadAgain, TextsAreReadAgain, WrittenAreWhole};
+ghost use Rattle.kc_conf.specs.Laws.{ExactlyOneAnswer, ExactlyOneOutcome, NothingIsLost, StrictTakesAll, DiagnosticsAreLines, MinimalIsRunAgain, OutcomesAreReadAgain, TextsAreReadAgain, DoneAreWhole};
 ghost use Rattle.kc_conf.specs.LawSteps.{SolutionExists};
 ghost use Rattle.kc_conf.specs.LawSteps.{AcceptedHaveAnOutcome, AnswerExists, OutcomeExists, OneAnswer, OneOutcome};
 ghost use Rattle.kc_conf.specs.Many.{ExactlyOnePart, PartsAreOfRuns, EachLeavesItsPart};
@@ -34,10 +34,10 @@ pub(crate) fn one_outcome()
     one_answer();
 }
 
-/// An outcome with a `.config` is that of a run that refuses nothing: its tree is accepted, no line of its streams is too
-/// long, and the texts are those of the one solution. (Our own.)
-pub fn written_are_whole()
-    ensures { WrittenAreWhole }
+/// States what an outcome of status `Done` is: that of a run that refuses nothing. Its tree is accepted, no line of its input
+/// files is too long, and its texts are those of the one solution, whichever of them are wanted. (Our own.)
+pub fn done_are_whole()
+    ensures { DoneAreWhole }
 {}
 
 /// What an outcome adds to the notes is whole lines, each with its line feed. (Our own.)
@@ -45,30 +45,30 @@ pub fn diagnostics_are_lines()
     ensures { DiagnosticsAreLines }
 {}
 
-/// With `warn_lost`, if files are written, no line is lost silently. The warning of a line that is warned of (K7 to K9) is a
-/// line of the diagnostics. For any other line that gives a symbol with a prompt a value, one of three things holds. The
-/// value is the symbol's, one of those whose text the written `.config` is. Or a line of the diagnostics says that it is not,
-/// with the location of this line (K14). Or the next line that gives the symbol a value is reported to set it again (K10),
-/// and if it gives another value, to change it: with the location of both lines and both values (K15). (What says nothing is
-/// not reported: comments, empty lines, and `# NAME is not set` of a string, int or hex. Our own.)
+/// States that with `warn_lost`, if the status is `Done`, no line of the input files is lost silently. Each line is of one of
+/// three kinds. It says nothing: it is a comment or an empty line. Or it has a warning (K7 to K9, K16), which is a line of
+/// the diagnostics. Or it gives a symbol a value, and one of three things holds: the value is the symbol's, one of those
+/// whose text the written `.config` is; a line of the diagnostics says that it is not, with the location of this line, and
+/// says it if the symbol has no prompt (K14); or the next line that gives the symbol a value is reported to set it again
+/// (K10), and if it gives another value, to change it, with the location of both lines and both values (K15). (Our own.)
 pub fn nothing_is_lost()
     ensures { NothingIsLost }
 {
     trees_are_well_formed();
-    written_are_whole();
+    done_are_whole();
     lines_give_in_turn();
 }
 
-/// States what `--strict` promises. If files are written with it, each line of the input files was taken as written: no
-/// line was warned of (K7 to K9), no later line gives a symbol another value, and no user value is out of its range (K12).
-/// With `warn_lost`, what a line gives a symbol with a prompt is the symbol's value, one of those whose text the written
-/// `.config` is. (What says nothing is taken as written: comments, empty lines, and `# NAME is not set` of a string, int or
-/// hex. Our own.)
+/// States what `--strict` promises. If the status with it is `Done`, each line of the input files was taken as written: it says
+/// nothing (a comment or an empty line), or it gives a symbol a value, no later line gives the symbol another one, and no
+/// user value is out of its range (K12). With `warn_lost`, what a line gives a symbol is the symbol's value, one of those
+/// whose text the written `.config` is. Only without `warn_lost` a line may stand that has no effect: `# NAME is not set` of
+/// a string, int or hex (K16). (Our own.)
 pub fn strict_takes_all()
     ensures { StrictTakesAll }
 {
     trees_are_well_formed();
-    written_are_whole();
+    done_are_whole();
     lines_give_in_turn();
 }
 
@@ -87,23 +87,24 @@ pub fn texts_are_read_again()
     written_texts_are_short();
 }
 
-/// The same of the texts of an outcome, each read again alone and from empty places: no line of them is too long; the minimal
-/// file gives the values of the outcome back, and with any nonempty set of its lines left out others; and the `.config` gives
-/// them back exactly where the rule above says, under its premises.
-/// (Our own.)
+/// States the same of the texts of an outcome of status `Done`, each read again alone and from no user values. No line of them
+/// is too long. The minimal file gives the values of the outcome back, and with any nonempty set of its lines left out others.
+/// The `.config` gives them back exactly where the rule above says, under its premises. (Our own.)
 pub fn outcomes_are_read_again()
     ensures { OutcomesAreReadAgain }
 {
-    written_are_whole();
+    done_are_whole();
     texts_are_read_again();
 }
 
-/// A run on the minimal file alone, with the same files, root file and prefix, which lets warnings pass, writes the
-/// `.config` that was written with that file. (Our own.)
+/// States what a run on the minimal file of an outcome of status `Done` gives, with the same files, root file and prefix, and
+/// letting warnings pass. It is done with the same values, and writes the `.config` and the header of these values, if it is
+/// asked for them. (Our own.)
 pub fn minimal_is_run_again()
     ensures { MinimalIsRunAgain }
 {
     one_answer();
+    done_are_whole();
     texts_are_read_again();
     config_is_of_values();
 }

@@ -1,7 +1,8 @@
 //! The values that were given and are not the symbols'.
-ghost use Rattle.std.specs.Prelude.{◌≡◌, ◌++◌, ◌<◌, length, map, IfOk, OnOk, option_map};
+ghost use Rattle.std.specs.Prelude.{◌≡◌, ◌++◌, ◌<◌, if◌then◌else◌, length, map, IfOk, OnOk, option_map};
 ghost use Rattle.kc_language.specs.Symbols.{located_warning};
-ghost use Rattle.kc_language.specs.declared.diagnostics.Warning.TheVariants.{Lost};
+ghost use Rattle.kc_language.specs.declared.diagnostics.Warning.TheVariants.{Lost, LostWithoutPrompt};
+ghost use Rattle.kc_diagnostics.specs.Warnings.{shown_warning};
 ghost use Rattle.kc_expr.specs.Value.{value_by_type};
 ghost use Rattle.kc_language.specs.Texts.{known};
 ghost use Rattle.std.specs.Option.{option_and_then};
@@ -49,47 +50,57 @@ fn shown_value<'a>(solved: &'a Solved<'_>, id: SymId) -> ShownValue<'a>
     shown_by(solved.symbol_type(id), solved.tri(id), solved.text(id))
 }
 
-// The line of a value that was given and is not the symbol's, both as texts.
-fn line_of<'a>(
-    alloc: Global,
-    at: InputLine<'_>,
+// The warning of a value that was given and is not the symbol's, both as texts.
+fn lost_warning<'a>(
+    is_prompted: bool,
     name: &'a [u8],
     given: &'a [u8],
     value: &'a [u8],
-) -> Result<Vec<u8>, AllocError>
-    ensures { IfOk result (λ line. line.items ≡ located_warning at.entry.file.now at.entry.number (Lost name.now given.now value.now)) }
+) -> Warning<&'a [u8]>
+    ensures { shown_warning result ≡ (if is_prompted then Lost name.now given.now value.now else LostWithoutPrompt name.now given.now value.now) }
+{
+    if is_prompted {
+        Warning::Lost { name, given, value }
+    } else {
+        Warning::LostWithoutPrompt { name, given, value }
+    }
+}
+
+// The line of a warning.
+fn line_of(alloc: Global, at: InputLine<'_>, warning: Warning<&[u8]>) -> Result<Vec<u8>, AllocError>
+    ensures { IfOk result (λ line. line.items ≡ located_warning at.entry.file.now at.entry.number (shown_warning warning.entry)) }
 {
     let mut line = Vec::new(alloc);
-    add_located(
-        at.file,
-        at.number,
-        Warning::Lost { name, given, value },
-        &mut line,
-    )?;
+    add_located(at.file, at.number, warning, &mut line)?;
     Ok(line)
 }
 
 // The line of a value that was given and is not the symbol's.
 fn lost_line(
     alloc: Global,
+    is_raw: bool,
+    is_prompted: bool,
     at: InputLine<'_>,
     name: &[u8],
     symbol_type: SymbolType,
     given: ShownValue<'_>,
     value: ShownValue<'_>,
 ) -> Result<Vec<u8>, AllocError>
-    ensures { IfOk result (λ line. line.items ≡ spec_parts.lost_line (location_of at.entry) name.now symbol_type (given_by given.entry) (given_by value.entry)) }
+    ensures { IfOk result (λ line. line.items ≡ spec_parts.lost_line is_raw is_prompted (location_of at.entry) name.now symbol_type (given_by given.entry) (given_by value.entry)) }
 {
     let mut given_text = Vec::new(alloc);
-    add_value(symbol_type, given, &mut given_text)?;
+    add_value(is_raw, symbol_type, given, &mut given_text)?;
     let mut value_text = Vec::new(alloc);
-    add_value(symbol_type, value, &mut value_text)?;
-    line_of(alloc, at, name, &given_text, &value_text)
+    add_value(is_raw, symbol_type, value, &mut value_text)?;
+    let warning = lost_warning(is_prompted, name, &given_text, &value_text);
+    line_of(alloc, at, warning)
 }
 
 // The line of a symbol, behind those that are there.
 fn lost_by(
     alloc: Global,
+    is_raw: bool,
+    is_prompted: bool,
     name: &[u8],
     symbol_type: SymbolType,
     at: Option<InputLine<'_>>,
@@ -98,7 +109,7 @@ fn lost_by(
     lines: &mut Vec<Vec<u8>>,
 ) -> Result<(), AllocError>
     ensures { OnOk result (map (λ l. l.items) lines.new.items ≡ map (λ l. l.items) lines.old.items
-        ++ spec.lost_by name.now symbol_type (option_map location_of at.entry) (given_in given.entry) (given_by value.entry)) }
+        ++ spec.lost_by is_raw is_prompted name.now symbol_type (option_map location_of at.entry) (given_in given.entry) (given_by value.entry)) }
 {
     let Some(given) = given else {
         return Ok(());
@@ -110,7 +121,16 @@ fn lost_by(
     if is_same(given, value) {
         return Ok(());
     }
-    let line = lost_line(alloc, at, name, symbol_type, given, value)?;
+    let line = lost_line(
+        alloc,
+        is_raw,
+        is_prompted,
+        at,
+        name,
+        symbol_type,
+        given,
+        value,
+    )?;
     lines.push(line)?;
     Ok(())
 }
@@ -148,16 +168,17 @@ fn given_at<'a>(user: &'a User, id: SymId) -> Option<&'a UserValue>
     user.get(id)
 }
 
-/// The line of the symbol of a number, behind those that are there.
+/// The line of the symbol of a number, behind those that are there. With `is_raw` strings have no escapes.
 pub(crate) fn lost_into(
     alloc: Global,
+    is_raw: bool,
     input: &UserInput<'_>,
     solved: &Solved<'_>,
     id: SymId,
     lines: &mut Vec<Vec<u8>>,
 ) -> Result<(), AllocError>
     requires { id.0 < name_count solved.now.tree }
-    ensures { OnOk result (map (λ l. l.items) lines.new.items ≡ map (λ l. l.items) lines.old.items ++ spec.lost_at input.now.lines solved.now id) }
+    ensures { OnOk result (map (λ l. l.items) lines.new.items ≡ map (λ l. l.items) lines.old.items ++ spec.lost_at is_raw input.now.lines solved.now id) }
 {
     solved.is_solution();
     rows_tell_facts();
@@ -166,14 +187,14 @@ pub(crate) fn lost_into(
     let Some(symbol) = layout.symbol(id) else {
         return Ok(());
     };
-    if !has_prompt(layout, symbol) {
-        return Ok(());
-    }
+    let is_prompted = has_prompt(layout, symbol);
     let at = input.line(id);
     let given = given_at(solved.user(), id);
     let value = shown_value(solved, id);
     lost_by(
         alloc,
+        is_raw,
+        is_prompted,
         name(tree, id),
         symbol.symbol_type,
         at,
@@ -186,15 +207,16 @@ pub(crate) fn lost_into(
 // The lines of all defined symbols.
 fn lost_lines(
     alloc: Global,
+    is_raw: bool,
     input: &UserInput<'_>,
     solved: &Solved<'_>,
 ) -> Result<Vec<Vec<u8>>, AllocError>
-    ensures { IfOk result (λ lines. map (λ l. l.items) lines.items ≡ spec.lost_lines input.now.lines solved.now) }
+    ensures { IfOk result (λ lines. map (λ l. l.items) lines.items ≡ spec.lost_lines is_raw input.now.lines solved.now) }
 {
     let mut lines = Vec::new(alloc);
     let tree = solved.tree();
     for i in 0..tree.symbol_count() {
-        lost_into(alloc, input, solved, tree.symbol(i), &mut lines)?;
+        lost_into(alloc, is_raw, input, solved, tree.symbol(i), &mut lines)?;
     }
     Ok(lines)
 }
@@ -211,7 +233,7 @@ pub(crate) fn lost_warnings(
     ensures { IfOk result (λ lines. map (λ l. l.items) lines.items ≡ lost_warnings options.now input.now solved.now) }
 {
     if options.warn_lost {
-        lost_lines(alloc, input, solved)
+        lost_lines(alloc, options.prefix.is_raw(), input, solved)
     } else {
         Ok(Vec::new(alloc))
     }

@@ -1,6 +1,7 @@
 //! A run for many configurations of one tree: the tree is read once, and the configurations take their turns.
+ghost use Rattle.kc_read.specs.Files.{files_in};
 ghost use Rattle.std.specs.Prelude.{◌≡◌, ◌≢◌, ◌<◌, ℕ, Bool, List, IfOk, not, ◌||◌};
-ghost use Rattle.kc_language.specs.Expansion.{Files, bytes_in};
+ghost use Rattle.kc_language.specs.Expansion.{Files};
 ghost use Rattle.kc_read.specs.RefusalView.{refusal_view};
 ghost use Rattle.kc_language.specs.declared.diagnostics.Cause.TheVariants.{Memory};
 ghost use Rattle.kc_io.specs.Log.{Log};
@@ -311,7 +312,7 @@ pub fn run_each<C: Configurations, D: Device>(
     kept: &mut Option<AcceptedTree>,
 ) -> Status
     requires { AreRootedAt root.now (C.options configurations.now) }
-    ensures { RunsEach (bytes_in files) root.now (C.options configurations.now) (C.number configurations.now) (D.log device.old) (D.log device.new) result }
+    ensures { RunsEach (files_in files) root.now (C.options configurations.now) (C.number configurations.now) (D.log device.old) (D.log device.new) result }
 {
     match read_tree(
         alloc,

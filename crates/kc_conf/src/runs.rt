@@ -1,6 +1,7 @@
 //! One run: it accepts the tree, reads the input files, computes the texts and delivers them.
+ghost use Rattle.kc_read.specs.Files.{files_in};
 ghost use Rattle.std.specs.Prelude.{◌≡◌, ◌≢◌, ◌++◌, ℕ, List, [], map, option_map, Err, IfOk};
-ghost use Rattle.kc_language.specs.Expansion.{Files, bytes_in};
+ghost use Rattle.kc_language.specs.Expansion.{Files};
 ghost use Rattle.kc_read.specs.RefusalView.{refusal_view};
 ghost use Rattle.kc_language.specs.declared.diagnostics.Cause.TheVariants.{Memory};
 ghost use Rattle.kc_io.specs.Delivered.{text_view};
@@ -26,7 +27,7 @@ use kc_config_file::user_input::UserInput;
 use kc_diagnostics::{Cause, RunError};
 use kc_expr::names::Names;
 use kc_io::{Device, Manner, Text, deliver};
-use kc_options::{Delivery, Options, Status, holds_warnings, wants_sources};
+use kc_options::{Delivery, Options, Status, holds_warnings, lead, wants_sources};
 use kc_read::file_map::FileMap;
 use kc_read::laws::opened_are_one_list;
 use kc_read::refusal::Refusal;
@@ -186,6 +187,17 @@ fn finish_long<D: Device>(
 
 // ---- the run
 
+// What the names of fragments begin with in diagnostics.
+fn lead_text(alloc: Global, options: &Options) -> Result<Vec<u8>, AllocError>
+    ensures { IfOk result (λ text. text.items ≡ lead options.now) }
+{
+    let [config, colon] = lead(options);
+    let mut text = Vec::new(alloc);
+    text.extend_from_slice(config)?;
+    text.extend_from_slice(colon)?;
+    Ok(text)
+}
+
 // What the user gave before the first input file: nothing.
 fn fresh_input<'a>(
     alloc: Global,
@@ -199,6 +211,8 @@ fn fresh_input<'a>(
         tree,
         options.warn_lost || options.explanation.is_some(),
     )?;
+    input.ask_unset(options.warn_lost);
+    input.lead_with(lead_text(alloc, options)?);
     match &options.list_gone {
         None => Ok(input),
         Some(_) => {
@@ -352,7 +366,7 @@ fn run_over<'o, D: Device>(
     device: &mut D,
     kept: &mut Option<AcceptedTree>,
 ) -> Result<Status, Stop<'o>>
-    ensures { LeavesRun (bytes_in files) options.now result (D.log device.old) (D.log device.new) }
+    ensures { LeavesRun (files_in files) options.now result (D.log device.old) (D.log device.new) }
 {
     exactly_one_outcome();
     opened_are_one_list();
@@ -400,7 +414,7 @@ pub fn run<D: Device>(
     device: &mut D,
     kept: &mut Option<AcceptedTree>,
 ) -> Status
-    ensures { Runs (bytes_in files) options.now (D.log device.old) (D.log device.new) result }
+    ensures { Runs (files_in files) options.now (D.log device.old) (D.log device.new) result }
 {
     let ended = run_over(alloc, files, options, device, kept);
     answer(options, ended, device)

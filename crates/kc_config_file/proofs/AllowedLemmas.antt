@@ -20,7 +20,7 @@ use Rattle.kc_language.specs.declared.expressions.SymbolType.TheVariants as symb
 use Rattle.kc_language.specs.Symbols.{TreeFacts, SymbolFacts}
 use Rattle.kc_language.specs.Values.{GivenValue, GivenTruth, GivenText, type_in}
 use Rattle.kc_user.specs.Places.{allowed, allowed_by, allowed_for, fits_quoted}
-use Rattle.kc_language.specs.ConfigFile.{LineMeaning, Nothing, Unset, Set, Malformed, meaning_of, unset_name, name_and_value, Assigns, effect_of, set_by_type, unset_by_type, symbol_named, until_quote, value_by}
+use Rattle.kc_language.specs.ConfigFile.{Notation, LineMeaning, Nothing, Unset, Set, Malformed, meaning_of, unset_name, name_and_value, Assigns, effect_of, set_by_type, unset_by_type, symbol_named, until_quote, value_by, without_suffix}
 use Rattle.kc_config_file.specs.PartsOfConfigFile.{meaning_of_text, not_unset, unset_or, is_comment, set_or_malformed, split_at_equals, is_equals, trimmed, set_effect, unset_effect, assigned_or, string_value, number_value, line_value, yes_m_or_no}
 use Rattle.kc_config_file.proofs.LineLemmas.{HasNoLf}
 
@@ -93,19 +93,48 @@ fits raw body text is none long short =
     (le-leb (length (escape (unescape raw)) + 2) 65000 (omega arith))
     (ap not (list_any_none is_line_feed (unescape raw) (is.one_line none)))
 
-string_allowed : (text : List ℕ) (g : GivenValue) → HasNoLf text → length text ≤ 65000 → string_value text ≡ Some g → allowed_by symbol_type.Str g ≡ true
-string_allowed [] g none short e = cc
-string_allowed (b ∷ body) g none short e = by_quote (eqb b 34) e
+escaped_allowed : (text : List ℕ) (g : GivenValue) → HasNoLf text → length text ≤ 65000 → string_value false text ≡ Some g → allowed_by symbol_type.Str g ≡ true
+escaped_allowed [] g none short e = cc
+escaped_allowed (b ∷ body) g none short e = by_quote (eqb b 34) e
   where
-    by_raw : (o : Option (List ℕ)) → until_quote body ≡ o → option_map (λ raw. GivenText (unescape raw)) o ≡ Some g → allowed_by symbol_type.Str g ≡ true
+    by_raw : (o : Option (List ℕ)) → until_quote body ≡ o → option_map GivenText (option_map unescape o) ≡ Some g → allowed_by symbol_type.Str g ≡ true
     by_raw None found is = cc
     by_raw (Some raw) found is =
         let h : GivenText (unescape raw) ≡ g = cc in
         subst (λ x. allowed_by symbol_type.Str x ≡ true) h (fits raw body (b ∷ body) (inner body raw found) (λ k d lt. none (suc k) d (omega arith)) (omega arith) short)
 
-    by_quote : (quote : Bool) → option_map (λ raw. GivenText (unescape raw)) (cond quote (until_quote body) None) ≡ Some g → allowed_by symbol_type.Str g ≡ true
+    by_quote : (quote : Bool) → option_map GivenText (option_map unescape (cond quote (until_quote body) None)) ≡ Some g → allowed_by symbol_type.Str g ≡ true
     by_quote true is = by_raw (until_quote body) refl is
     by_quote false is = cc
+
+-- A raw string is a part of the text, and its limit is looked at.
+raw_fits : (raw : List ℕ) (g : GivenValue) (fit : Bool) → HasNoLf raw → nat_le (length (escape raw) + 2) 65000 ≡ fit →
+    option_map GivenText (cond fit (Some raw) None) ≡ Some g → allowed_by symbol_type.Str g ≡ true
+raw_fits raw g true none fit is =
+    let h : GivenText raw ≡ g = cc in
+    subst (λ x. allowed_by symbol_type.Str x ≡ true) h
+    (and_from (nat_le (length (escape raw) + 2) 65000) (not (list_any is_line_feed raw)) fit (ap not (list_any_none is_line_feed raw none)))
+raw_fits raw g false none fit is = cc
+
+raw_ends : (raw : List ℕ) (g : GivenValue) (ends : Bool) → HasNoLf raw →
+    option_map GivenText (option_and_then (λ t. cond (nat_le (length (escape t) + 2) 65000) (Some t) None) (cond ends (Some raw) None)) ≡ Some g →
+    allowed_by symbol_type.Str g ≡ true
+raw_ends raw g true none is = raw_fits raw g (nat_le (length (escape raw) + 2) 65000) none refl is
+raw_ends raw g false none is = cc
+
+raw_starts : (rest : List ℕ) (g : GivenValue) (starts : Bool) → HasNoLf rest →
+    option_map GivenText (option_and_then (λ t. cond (nat_le (length (escape t) + 2) 65000) (Some t) None)
+    (option_and_then (without_suffix (34 ∷ [])) (cond starts (Some rest) None))) ≡ Some g → allowed_by symbol_type.Str g ≡ true
+raw_starts rest g true none is =
+    raw_ends (take (length rest - 1) rest) g (bytes_eq (drop (length rest - 1) rest) (34 ∷ [])) (All-take (λ b. (b == 10) ≡ false) (length rest - 1) rest none) is
+raw_starts rest g false none is = cc
+
+raw_allowed : (text : List ℕ) (g : GivenValue) → HasNoLf text → string_value true text ≡ Some g → allowed_by symbol_type.Str g ≡ true
+raw_allowed text g none e = raw_starts (drop 1 text) g (bytes_eq (take 1 text) (34 ∷ [])) (All-drop (λ b. (b == 10) ≡ false) 1 text none) e
+
+string_allowed : (is_raw : Bool) (text : List ℕ) (g : GivenValue) → HasNoLf text → length text ≤ 65000 → string_value is_raw text ≡ Some g → allowed_by symbol_type.Str g ≡ true
+string_allowed true text g none short e = raw_allowed text g none e
+string_allowed false text g none short e = escaped_allowed text g none short e
 
 number_allowed : (k : SymbolType) (text : List ℕ) (g : GivenValue) (is_number : Bool) → (is_number ≡ true → allowed_by k (GivenText text) ≡ true) →
     number_value text is_number ≡ Some g → allowed_by k g ≡ true
@@ -121,19 +150,19 @@ tri_allowed : (o : Option Tri) (g : GivenValue) → option_map GivenTruth o ≡ 
 tri_allowed None g e = cc
 tri_allowed (Some t) g e = let h : GivenTruth t ≡ g = cc in subst (λ x. allowed_by symbol_type.Tristate x ≡ true) h refl
 
-value_allowed : (k : SymbolType) (text : List ℕ) (g : GivenValue) → HasNoLf text → length text ≤ 65000 → value_by k text ≡ Some g → allowed_by k g ≡ true
-value_allowed symbol_type.Undefined text g none short e = cc
-value_allowed symbol_type.Bool text g none short e = bool_allowed (get_or text 0 0 == 121) (get_or text 0 0 == 110) g e
-value_allowed symbol_type.Tristate text g none short e = tri_allowed (yes_m_or_no (get_or text 0 0)) g e
-value_allowed symbol_type.Str text g none short e = string_allowed text g none short e
-value_allowed symbol_type.Int text g none short e =
+value_allowed : (is_raw : Bool) (k : SymbolType) (text : List ℕ) (g : GivenValue) → HasNoLf text → length text ≤ 65000 → value_by is_raw k text ≡ Some g → allowed_by k g ≡ true
+value_allowed is_raw symbol_type.Undefined text g none short e = cc
+value_allowed is_raw symbol_type.Bool text g none short e = bool_allowed (get_or text 0 0 == 121) (get_or text 0 0 == 110) g e
+value_allowed is_raw symbol_type.Tristate text g none short e = tri_allowed (yes_m_or_no (get_or text 0 0)) g e
+value_allowed is_raw symbol_type.Str text g none short e = string_allowed is_raw text g none short e
+value_allowed is_raw symbol_type.Int text g none short e =
     number_allowed symbol_type.Int text g (is_some (int_of text)) (λ is. and_from (nat_le (length text) 65000) (is_some (int_of text)) (le-leb (length text) 65000 short) is) e
-value_allowed symbol_type.Hex text g none short e =
+value_allowed is_raw symbol_type.Hex text g none short e =
     number_allowed symbol_type.Hex text g (is_some (hex_of text)) (λ is. and_from (nat_le (length text) 65000) (is_some (hex_of text)) (le-leb (length text) 65000 short) is) e
 
-pub line_allowed : (k : SymbolType) (text : List ℕ) (g : GivenValue) → HasNoLf text → line_value k text ≡ Some g → allowed_by k g ≡ true
-line_allowed k text g none e = elim (cases_Bool (nat_le (length text) 65000)) [
-  | inl short ↦ value_allowed k text g none (leb-true (length text) 65000 short) (rw short at e)
+pub line_allowed : (is_raw : Bool) (k : SymbolType) (text : List ℕ) (g : GivenValue) → HasNoLf text → line_value is_raw k text ≡ Some g → allowed_by k g ≡ true
+line_allowed is_raw k text g none e = elim (cases_Bool (nat_le (length text) 65000)) [
+  | inl short ↦ value_allowed is_raw k text g none (leb-true (length text) 65000 short) (rw short at e)
   | inr long ↦ let never : None ≡ Some g = rw long at e in cc
 ]
 
@@ -142,13 +171,13 @@ assigned : (name : List ℕ) (s t : SymId) (o : Option GivenValue) (g : GivenVal
 assigned name s t None g e = cc
 assigned name s t (Some h) g e = (cc, cc)
 
-type_allowed : (k : SymbolType) (name text : List ℕ) (s t : SymId) (g : GivenValue) → HasNoLf text → set_by_type name s text k ≡ Assigns t g → (s ≡ t) × (allowed_by k g ≡ true)
-type_allowed symbol_type.Undefined name text s t g none e = cc
-type_allowed symbol_type.Bool name text s t g none e = let (same, is) = assigned name s t (line_value symbol_type.Bool text) g e in (same, line_allowed symbol_type.Bool text g none is)
-type_allowed symbol_type.Tristate name text s t g none e = let (same, is) = assigned name s t (line_value symbol_type.Tristate text) g e in (same, line_allowed symbol_type.Tristate text g none is)
-type_allowed symbol_type.Str name text s t g none e = let (same, is) = assigned name s t (line_value symbol_type.Str text) g e in (same, line_allowed symbol_type.Str text g none is)
-type_allowed symbol_type.Int name text s t g none e = let (same, is) = assigned name s t (line_value symbol_type.Int text) g e in (same, line_allowed symbol_type.Int text g none is)
-type_allowed symbol_type.Hex name text s t g none e = let (same, is) = assigned name s t (line_value symbol_type.Hex text) g e in (same, line_allowed symbol_type.Hex text g none is)
+type_allowed : (is_raw : Bool) (k : SymbolType) (name text : List ℕ) (s t : SymId) (g : GivenValue) → HasNoLf text → set_by_type is_raw name s text k ≡ Assigns t g → (s ≡ t) × (allowed_by k g ≡ true)
+type_allowed is_raw symbol_type.Undefined name text s t g none e = cc
+type_allowed is_raw symbol_type.Bool name text s t g none e = let (same, is) = assigned name s t (line_value is_raw symbol_type.Bool text) g e in (same, line_allowed is_raw symbol_type.Bool text g none is)
+type_allowed is_raw symbol_type.Tristate name text s t g none e = let (same, is) = assigned name s t (line_value is_raw symbol_type.Tristate text) g e in (same, line_allowed is_raw symbol_type.Tristate text g none is)
+type_allowed is_raw symbol_type.Str name text s t g none e = let (same, is) = assigned name s t (line_value is_raw symbol_type.Str text) g e in (same, line_allowed is_raw symbol_type.Str text g none is)
+type_allowed is_raw symbol_type.Int name text s t g none e = let (same, is) = assigned name s t (line_value is_raw symbol_type.Int text) g e in (same, line_allowed is_raw symbol_type.Int text g none is)
+type_allowed is_raw symbol_type.Hex name text s t g none e = let (same, is) = assigned name s t (line_value is_raw symbol_type.Hex text) g e in (same, line_allowed is_raw symbol_type.Hex text g none is)
 
 unset_allowed : (k : SymbolType) (name : List ℕ) (s t : SymId) (g : GivenValue) → unset_by_type name s k ≡ Assigns t g → (s ≡ t) × (allowed_by k g ≡ true)
 unset_allowed symbol_type.Undefined name s t g e = cc
@@ -158,9 +187,9 @@ unset_allowed symbol_type.Str name s t g e = cc
 unset_allowed symbol_type.Int name s t g e = cc
 unset_allowed symbol_type.Hex name s t g e = cc
 
-set_facts : (o : Option SymbolFacts) (name text : List ℕ) (s t : SymId) (g : GivenValue) → HasNoLf text → set_by_type name s text (type_in o) ≡ Assigns t g → (s ≡ t) × (allowed_for o g ≡ true)
-set_facts None name text s t g none e = cc
-set_facts (Some f) name text s t g none e = type_allowed f.symbol_type name text s t g none e
+set_facts : (is_raw : Bool) (o : Option SymbolFacts) (name text : List ℕ) (s t : SymId) (g : GivenValue) → HasNoLf text → set_by_type is_raw name s text (type_in o) ≡ Assigns t g → (s ≡ t) × (allowed_for o g ≡ true)
+set_facts is_raw None name text s t g none e = cc
+set_facts is_raw (Some f) name text s t g none e = type_allowed is_raw f.symbol_type name text s t g none e
 
 unset_facts : (o : Option SymbolFacts) (name : List ℕ) (s t : SymId) (g : GivenValue) → unset_by_type name s (type_in o) ≡ Assigns t g → (s ≡ t) × (allowed_for o g ≡ true)
 unset_facts None name s t g e = cc
@@ -177,19 +206,19 @@ module _ (tree : TreeFacts) where
   here : (s t : SymId) (g : GivenValue) → (s ≡ t) × (allowed tree s g ≡ true) → allowed tree t g ≡ true
   here s t g (same, is) = subst (λ x. allowed tree x g ≡ true) same is
 
-  set_allowed : (found : Option SymId) (name text : List ℕ) (t : SymId) (g : GivenValue) → HasNoLf text → set_effect tree name text found ≡ Assigns t g → allowed tree t g ≡ true
-  set_allowed None name text t g none e = cc
-  set_allowed (Some s) name text t g none e = here s t g (set_facts (slice_get tree.symbols s.0) name text s t g none e)
+  set_allowed : (is_raw : Bool) (found : Option SymId) (name text : List ℕ) (t : SymId) (g : GivenValue) → HasNoLf text → set_effect is_raw tree name text found ≡ Assigns t g → allowed tree t g ≡ true
+  set_allowed is_raw None name text t g none e = cc
+  set_allowed is_raw (Some s) name text t g none e = here s t g (set_facts is_raw (slice_get tree.symbols s.0) name text s t g none e)
 
   unset_found : (found : Option SymId) (name : List ℕ) (t : SymId) (g : GivenValue) → unset_effect tree name found ≡ Assigns t g → allowed tree t g ≡ true
   unset_found None name t g e = cc
   unset_found (Some s) name t g e = here s t g (unset_facts (slice_get tree.symbols s.0) name s t g e)
 
-  pub effect_allowed : (said : LineMeaning) (t : SymId) (g : GivenValue) → SaysNoLf said → effect_of tree said ≡ Assigns t g → allowed tree t g ≡ true
-  effect_allowed Nothing t g none e = cc
-  effect_allowed (Unset name) t g none e = unset_found (symbol_named tree name) name t g e
-  effect_allowed (Set name text) t g none e = set_allowed (symbol_named tree name) name text t g none e
-  effect_allowed Malformed t g none e = cc
+  pub effect_allowed : (is_raw : Bool) (said : LineMeaning) (t : SymId) (g : GivenValue) → SaysNoLf said → effect_of is_raw tree said ≡ Assigns t g → allowed tree t g ≡ true
+  effect_allowed is_raw Nothing t g none e = cc
+  effect_allowed is_raw (Unset name) t g none e = unset_found (symbol_named tree name) name t g e
+  effect_allowed is_raw (Set name text) t g none e = set_allowed is_raw (symbol_named tree name) name text t g none e
+  effect_allowed is_raw Malformed t g none e = cc
 
 -- What a line without a line feed says has none.
 drop_no_lf : (n : ℕ) (bytes : List ℕ) → HasNoLf bytes → HasNoLf (drop n bytes)
@@ -235,5 +264,5 @@ module _ (prefix : List ℕ) where
   says_no_lf bytes none = text_no_lf (trimmed bytes) (take_no_lf (length bytes - suffix_len is_blank bytes) bytes none)
 
 -- an assigned value is allowed for its symbol
-pub assigned_allowed : (tree : TreeFacts) (prefix bytes : List ℕ) (s : SymId) (g : GivenValue) → HasNoLf bytes → effect_of tree (meaning_of prefix bytes) ≡ Assigns s g → allowed tree s g ≡ true
-assigned_allowed tree prefix bytes s g none e = effect_allowed tree (meaning_of prefix bytes) s g (says_no_lf prefix bytes none) e
+pub assigned_allowed : (tree : TreeFacts) (prefix : Notation) (bytes : List ℕ) (s : SymId) (g : GivenValue) → HasNoLf bytes → effect_of prefix.is_raw tree (meaning_of prefix.prefix bytes) ≡ Assigns s g → allowed tree s g ≡ true
+assigned_allowed tree prefix bytes s g none e = effect_allowed tree prefix.is_raw (meaning_of prefix.prefix bytes) s g (says_no_lf prefix.prefix bytes none) e

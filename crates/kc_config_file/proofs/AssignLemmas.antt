@@ -1,10 +1,9 @@
 -- A line that assigns a value that is allowed.
-use Rattle.std.proofs.Common.{◌≡◌, ℕ, ◌+◌, ◌≤◌, List, [], ◌∷◌, ◌++◌, true, false, length, refl, sym, ap, ◌∙◌, arith, Option, Some, None}
+use Rattle.std.proofs.Common.{◌≡◌, ℕ, ◌+◌, ◌≤◌, List, [], ◌∷◌, ◌++◌, Bool, true, false, length, refl, sym, ap, ◌∙◌, arith, Option, Some, None}
 use Rattle.std.specs.Prelude.{is_some, nat_le, slice_get, not}
 use Rattle.std.specs.List.{list_any}
 use Rattle.std.proofs.lemmas.Bool.{leb-true, and_parts, not-true, true≢false}
 use Rattle.std.proofs.lemmas.List.{length-append}
-use Rattle.std.proofs.lemmas.List.Elements.{All-append, All-cons}
 use Rattle.kc_language.specs.Lines.{is_line_feed}
 use Rattle.kc_language.specs.Text.{escape, int_of, hex_of}
 use Rattle.kc_language.specs.declared.expressions.SymId.{SymId}
@@ -16,27 +15,28 @@ use Rattle.kc_language.specs.Symbols.{TreeFacts, SymbolFacts}
 use Rattle.kc_tree.specs.TreeFacts.{IsWellFormed}
 use Rattle.kc_language.specs.Values.{GivenValue, GivenTruth, GivenText, Member, name as name_of}
 use Rattle.kc_user.specs.Places.{allowed, allowed_by, allowed_for, allowed_truth, allowed_text}
-use Rattle.kc_language.specs.ConfigFile.{Assigns, set_by_type, is_prefix, Line, is_within, effect}
+use Rattle.kc_language.specs.ConfigFile.{Notation, Assigns, set_by_type, is_prefix, Line, is_within, effect}
 use Rattle.kc_config_file.specs.PartsOfConfigFile.{assigned_or, line, line_value}
+use Rattle.kc_config_file.specs.PartsOfTexts.{between_quotes}
 use Rattle.kc_config_file.specs.HasNames.{HasNames}
 use Rattle.kc_config_file.specs.WrittenLaws.{AllowedAreAssigned}
 use Rattle.kc_language.specs.Texts.{EndsPlainly}
 use Rattle.kc_config_file.proofs.LineLemmas.{HasNoLf, is_within-line}
-use Rattle.kc_config_file.proofs.RoundTripLemmas.{string_read_again}
+use Rattle.kc_config_file.proofs.RoundTripLemmas.{between_short, string_read_again}
 use Rattle.kc_config_file.proofs.ShapeLemmas.{no_line_feed, untyped_not}
 use Rattle.kc_config_file.proofs.SolutionLemmas.{has_names}
-use Rattle.kc_config_file.proofs.SymbolLineLemmas.{no_lf_check, plain_quote, plain_one, set_says, set_no_lf, short_prefix}
-use Rattle.kc_config_file.proofs.TextBytes.{int_bytes, hex_bytes, number_plain, number_no_lf, escape_no_lf}
+use Rattle.kc_config_file.proofs.SymbolLineLemmas.{no_lf_check, plain_quote, plain_one, quoted_no_lf, set_says, set_no_lf, short_prefix}
+use Rattle.kc_config_file.proofs.TextBytes.{int_bytes, hex_bytes, number_plain, number_no_lf}
 
 -- A text that stands right of a line's `=` and gives a symbol of this type the value.
-module _ (name : List ℕ) (s : SymId) where
+module _ (is_raw : Bool) (name : List ℕ) (s : SymId) where
   pub record Sets (k : SymbolType) (g : GivenValue) (value : List ℕ) : Type 0 where
     pub none : HasNoLf value
     pub plain : EndsPlainly value
     pub short : length value ≤ 65000
-    pub means : set_by_type name s value k ≡ Assigns s g
+    pub means : set_by_type is_raw name s value k ≡ Assigns s g
 
-  one_byte_sets : (k : SymbolType) (g : GivenValue) (b : ℕ) → HasNoLf (b ∷ []) → EndsPlainly (b ∷ []) → set_by_type name s (b ∷ []) k ≡ Assigns s g → (value : List ℕ) × Sets k g value
+  one_byte_sets : (k : SymbolType) (g : GivenValue) (b : ℕ) → HasNoLf (b ∷ []) → EndsPlainly (b ∷ []) → set_by_type is_raw name s (b ∷ []) k ≡ Assigns s g → (value : List ℕ) × Sets k g value
   one_byte_sets k g b none plain means = (b ∷ [], record { none = none; plain = plain; short = omega arith; means = means })
 
   truth_sets : (k : SymbolType) (t : Tri) → allowed_truth k t ≡ true → (value : List ℕ) × Sets k (GivenTruth t) value
@@ -51,12 +51,12 @@ module _ (name : List ℕ) (s : SymId) where
   truth_sets symbol_type.Int t ok = absurd (true≢false (sym ok))
   truth_sets symbol_type.Hex t ok = absurd (true≢false (sym ok))
 
-  string_sets : (text : List ℕ) → length (escape text) + 2 ≤ 65000 → HasNoLf text → Sets symbol_type.Str (GivenText text) (34 ∷ escape text ++ 34 ∷ [])
+  string_sets : (text : List ℕ) → length (escape text) + 2 ≤ 65000 → HasNoLf text → Sets symbol_type.Str (GivenText text) (34 ∷ between_quotes is_raw text ++ 34 ∷ [])
   string_sets text fits none = record {
-    none = All-append (λ b. is_line_feed b ≡ false) (34 ∷ escape text) (34 ∷ []) (All-cons (λ b. is_line_feed b ≡ false) 34 (escape text) refl (escape_no_lf text none)) (no_lf_check (34 ∷ []) refl);
-    plain = plain_quote text;
-    short = omega (arith, fits, length-append (34 ∷ escape text) (34 ∷ []));
-    means = ap (assigned_or name s) (string_read_again text fits);
+    none = quoted_no_lf is_raw text none;
+    plain = plain_quote (between_quotes is_raw text);
+    short = omega (arith, fits, between_short is_raw text, length-append (34 ∷ between_quotes is_raw text) (34 ∷ []));
+    means = ap (assigned_or name s) (string_read_again is_raw text fits);
   }
 
   text_sets : (k : SymbolType) (text : List ℕ) → allowed_text k text ≡ true → (value : List ℕ) × Sets k (GivenText text) value
@@ -65,22 +65,22 @@ module _ (name : List ℕ) (s : SymId) where
   text_sets symbol_type.Tristate text ok = absurd (true≢false (sym ok))
   text_sets symbol_type.Str text ok =
       let (short, one) = and_parts (nat_le (length (escape text) + 2) 65000) (not (list_any is_line_feed text)) ok in
-      (34 ∷ escape text ++ 34 ∷ [], string_sets text (leb-true (length (escape text) + 2) 65000 short) (no_line_feed text (not-true _ one)))
+      (34 ∷ between_quotes is_raw text ++ 34 ∷ [], string_sets text (leb-true (length (escape text) + 2) 65000 short) (no_line_feed text (not-true _ one)))
   text_sets symbol_type.Int text ok =
       let (short, number) = and_parts (nat_le (length text) 65000) (is_some (int_of text)) ok in
       let bytes = int_bytes text number in
-      (text, record { none = number_no_lf text bytes; plain = number_plain text bytes; short = leb-true (length text) 65000 short; means = ap (assigned_or name s) (let v : line_value symbol_type.Int text ≡ Some (GivenText text) = rw (short, number) refl in v) })
+      (text, record { none = number_no_lf text bytes; plain = number_plain text bytes; short = leb-true (length text) 65000 short; means = ap (assigned_or name s) (let v : line_value is_raw symbol_type.Int text ≡ Some (GivenText text) = rw (short, number) refl in v) })
   text_sets symbol_type.Hex text ok =
       let (short, number) = and_parts (nat_le (length text) 65000) (is_some (hex_of text)) ok in
       let bytes = hex_bytes text number in
-      (text, record { none = number_no_lf text bytes; plain = number_plain text bytes; short = leb-true (length text) 65000 short; means = ap (assigned_or name s) (let v : line_value symbol_type.Hex text ≡ Some (GivenText text) = rw (short, number) refl in v) })
+      (text, record { none = number_no_lf text bytes; plain = number_plain text bytes; short = leb-true (length text) 65000 short; means = ap (assigned_or name s) (let v : line_value is_raw symbol_type.Hex text ≡ Some (GivenText text) = rw (short, number) refl in v) })
 
   sets : (k : SymbolType) (g : GivenValue) → allowed_by k g ≡ true → (value : List ℕ) × Sets k g value
   sets k (GivenTruth t) ok = truth_sets k t ok
   sets k (GivenText text) ok = text_sets k text ok
   sets k (Member m) ok = absurd (true≢false (sym ok))
 
-module _ (tree : TreeFacts) (prefix stream : List ℕ) (is_pre : is_prefix prefix ≡ true) (formed : IsWellFormed tree) (s : SymId) (g : GivenValue) where
+module _ (tree : TreeFacts) (prefix : Notation) (stream : List ℕ) (is_pre : is_prefix prefix.prefix ≡ true) (formed : IsWellFormed tree) (s : SymId) (g : GivenValue) where
   -- a line that gives the symbol the value
   abbrev IsAssigned : Type 0
   IsAssigned = (l : Line) × (l.ended ≡ true) × HasNoLf l.bytes × (is_within l ≡ true) × (effect tree prefix l ≡ Assigns s g)
@@ -91,11 +91,11 @@ module _ (tree : TreeFacts) (prefix stream : List ℕ) (is_pre : is_prefix prefi
       let defined = formed.typed_defined s f at (λ untyped. untyped_not f.symbol_type g untyped ok) in
       let named : HasNames tree = has_names tree formed in
       let known = named s defined in
-      let (value, is) = sets (name_of tree s) s f.symbol_type g ok in
-      let few : length prefix ≤ 64 = short_prefix tree prefix stream is_pre formed named s f at defined in
-      let body = (prefix ++ name_of tree s) ++ 61 ∷ value in
+      let (value, is) = sets prefix.is_raw (name_of tree s) s f.symbol_type g ok in
+      let few : length prefix.prefix ≤ 64 = short_prefix tree prefix stream is_pre formed named s f at defined in
+      let body = (prefix.prefix ++ name_of tree s) ++ 61 ∷ value in
       let fits : length body ≤ 65535 = (let v = is.short in let n =
-      known.1 in omega (arith, v, n, few, length-append (prefix ++ name_of tree s) (61 ∷ value), length-append prefix (name_of tree s))) in (
+      known.1 in omega (arith, v, n, few, length-append (prefix.prefix ++ name_of tree s) (61 ∷ value), length-append prefix.prefix (name_of tree s))) in (
         line stream 1 body true,
         refl,
         set_no_lf tree prefix stream is_pre formed named s f at defined value is.none,

@@ -86,15 +86,15 @@ comment_says prefix bytes =
       | inr (name, e, found) ↦ inr (name, ap (meaning_of_text prefix) is ∙ says_by prefix more ∙ e, ap (unset_name prefix) is ∙ found)
     ]
 
-pub silent : (tree : TreeFacts) (prefix bytes : List ℕ) → ((name : List ℕ) → unset_name prefix (text_read (35 ∷ bytes)) ≡ Some name → ⊥) →
-    assignment_of (effect_of tree (meaning_of prefix (strip_carriage_return (35 ∷ bytes)))) ≡ None
-silent tree prefix bytes none = elim (comment_says prefix bytes) [
+pub silent : (is_raw : Bool) (tree : TreeFacts) (prefix bytes : List ℕ) → ((name : List ℕ) → unset_name prefix (text_read (35 ∷ bytes)) ≡ Some name → ⊥) →
+    assignment_of (effect_of is_raw tree (meaning_of prefix (strip_carriage_return (35 ∷ bytes)))) ≡ None
+silent is_raw tree prefix bytes none = elim (comment_says prefix bytes) [
   | inl e ↦ rw e refl
   | inr (name, e, found) ↦ absurd (none name found)
 ]
 
-pub silent_plain : (tree : TreeFacts) (prefix bytes : List ℕ) → IsNotUnsetLine prefix (35 ∷ bytes) → assignment_of (effect_of tree (meaning_of prefix (strip_carriage_return (35 ∷ bytes)))) ≡ None
-silent_plain tree prefix bytes none = elim (comment_says prefix bytes) [
+pub silent_plain : (is_raw : Bool) (tree : TreeFacts) (prefix bytes : List ℕ) → IsNotUnsetLine prefix (35 ∷ bytes) → assignment_of (effect_of is_raw tree (meaning_of prefix (strip_carriage_return (35 ∷ bytes)))) ≡ None
+silent_plain is_raw tree prefix bytes none = elim (comment_says prefix bytes) [
   | inl e ↦ rw e refl
   | inr (name, e, found) ↦ absurd (none name e)
 ]

@@ -12,7 +12,7 @@ use Rattle.kc_language.specs.Expressions.{symbol, SymbolValue, Truth, TextValue}
 use Rattle.kc_language.specs.Values.{Solves, GivenValue, Member, UserPlace, SymbolPlace, ChoicePlace, is_yes, given_of, choice_at, name_count, known_from, user_place, equations, name as name_of}
 use Rattle.kc_language.specs.Symbols.{TreeFacts, SymbolFacts, ChoiceFacts, Shown, SymbolShown, MenuShown, EndShown, CommentShown}
 use Rattle.kc_tree.specs.TreeFacts.{IsLineText, IsWellFormed, OfTitles, ShowsEach}
-use Rattle.kc_language.specs.ConfigFile.{Places, place_at, is_prefix, Assignment, places_given}
+use Rattle.kc_language.specs.ConfigFile.{Notation, Places, place_at, is_prefix, Assignment, places_given}
 use Rattle.kc_user.specs.PartsOfConfigFile.{no_places}
 use Rattle.kc_user.specs.Places.{allowed, allowed_by, allowed_for, members_of}
 use Rattle.kc_values.specs.GivenLines.{reread_places}
@@ -58,8 +58,8 @@ yes_allowed (TextValue k bytes) e = absurd (true≢false (sym e))
 module _ (tree : TreeFacts) (user : UserPlace → Option GivenValue) (V : ℕ → SymbolValue) (formed : IsWellFormed tree) (theirs : MembersAreTheirs tree)
     (bools : MembersAreBools tree) (named_all : HasNames tree) (shows : ShowsEach tree) (texts : OfTitles IsLineText tree)
     (solves : Solves (name_count tree) (equations tree user) V)
-    (fits : (s : SymId) → s.0 < name_count tree → ls.written tree (known_from tree V) s ≡ true → FitsLine (V s.0)) (prefix : List ℕ)
-    (is_pre : is_prefix prefix ≡ true) (plain : HasPlainTitles tree prefix (valuation_view tree user V)) where
+    (fits : (s : SymId) → s.0 < name_count tree → ls.written tree (known_from tree V) s ≡ true → FitsLine (V s.0)) (prefix : Notation)
+    (is_pre : is_prefix prefix.prefix ≡ true) (plain : HasPlainTitles tree prefix.prefix (valuation_view tree user V)) where
   abbrev K : SymId → SymbolValue
   K = known_from tree V
 
@@ -90,7 +90,7 @@ module _ (tree : TreeFacts) (user : UserPlace → Option GivenValue) (V : ℕ �
         | inr of ↦ rw (solves s.0 lt) of
       ] in
       let line = symbol_gives tree prefix stream is_pre formed named_all s f at defined (V s.0) shape (fits s lt w) in
-      subst (λ k. Gives tree prefix stream (config_file_line (prefix ++ name_of tree s) k) (given_to s)) (sym value_is) line
+      subst (λ k. Gives tree prefix stream (config_file_line prefix.is_raw (prefix.prefix ++ name_of tree s) k) (given_to s)) (sym value_is) line
     where
       slice_there : (n : ℕ) (entry : Shown) → n < length tree.entries → get_or tree.entries n entry ≡ entry → slice_get tree.entries n ≡ Some entry
       slice_there n entry lt e = slice_get-get_or tree.entries n entry lt ∙ ap Some e

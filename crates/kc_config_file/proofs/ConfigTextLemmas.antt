@@ -10,7 +10,7 @@ use Rattle.kc_language.specs.Lines.{is_line_feed}
 use Rattle.kc_language.specs.declared.expressions.SymId.{SymId}
 use Rattle.kc_language.specs.Symbols.{TreeFacts, Shown, SymbolShown, MenuShown, EndShown, CommentShown}
 use Rattle.kc_tree.specs.TreeFacts.{IsLineText, OfTitles}
-use Rattle.kc_language.specs.ConfigFile.{meaning_of, effect_of, is_prefix, Assignment}
+use Rattle.kc_language.specs.ConfigFile.{Notation, meaning_of, effect_of, is_prefix, Assignment}
 use Rattle.kc_config_file.specs.PartsOfConfigFile.{assignment_of}
 use Rattle.kc_language.specs.Texts.{IsNotUnsetLine, HasPlainTitles, config_text, title_lines, shown_title, symbol_config, end_is_last, entry_text, SolutionView, is_shown}
 use Rattle.kc_config_file.specs.PartsOfTexts.{title_line, config_heading, end_line, title_if, end_if, gap, entries_text}
@@ -20,8 +20,8 @@ use Rattle.kc_config_file.proofs.GivesLemmas.{Gives, gives_line, gives_append, g
 use Rattle.kc_config_file.proofs.LineLemmas.{HasNoLf}
 use Rattle.kc_config_file.proofs.SymbolLineLemmas.{no_lf_check}
 
-module _ (tree : TreeFacts) (prefix stream : List ℕ) (is_pre : is_prefix prefix ≡ true) where
-  quiet : (body : List ℕ) → HasNoLf body → length body ≤ 65535 → assignment_of (effect_of tree (meaning_of prefix (strip_carriage_return body))) ≡ None → Gives tree prefix stream (body ++ 10 ∷ []) []
+module _ (tree : TreeFacts) (prefix : Notation) (stream : List ℕ) (is_pre : is_prefix prefix.prefix ≡ true) where
+  quiet : (body : List ℕ) → HasNoLf body → length body ≤ 65535 → assignment_of (effect_of prefix.is_raw tree (meaning_of prefix.prefix (strip_carriage_return body))) ≡ None → Gives tree prefix stream (body ++ 10 ∷ []) []
   quiet body none short is = gives_line tree prefix stream body None none short is
 
   empty_line : Gives tree prefix stream (10 ∷ []) []
@@ -31,11 +31,11 @@ module _ (tree : TreeFacts) (prefix stream : List ℕ) (is_pre : is_prefix prefi
   hash_line = quiet (35 ∷ []) (no_lf_check (35 ∷ []) refl) (omega arith) refl
 
   -- the line of a title
-  title_quiet : (text : List ℕ) → IsLineText text → IsNotUnsetLine prefix (title_line text) → Gives tree prefix stream (title_line text ++ 10 ∷ []) []
+  title_quiet : (text : List ℕ) → IsLineText text → IsNotUnsetLine prefix.prefix (title_line text) → Gives tree prefix stream (title_line text ++ 10 ∷ []) []
   title_quiet text line plain =
       let within = line.within in
       quiet (title_line text) (All-append (λ b. is_line_feed b ≡ false) (codes "# ") text (no_lf_check (codes "# ") refl) line.one_line)
-      (omega (arith, within, length-append (codes "# ") text)) (silent_plain tree prefix (32 ∷ text) plain)
+      (omega (arith, within, length-append (codes "# ") text)) (silent_plain prefix.is_raw tree prefix.prefix (32 ∷ text) plain)
 
   end_quiet : (text : List ℕ) → IsLineText text → Gives tree prefix stream (end_line text) []
   end_quiet text line =
@@ -43,13 +43,13 @@ module _ (tree : TreeFacts) (prefix stream : List ℕ) (is_pre : is_prefix prefi
       let body : List ℕ = codes "# end of " ++ text in
       quiet body (All-append (λ b. is_line_feed b ≡ false) (codes "# end of ") text (no_lf_check (codes "# end of ") refl) line.one_line)
       (omega (arith, within, length-append (codes "# end of ") text))
-      (silent tree prefix (codes " end of " ++ text) (λ name e. end_unsets_nothing prefix text name is_pre e))
+      (silent prefix.is_raw tree prefix.prefix (codes " end of " ++ text) (λ name e. end_unsets_nothing prefix.prefix text name is_pre e))
 
   -- two texts without assignments
   both : (a b : List ℕ) → Gives tree prefix stream a [] → Gives tree prefix stream b [] → Gives tree prefix stream (a ++ b) []
   both a b first second = gives_append tree prefix stream a b [] [] first second
 
-  title_quiet_lines : (text : List ℕ) → IsLineText text → IsNotUnsetLine prefix (title_line text) → Gives tree prefix stream (title_lines text) []
+  title_quiet_lines : (text : List ℕ) → IsLineText text → IsNotUnsetLine prefix.prefix (title_line text) → Gives tree prefix stream (title_lines text) []
   title_quiet_lines text line plain =
       let is : title_lines text ≡ 10 ∷ [] ++ (35 ∷ 10 ∷ [] ++ ((title_line text ++ 10 ∷ []) ++ (35 ∷ 10 ∷ []))) = simp append_assoc in
       subst (λ t. Gives tree prefix stream t []) (sym is)
@@ -63,9 +63,9 @@ module _ (tree : TreeFacts) (prefix stream : List ℕ) (is_pre : is_prefix prefi
   notice_line : Gives tree prefix stream (notice ++ 10 ∷ []) []
   notice_line =
       quiet notice (no_lf_check notice refl) (omega arith)
-      (silent tree prefix (codes " Automatically generated file; DO NOT EDIT.") (λ name e. unset_not_last prefix (codes "# Automatically generated file; DO NOT EDIT") 46 name refl e))
+      (silent prefix.is_raw tree prefix.prefix (codes " Automatically generated file; DO NOT EDIT.") (λ name e. unset_not_last prefix.prefix (codes "# Automatically generated file; DO NOT EDIT") 46 name refl e))
 
-  heading_quiet : (text : List ℕ) → IsLineText text → IsNotUnsetLine prefix (title_line text) → Gives tree prefix stream (config_heading text) []
+  heading_quiet : (text : List ℕ) → IsLineText text → IsNotUnsetLine prefix.prefix (title_line text) → Gives tree prefix stream (config_heading text) []
   heading_quiet text line plain =
       let is : config_heading text ≡ 35 ∷ 10 ∷ [] ++ ((notice ++ 10 ∷ []) ++ ((title_line text ++ 10 ∷ []) ++ (35 ∷ 10 ∷ []))) = simp append_assoc in
       subst (λ t. Gives tree prefix stream t []) (sym is)
@@ -74,7 +74,7 @@ module _ (tree : TreeFacts) (prefix stream : List ℕ) (is_pre : is_prefix prefi
       (both (title_line text ++ 10 ∷ []) (35 ∷ 10 ∷ []) (title_quiet text line plain) hash_line)))
 
   -- Entries.
-  title_if_quiet : (shown : Bool) (text : List ℕ) → IsLineText text → (shown ≡ true → IsNotUnsetLine prefix (title_line text)) → Gives tree prefix stream (title_if shown text) []
+  title_if_quiet : (shown : Bool) (text : List ℕ) → IsLineText text → (shown ≡ true → IsNotUnsetLine prefix.prefix (title_line text)) → Gives tree prefix stream (title_if shown text) []
   title_if_quiet true text line plain = title_quiet_lines text line (plain refl)
   title_if_quiet false text line plain = gives_nothing tree prefix stream
 
@@ -82,7 +82,7 @@ module _ (tree : TreeFacts) (prefix stream : List ℕ) (is_pre : is_prefix prefi
   gap_quiet true = empty_line
   gap_quiet false = gives_nothing tree prefix stream
 
-  module _ (solution : SolutionView) (given : SymId → List Assignment) (texts : OfTitles IsLineText tree) (plain : HasPlainTitles tree prefix solution) where
+  module _ (solution : SolutionView) (given : SymId → List Assignment) (texts : OfTitles IsLineText tree) (plain : HasPlainTitles tree prefix.prefix solution) where
     abbrev pub entry_given : Shown → List Assignment
     entry_given (SymbolShown s) = cond (solution.written s) (given s) []
     entry_given (MenuShown text when) = []

@@ -1,9 +1,10 @@
 -- The texts of the entries, one after another.
-use Rattle.std.proofs.Common.{◌≡◌, List, ℕ, [], ◌∷◌, ◌++◌, Bool, true, false, cond, refl, sym, ap, ◌∙◌, Option, Some, None}
+use Rattle.std.proofs.Common.{◌≡◌, List, [], ◌∷◌, ◌++◌, Bool, true, false, cond, refl, sym, ap, ◌∙◌, Option, Some, None}
 use Rattle.std.specs.Prelude.{slice_get}
 use Rattle.std.specs.Option.{option_map_or}
 use Rattle.std.specs.List.{filter, last_or}
 use Rattle.std.proofs.lemmas.List.Elements.{filter-append}
+use Rattle.kc_language.specs.ConfigFile.{Notation}
 use Rattle.kc_language.specs.declared.expressions.SymId.{SymId}
 use Rattle.kc_language.specs.declared.expressions.Tri.{Tri}
 use Rattle.kc_language.specs.Expressions.{SymbolValue}
@@ -14,7 +15,7 @@ use Rattle.kc_config_file.specs.PartsOfTexts.{config_heading, entries_text, is_e
 use Rattle.kc_config_file.proofs.InTurnLemmas.{each_after, each_after-cons}
 use Rattle.kc_config_file.proofs.PlaceLemmas.{last_or-append}
 
-module _ (tree : TreeFacts) (prefix : List ℕ) (solution : SolutionView) where
+module _ (tree : TreeFacts) (prefix : Notation) (solution : SolutionView) where
   -- one entry more: it is the last with lines, or has none
   end_is_last-append : (before : List Shown) (entry : Shown) → end_is_last tree solution (before ++ entry ∷ []) ≡ ends_after tree solution (end_is_last tree solution before) entry
   end_is_last-append before entry =
@@ -42,7 +43,7 @@ module _ (tree : TreeFacts) (prefix : List ℕ) (solution : SolutionView) where
   entries_text-after entries = texts_after [] entries
 
 -- The .config does not ask which symbols differ or are new.
-module _ (tree : TreeFacts) (prefix : List ℕ) (value : SymId → SymbolValue) (written : SymId → Bool) (differs other : (SymId → Bool) × (SymId → Bool)) (truth : Condition → Tri) where
+module _ (tree : TreeFacts) (prefix : Notation) (value : SymId → SymbolValue) (written : SymId → Bool) (differs other : (SymId → Bool) × (SymId → Bool)) (truth : Condition → Tri) where
   abbrev view : (SymId → Bool) × (SymId → Bool) → SolutionView
   view d = record { value = value; written = written; differs = d.0; is_new = d.1; truth = truth }
 

@@ -10,14 +10,14 @@ use Rattle.kc_config_file.specs.declared.fault.InputFault.TheVariants.{InputLine
 use Rattle.kc_config_file.specs.Feeding.{StreamPosition, IsWithinLine, fed, to_come, ReadsPiece, Feeds, StopsBecause, Refuses, FinishesStream}
 use Rattle.kc_language.specs.Text.{longest_input_line}
 use Rattle.kc_text.specs.PartsOfText.{one_more}
-use Rattle.kc_language.specs.ConfigFile.{UserInput, lines_from, reading, input_after, warning}
+use Rattle.kc_language.specs.ConfigFile.{Notation, UserInput, lines_from, reading, input_after, warning}
 use Rattle.kc_config_file.specs.PartsOfConfigFile.{line}
 use Rattle.kc_config_file.specs.Reading.{with_warnings}
 use Rattle.kc_config_file.proofs.LineLemmas.{HasNoLf, lines_from-lf, lines_from-last, is_within-line}
 use Rattle.kc_config_file.proofs.LongLineLemmas.{MeetsLongLine-long, MeetsLongLine-longer}
 use Rattle.kc_config_file.proofs.ReadingLemmas.{with_warnings-with_warnings, reading_within}
 
-module _ (tree : TreeFacts) (prefix name : List ℕ) where
+module _ (tree : TreeFacts) (prefix : Notation) (name : List ℕ) where
   pub ReadsPiece-nothing : (position : StreamPosition) (places : UserInput) → ReadsPiece tree prefix name [] position position places places []
   ReadsPiece-nothing position places rest more = refl
 
@@ -103,7 +103,7 @@ pub OnOk-three : {T E : Type 0} → (r : Result T E) (P Q R S : Type 0) → (P �
 OnOk-three (Ok x) P Q R S f p q r = f p q r
 OnOk-three (Err e) P Q R S f p q r = tt
 
-module _ (tree : TreeFacts) (prefix name : List ℕ) where
+module _ (tree : TreeFacts) (prefix : Notation) (name : List ℕ) where
   -- there is no last line
   pub FinishesStream-nothing : (position : StreamPosition) (places : UserInput) (told : List ℕ) → position.pending ≡ [] → FinishesStream tree prefix name position places places told told
   FinishesStream-nothing position places told empty =

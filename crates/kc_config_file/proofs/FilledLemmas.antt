@@ -68,7 +68,7 @@ module _ {A B : Type 0} (f : A → Option B) where
         | inr later ↦ inr (y, later, e)
       ]
 
-get_each : {A B : Type 0} (f : ℕ → A → B) (n : ℕ) (xs : List A) (i : ℕ) (d : B) (e : A) → i < length xs → get_or (each_from f n xs) i d ≡ f (n + i) (get_or xs i e)
+pub get_each : {A B : Type 0} (f : ℕ → A → B) (n : ℕ) (xs : List A) (i : ℕ) (d : B) (e : A) → i < length xs → get_or (each_from f n xs) i d ≡ f (n + i) (get_or xs i e)
 get_each f n [] i d e lt = absurd (omega arith)
 get_each f n (x ∷ xs) zero d e lt = let k : n ≡ n + 0 = omega arith in ap (λ j. f j x) k
 get_each f n (x ∷ xs) (suc i) d e lt =

@@ -3,7 +3,7 @@ use Rattle.std.proofs.Common.{◌≡◌, ℕ, ◌<◌, ◌≤◌, suc, List, [],
 use Rattle.std.specs.List.{cons_option, flat_map, Contains}
 use Rattle.std.specs.Str.Lines.{strip_carriage_return}
 use Rattle.kc_language.specs.Symbols.{TreeFacts}
-use Rattle.kc_language.specs.ConfigFile.{Places, meaning_of, effect_of, Assignment, Line, ReadResult, UserInput, input_after, lines_from, reading, warning, places_given, places_after, effect}
+use Rattle.kc_language.specs.ConfigFile.{Notation, Places, meaning_of, effect_of, Assignment, Line, ReadResult, UserInput, input_after, lines_from, reading, warning, places_given, places_after, effect}
 use Rattle.kc_config_file.specs.PartsOfConfigFile.{line, assignment_of}
 use Rattle.kc_text.specs.PartsOfText.{one_more}
 use Rattle.kc_config_file.specs.Reading.{with_warnings}
@@ -11,7 +11,7 @@ use Rattle.kc_config_file.proofs.LineLemmas.{HasNoLf, lines_from-lf, lines_from-
 use Rattle.kc_config_file.proofs.PlaceLemmas.{places_given-append, places_given-nothing}
 use Rattle.kc_config_file.proofs.ReadingLemmas.{reading_within, reading-nothing, with_warnings-with_warnings}
 
-module _ (tree : TreeFacts) (prefix stream : List ℕ) where
+module _ (tree : TreeFacts) (prefix : Notation) (stream : List ℕ) where
   -- reading goes on from here, with these assignments made
   abbrev Goes : List Line → UserInput → List Assignment → List Line → Type 0
   Goes lines input given rest =
@@ -36,7 +36,7 @@ module _ (tree : TreeFacts) (prefix stream : List ℕ) where
 
   -- one line
   pub gives_line : (body : List ℕ) (o : Option Assignment) → HasNoLf body → length body ≤ 65535 →
-      assignment_of (effect_of tree (meaning_of prefix (strip_carriage_return body))) ≡ o → Gives (body ++ 10 ∷ []) (cons_option o [])
+      assignment_of (effect_of prefix.is_raw tree (meaning_of prefix.prefix (strip_carriage_return body))) ≡ o → Gives (body ++ 10 ∷ []) (cons_option o [])
   unfolding effect
   gives_line body o none short is n rest input =
       let l = line stream n body true in

@@ -5,7 +5,7 @@ use Rattle.kc_language.specs.Expressions.{SymbolValue}
 use Rattle.kc_language.specs.Values.{Solves, GivenValue, UserPlace, changes_on_reread, name_count, known_from, user_place, rhs, equations, written}
 use Rattle.kc_language.specs.Symbols.{TreeFacts}
 use Rattle.kc_tree.specs.TreeFacts.{IsLineText, IsWellFormed, OfTitles, ShowsEach}
-use Rattle.kc_language.specs.ConfigFile.{Places, place_at, is_prefix}
+use Rattle.kc_language.specs.ConfigFile.{Notation, Places, place_at, is_prefix}
 use Rattle.kc_values.specs.GivenLines.{reread_places}
 use Rattle.kc_values.specs.Laws.{SolutionsAgree}
 use Rattle.kc_values.specs.Members.{MembersAreTheirs, MembersAreBools}
@@ -18,8 +18,8 @@ use Rattle.kc_config_file.proofs.SymbolLineLemmas.{FitsLine}
 module _ (tree : TreeFacts) (user : UserPlace → Option GivenValue) (V : ℕ → SymbolValue) (formed : IsWellFormed tree) (theirs : MembersAreTheirs tree)
     (bools : MembersAreBools tree) (named_all : HasNames tree) (shows : ShowsEach tree) (texts : OfTitles IsLineText tree)
     (solves : Solves (name_count tree) (equations tree user) V)
-    (fits : (s : SymId) → s.0 < name_count tree → written tree (known_from tree V) s ≡ true → FitsLine (V s.0)) (prefix : List ℕ)
-    (is_pre : is_prefix prefix ≡ true) (plain : HasPlainTitles tree prefix (valuation_view tree user V)) where
+    (fits : (s : SymId) → s.0 < name_count tree → written tree (known_from tree V) s ≡ true → FitsLine (V s.0)) (prefix : Notation)
+    (is_pre : is_prefix prefix.prefix ≡ true) (plain : HasPlainTitles tree prefix.prefix (valuation_view tree user V)) where
   abbrev IsIdempotent : Type 0
   IsIdempotent = (i : ℕ) → i < name_count tree → changes_on_reread tree V i ≡ false
 

@@ -6,6 +6,7 @@ pub mod CommentLemmas
 pub mod ConfigLaws
 pub mod ConfigTextLemmas
 pub mod EntryLemmas
+mod EscapeLemmas
 mod FedLemmas
 pub mod FeedLemmas
 pub mod FilledLemmas
@@ -37,3 +38,4 @@ pub mod TextLemmas
 pub mod ValueTextLemmas
 pub mod WholeLinesLemmas
 pub mod WritingLemmas
+pub mod NewListLaws

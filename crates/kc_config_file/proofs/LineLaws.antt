@@ -1,10 +1,10 @@
 -- The laws of lines that are read one after another.
-use Rattle.std.proofs.Common.{◌≡◌, ℕ, List, [], ◌∷◌, ◌++◌, refl, ap, ◌∙◌, append-nil, Option, Some}
+use Rattle.std.proofs.Common.{◌≡◌, ℕ, Bool, List, [], ◌∷◌, ◌++◌, refl, ap, ◌∙◌, append-nil, Option, Some}
 use Rattle.std.specs.Prelude.{slice_set}
 use Rattle.kc_language.specs.declared.expressions.SymId.{SymId}
 use Rattle.kc_language.specs.Symbols.{TreeFacts}
 use Rattle.kc_language.specs.Values.{GivenValue}
-use Rattle.kc_language.specs.ConfigFile.{Places, Effect, Silent, Warns, Assigns, Line, UserInput, StreamLocation, effect, gone_after, input_after, meaning, not_allowed, places_after, refused_after, stream_location, untaken, untaken_line, warning, warnings}
+use Rattle.kc_language.specs.ConfigFile.{Notation, Places, Effect, Silent, Warns, Assigns, Line, UserInput, StreamLocation, effect, gone_after, input_after, meaning, not_allowed, places_after, refused_after, stream_location, untaken, untaken_line, warning, warnings}
 use Rattle.kc_config_file.specs.PartsOfConfigFile.{assignments}
 use Rattle.kc_config_file.specs.LineSteps.{gone_by, input_by, refused_by}
 use Rattle.kc_config_file.specs.ReadingLaws.{GoesLineByLine, LinesAddUp, LinesAreCut, LinesDoWhatTheySay, LinesInTurn, LinesKeepCounts}
@@ -20,7 +20,7 @@ lines_cut = record {
   waiting = waiting_no_lf;
 }
 
-module _ (tree : TreeFacts) (prefix : List ℕ) where
+module _ (tree : TreeFacts) (prefix : Notation) where
   pub line_by_line : GoesLineByLine tree prefix
   line_by_line = record { nothing = reading-nothing tree prefix; short = reading_within tree prefix; too_long = reading_long tree prefix }
 
@@ -32,15 +32,15 @@ module _ (tree : TreeFacts) (prefix : List ℕ) where
       ∙ ap (λ t. warning tree prefix input l ++ t) (warnings-nothing tree prefix (input_after tree prefix input (l ∷ [])))
       ∙ append-nil (warning tree prefix input l)
 
-  none_untaken : (places : Places) → untaken tree prefix places [] ≡ []
+  none_untaken : (asked : Bool) (places : Places) → untaken tree prefix asked places [] ≡ []
   unfolding untaken
-  none_untaken places = refl
+  none_untaken asked places = refl
 
-  one_untaken : (places : Places) (l : Line) → untaken tree prefix places (l ∷ []) ≡ untaken_line tree prefix places l
-  one_untaken places l =
-      untaken-cons tree prefix places l []
-      ∙ ap (λ (ls : List Line). untaken_line tree prefix places l ++ ls) (none_untaken (places_after tree prefix places (l ∷ [])))
-      ∙ append-nil (untaken_line tree prefix places l)
+  one_untaken : (asked : Bool) (places : Places) (l : Line) → untaken tree prefix asked places (l ∷ []) ≡ untaken_line tree prefix asked places l
+  one_untaken asked places l =
+      untaken-cons tree prefix asked places l []
+      ∙ ap (λ (ls : List Line). untaken_line tree prefix asked places l ++ ls) (none_untaken asked (places_after tree prefix places (l ∷ [])))
+      ∙ append-nil (untaken_line tree prefix asked places l)
 
   add_up : LinesAddUp tree prefix
   add_up = record {

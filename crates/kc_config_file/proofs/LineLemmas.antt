@@ -1,15 +1,15 @@
 -- The lines of a stream's bytes, one at a time.
 use Rattle.std.proofs.Common.{◌≡◌, ℕ, ◌≤◌, List, [], ◌∷◌, ◌++◌, Bool, true, false, length, refl, ap, ◌∙◌, inl, inr, Option, Some, None, append-nil, cond, arith}
-use Rattle.std.specs.Prelude.{◌&&◌, ◌==◌, not, option_map}
+use Rattle.std.specs.Prelude.{◌&&◌, ◌==◌, if◌then◌else◌, not, option_map}
 use Rattle.std.specs.List.{All, slice_split, onto_first, cons_option, last_or}
 use Rattle.std.proofs.lemmas.Bool.{cases_Bool, le-leb}
 use Rattle.std.proofs.lemmas.List.Splits.{slice_split_at, slice_split_none, slice_split-cons_no, slice_split-cons_yes}
 use Rattle.kc_language.specs.Lines.{is_line_feed}
 use Rattle.kc_language.specs.declared.expressions.SymId.{SymId}
 use Rattle.kc_language.specs.Symbols.{TreeFacts}
-use Rattle.kc_language.specs.ConfigFile.{Places, meaning_of, Effect, Silent, Warns, Assigns, effect_of, Line, StreamLocation, UserInput, is_within, lines_from, effect, meaning, said_line, each_from, gone_after, input_after, is_gone, is_on, is_taken, lines_after, not_allowed, places_given, refused_after, stream_location, untaken, untaken_line, warning}
+use Rattle.kc_language.specs.{ConfigFile.{Assigns, Effect, Line, Notation, Places, Silent, StreamLocation, UserInput, Warns, each_from, effect, effect_of, gone_after, input_after, is_gone, is_on, is_reported, is_taken, is_within, lines_after, lines_from, meaning, meaning_of, not_allowed, places_given, refused_after, said_line, stream_location, untaken, untaken_line, warning}}
 use Rattle.kc_config_file.specs.PartsOfConfigFile.{line, last_line, text_of, effect_text, assignment_of, line_for, refused_for}
-use Rattle.kc_config_file.specs.LineSteps.{gone_by, input_by, input_with, refused_by, with_line}
+use Rattle.kc_config_file.specs.LineSteps.{gone_by, input_by, input_with, refused_by}
 use Rattle.kc_config_file.proofs.StepEffects.{places_by, lines_by, all_by}
 use Rattle.kc_text.specs.PartsOfText.{one_more}
 use Rattle.kc_config_file.proofs.PlaceLemmas.{each_same, one_place, places_given-nothing}
@@ -61,17 +61,19 @@ is_and_true : (b : Bool) → (b && true) ≡ b
 is_and_true true = refl
 is_and_true false = refl
 
-is_and_false : (b : Bool) → (b && false) ≡ false
-is_and_false true = refl
-is_and_false false = refl
+unless : (b r : Bool) → (b && not r) ≡ (if r then false else b)
+unless true true = refl
+unless true false = refl
+unless false true = refl
+unless false false = refl
 
-all_by_effect : (input : UserInput) (e : Effect) → (input.all_taken && is_taken input.places e) ≡ all_by input e
+all_by_effect : (input : UserInput) (e : Effect) → (input.all_taken && is_taken input.asks_unset input.places e) ≡ all_by input e
 all_by_effect input Silent = is_and_true input.all_taken
-all_by_effect input (Warns line_warning) = is_and_false input.all_taken
+all_by_effect input (Warns line_warning) = unless input.all_taken (is_reported input.asks_unset line_warning)
 all_by_effect input (Assigns s given) = refl
 
 by_parts : (tree : TreeFacts) (input : UserInput) (at : StreamLocation) (refused : List (Option StreamLocation)) (told : Option (List ℕ × List ℕ)) (e : Effect) →
-    record { places = places_by tree input.places e; lines = lines_by input.lines at e; refused = refused; all_taken = all_by input e; gone = told }
+    record { places = places_by tree input.places e; lines = lines_by input.lines at e; refused = refused; all_taken = all_by input e; gone = told; asks_unset = input.asks_unset; lead = input.lead }
     ≡ record (input_by tree input at e) { refused = refused; gone = told }
 by_parts tree input at refused told Silent = refl
 by_parts tree input at refused told (Warns line_warning) = refl
@@ -83,7 +85,7 @@ refused_by_one : (at : StreamLocation) (refused : List (Option StreamLocation)) 
 refused_by_one at refused None = each_same 0 refused
 refused_by_one at refused (Some s) = one_place s.0 0 s.0 at refused (omega arith)
 
-pub refused_after-line : (tree : TreeFacts) (prefix : List ℕ) (old : List (Option StreamLocation)) (l : Line) →
+pub refused_after-line : (tree : TreeFacts) (prefix : Notation) (old : List (Option StreamLocation)) (l : Line) →
     refused_after tree prefix old (l ∷ []) ≡ refused_by (stream_location l) (not_allowed tree (effect tree prefix l)) old
 unfolding refused_after
 refused_after-line tree prefix old l = refused_by_one (stream_location l) old (not_allowed tree (effect tree prefix l))
@@ -98,44 +100,44 @@ one_gone text true true (Some told) = λ i. Some (told.0 ++ append-nil text i, a
 one_gone text true false (Some told) = λ i. Some (append-nil told.0 i, told.1 ++ append-nil text i)
 one_gone text false on (Some told) = λ i. Some (append-nil told.0 i, append-nil told.1 i)
 
-pub gone_after-line : (tree : TreeFacts) (prefix : List ℕ) (old : Option (List ℕ × List ℕ)) (l : Line) →
+pub gone_after-line : (tree : TreeFacts) (prefix : Notation) (old : Option (List ℕ × List ℕ)) (l : Line) →
     gone_after tree prefix old (l ∷ []) ≡ gone_by prefix (meaning tree prefix l) (effect tree prefix l) old
 unfolding gone_after
-gone_after-line tree prefix old l = one_gone (said_line prefix (meaning tree prefix l)) (is_gone (effect tree prefix l)) (is_on (meaning tree prefix l)) old
+gone_after-line tree prefix old l = one_gone (said_line prefix.prefix (meaning tree prefix l)) (is_gone (effect tree prefix l)) (is_on (meaning tree prefix l)) old
 
-pub input_after-parts : (tree : TreeFacts) (prefix : List ℕ) (input : UserInput) (l : Line) →
+pub input_after-parts : (tree : TreeFacts) (prefix : Notation) (input : UserInput) (l : Line) →
     input_after tree prefix input (l ∷ [])
-    ≡ record (input_by tree input (stream_location l) (effect_of tree (meaning_of prefix (text_of l)))) {
+    ≡ record (input_by tree input (stream_location l) (effect_of prefix.is_raw tree (meaning_of prefix.prefix (text_of l)))) {
       refused = refused_after tree prefix input.refused (l ∷ []);
       gone = gone_after tree prefix input.gone (l ∷ []);
     }
 unfolding effect lines_after untaken_line untaken
 input_after-parts tree prefix input l =
-    let e = effect_of tree (meaning_of prefix (text_of l)) in
+    let e = effect_of prefix.is_raw tree (meaning_of prefix.prefix (text_of l)) in
     let nothing : places_given tree input.places [] ≡ input.places = places_given-nothing tree input.places in
-    let none : (length (cond (is_taken (places_given tree input.places []) e) [] (l ∷ []) ++ []) == 0) ≡ is_taken input.places e =
-    none_untaken l (is_taken (places_given tree input.places []) e) ∙ ap (λ (p : Places). is_taken p e) nothing in
-    let all : (input.all_taken && (length (cond (is_taken (places_given tree input.places []) e) [] (l ∷ []) ++ []) == 0)) ≡ all_by input e =
+    let none : (length (cond (is_taken input.asks_unset (places_given tree input.places []) e) [] (l ∷ []) ++ []) == 0) ≡ is_taken input.asks_unset input.places e =
+    none_untaken l (is_taken input.asks_unset (places_given tree input.places []) e) ∙ ap (λ (p : Places). is_taken input.asks_unset p e) nothing in
+    let all : (input.all_taken && (length (cond (is_taken input.asks_unset (places_given tree input.places []) e) [] (l ∷ []) ++ []) == 0)) ≡ all_by input e =
     ap (λ b. input.all_taken && b) none ∙ all_by_effect input e in
     rw (after_effect tree input.places e, lines_by_effect (stream_location l) input.lines e, all)
     (by_parts tree input (stream_location l) (refused_after tree prefix input.refused (l ∷ [])) (gone_after tree prefix input.gone (l ∷ [])) e)
 
-pub input_after-line : (tree : TreeFacts) (prefix : List ℕ) (input : UserInput) (l : Line) (text : List ℕ) → text ≡ text_of l →
-    input_after tree prefix input (l ∷ []) ≡ input_with tree prefix input (stream_location l) (meaning_of prefix text)
+pub input_after-line : (tree : TreeFacts) (prefix : Notation) (input : UserInput) (l : Line) (text : List ℕ) → text ≡ text_of l →
+    input_after tree prefix input (l ∷ []) ≡ input_with tree prefix input (stream_location l) (meaning_of prefix.prefix text)
 unfolding effect
 input_after-line tree prefix input l text is =
     rw is (input_after-parts tree prefix input l
-    ∙ ap (λ (refused : List (Option StreamLocation)). record (input_by tree input (stream_location l) (effect_of tree (meaning_of prefix (text_of l)))) {
+    ∙ ap (λ (refused : List (Option StreamLocation)). record (input_by tree input (stream_location l) (effect_of prefix.is_raw tree (meaning_of prefix.prefix (text_of l)))) {
       refused = refused;
       gone = gone_after tree prefix input.gone (l ∷ []);
     }) (refused_after-line tree prefix input.refused l)
-    ∙ ap (λ (gone : Option (List ℕ × List ℕ)). record (input_by tree input (stream_location l) (effect_of tree (meaning_of prefix (text_of l)))) {
+    ∙ ap (λ (gone : Option (List ℕ × List ℕ)). record (input_by tree input (stream_location l) (effect_of prefix.is_raw tree (meaning_of prefix.prefix (text_of l)))) {
       refused = refused_by (stream_location l) (not_allowed tree (effect tree prefix l)) input.refused;
       gone = gone;
     }) (gone_after-line tree prefix input.gone l))
 
-pub warning-line : (tree : TreeFacts) (prefix : List ℕ) (input : UserInput) (l : Line) (text : List ℕ) → text ≡ text_of l →
-    warning tree prefix input l ≡ effect_text tree input (stream_location l) (effect_of tree (meaning_of prefix text))
+pub warning-line : (tree : TreeFacts) (prefix : Notation) (input : UserInput) (l : Line) (text : List ℕ) → text ≡ text_of l →
+    warning tree prefix input l ≡ effect_text prefix.is_raw tree input (stream_location l) (effect_of prefix.is_raw tree (meaning_of prefix.prefix text))
 unfolding warning effect
 warning-line tree prefix input l text is = rw is refl
 

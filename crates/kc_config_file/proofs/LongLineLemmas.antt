@@ -8,7 +8,7 @@ use Rattle.std.proofs.lemmas.List.Splits.{slice_split-cons_no}
 use Rattle.kc_language.specs.Lines.{is_line_feed}
 use Rattle.kc_language.specs.Symbols.{TreeFacts}
 use Rattle.kc_config_file.specs.Feeding.{StreamPosition, IsWithinLine, MeetsLongLine}
-use Rattle.kc_language.specs.ConfigFile.{UserInput, Line, is_within, lines_from, lines_in_stream}
+use Rattle.kc_language.specs.ConfigFile.{Notation, UserInput, Line, is_within, lines_from, lines_in_stream}
 use Rattle.kc_config_file.specs.PartsOfConfigFile.{line}
 use Rattle.kc_config_file.proofs.LineLemmas.{HasNoLf, split_form}
 use Rattle.kc_config_file.proofs.ReadingLemmas.{reading_long}
@@ -37,7 +37,7 @@ begins_line stream n bytes b rest one other =
     (part, ended, lines, ap (lines_in_stream stream n) whole ∙ first)
 
 -- the 65,536th byte of a line stops the reading there
-pub MeetsLongLine-long : (tree : TreeFacts) (prefix name : List ℕ) (b : ℕ) (position : StreamPosition) (places : UserInput) → IsWithinLine position →
+pub MeetsLongLine-long : (tree : TreeFacts) (prefix : Notation) (name : List ℕ) (b : ℕ) (position : StreamPosition) (places : UserInput) → IsWithinLine position →
     is_line_feed b ≡ false → 65535 ≤ length position.pending → MeetsLongLine tree prefix name (b ∷ []) position places
 MeetsLongLine-long tree prefix name b position places opened other long rest more =
     let (part, ended, lines, is) = begins_line name position.number position.pending b rest opened.one_line other in
@@ -47,6 +47,6 @@ MeetsLongLine-long tree prefix name b position places opened other long rest mor
     rw is (reading_long tree prefix places l (lines ++ more) too_long)
 
 -- whatever else follows in the piece
-pub MeetsLongLine-longer : (tree : TreeFacts) (prefix name a b : List ℕ) (position : StreamPosition) (places : UserInput) → MeetsLongLine tree prefix name a position places →
+pub MeetsLongLine-longer : (tree : TreeFacts) (prefix : Notation) (name a b : List ℕ) (position : StreamPosition) (places : UserInput) → MeetsLongLine tree prefix name a position places →
     MeetsLongLine tree prefix name (a ++ b) position places
 MeetsLongLine-longer tree prefix name a b position places stops rest more = rw append_assoc (stops (b ++ rest) more)

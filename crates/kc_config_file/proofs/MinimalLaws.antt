@@ -8,7 +8,7 @@ use Rattle.kc_order.specs.Minimal.{kept, Restores, NothingCanGo}
 use Rattle.kc_language.specs.Values.{Solves, GivenValue, UserPlace, SymbolPlace, ChoicePlace, differs, default_selection, name_count, user_place, rhs, equations}
 use Rattle.kc_language.specs.Symbols.{TreeFacts, is_symbol_of}
 use Rattle.kc_tree.specs.TreeFacts.{IsWellFormed}
-use Rattle.kc_language.specs.ConfigFile.{Places, place_at, is_prefix, Assignment, ReadResult, lines_from, no_input, reading, places_given}
+use Rattle.kc_language.specs.ConfigFile.{Notation, Places, place_at, is_prefix, Assignment, ReadResult, lines_from, no_input, reading, places_given}
 use Rattle.kc_user.specs.PartsOfConfigFile.{no_places}
 use Rattle.kc_user.specs.Places.{AllowedPlaces}
 use Rattle.kc_values.specs.GivenLines.{minimal_line}
@@ -23,11 +23,11 @@ use Rattle.kc_config_file.proofs.GivesLemmas.{Gives, gives_whole}
 use Rattle.kc_config_file.proofs.MinimalTextLemmas.{differing_line, keeps_differing, tells_differing, stays, stays_member, all_given, minimal_gives, left_at}
 
 -- a text read alone
-pub read_alone_is : (tree : TreeFacts) (prefix name text : List ℕ) → read_alone tree prefix name text ≡ reading tree prefix (no_input false tree) (lines_from name 1 text)
+pub read_alone_is : (tree : TreeFacts) (prefix : Notation) (name text : List ℕ) → read_alone tree prefix name text ≡ reading tree prefix (no_input false tree) (lines_from name 1 text)
 read_alone_is tree prefix name text = ap (reading tree prefix (no_input false tree)) (append-nil (lines_from name 1 text))
 
 -- a text that gives these assignments, read alone
-pub alone_whole : (tree : TreeFacts) (prefix name text : List ℕ) (given : List Assignment) → Gives tree prefix name text given →
+pub alone_whole : (tree : TreeFacts) (prefix : Notation) (name text : List ℕ) (given : List Assignment) → Gives tree prefix name text given →
     let read = read_alone tree prefix name text in (read.stopped ≡ None) × (read.input.places ≡ places_given tree (no_places tree) given)
 alone_whole tree prefix name text given gives =
     let (whole, left) = gives_whole tree prefix name text given (no_input false tree) gives in
@@ -35,7 +35,7 @@ alone_whole tree prefix name text given gives =
 
 module _ (tree : TreeFacts) (user : UserPlace → Option GivenValue) (V : ℕ → SymbolValue) (formed : IsWellFormed tree) (theirs : MembersAreTheirs tree)
     (bools : MembersAreBools tree) (named_all : HasNames tree) (allowed_at : AllowedPlaces tree user) (law : DifferingAreAllowed)
-    (solves : Solves (name_count tree) (equations tree user) V) (prefix : List ℕ) (is_pre : is_prefix prefix ≡ true) where
+    (solves : Solves (name_count tree) (equations tree user) V) (prefix : Notation) (is_pre : is_prefix prefix.prefix ≡ true) where
   abbrev Keep : UserPlace → Bool
   Keep = keeps_differing tree user V theirs solves
 

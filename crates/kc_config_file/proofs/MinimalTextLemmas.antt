@@ -12,7 +12,7 @@ use Rattle.kc_order.specs.Minimal.{kept}
 use Rattle.kc_language.specs.Values.{Solves, GivenValue, Member, UserPlace, SymbolPlace, ChoicePlace, is_yes, given_of, differs, default_selection, facts, choice_at, name_count, known_from, user_place, equations, name as name_of}
 use Rattle.kc_language.specs.Symbols.{TreeFacts, SymbolFacts, is_symbol_of}
 use Rattle.kc_tree.specs.TreeFacts.{IsWellFormed}
-use Rattle.kc_language.specs.ConfigFile.{place_at, is_prefix, Assignment, places_given}
+use Rattle.kc_language.specs.ConfigFile.{Notation, place_at, is_prefix, Assignment, places_given}
 use Rattle.kc_user.specs.PartsOfConfigFile.{no_places}
 use Rattle.kc_config_file.specs.PartsOfConfigFile.{choice_of}
 use Rattle.kc_user.specs.Places.{allowed, allowed_by, allowed_for, AllowedPlaces}
@@ -136,7 +136,7 @@ module _ (tree : TreeFacts) (user : UserPlace → Option GivenValue) (V : ℕ �
 -- Reading the lines of the symbols that differ and that a test keeps.
 module _ (tree : TreeFacts) (user : UserPlace → Option GivenValue) (V : ℕ → SymbolValue) (formed : IsWellFormed tree) (theirs : MembersAreTheirs tree)
     (bools : MembersAreBools tree) (named_all : HasNames tree) (allowed_at : AllowedPlaces tree user) (law : DifferingAreAllowed)
-    (solves : Solves (name_count tree) (equations tree user) V) (prefix : List ℕ) (is_pre : is_prefix prefix ≡ true) (keep : SymId → Bool) where
+    (solves : Solves (name_count tree) (equations tree user) V) (prefix : Notation) (is_pre : is_prefix prefix.prefix ≡ true) (keep : SymId → Bool) where
   abbrev pub value_of_symbol : SymId → GivenValue
   value_of_symbol s = given_of (V s.0)
 
@@ -167,7 +167,7 @@ module _ (tree : TreeFacts) (user : UserPlace → Option GivenValue) (V : ℕ �
       let (f, at) = there tree.symbols s.0 lt in
       let (ok, shape, fits) = differing_fits s f at lt e in
       let defined = allowed_defined tree formed s (given_of (V s.0)) ok in
-      subst (λ k. IsOneLine (config_file_line (prefix ++ name_of tree s) k)) (sym (told_is s lt))
+      subst (λ k. IsOneLine (config_file_line prefix.is_raw (prefix.prefix ++ name_of tree s) k)) (sym (told_is s lt))
       (symbol_line tree prefix [] is_pre formed named_all s f at defined (V s.0) shape fits)
 
   differing_gives : (stream : List ℕ) (s : SymId) → s.0 < length tree.symbols → differs tree user V s.0 ≡ true →
@@ -178,8 +178,8 @@ module _ (tree : TreeFacts) (user : UserPlace → Option GivenValue) (V : ℕ �
       let defined = allowed_defined tree formed s (given_of (V s.0)) ok in
       let own_is : own tree prefix stream is_pre formed named_all s f at defined (V s.0) ≡ Some (assignment_to s) = rw ok refl in
       let line = symbol_gives tree prefix stream is_pre formed named_all s f at defined (V s.0) shape fits in
-      subst (λ k. Gives tree prefix stream (config_file_line (prefix ++ name_of tree s) k) (assignment_to s ∷ [])) (sym (told_is s lt))
-      (subst (λ o. Gives tree prefix stream (config_file_line (prefix ++ name_of tree s) (V s.0)) (cons_option o [])) own_is line)
+      subst (λ k. Gives tree prefix stream (config_file_line prefix.is_raw (prefix.prefix ++ name_of tree s) k) (assignment_to s ∷ [])) (sym (told_is s lt))
+      (subst (λ o. Gives tree prefix stream (config_file_line prefix.is_raw (prefix.prefix ++ name_of tree s) (V s.0)) (cons_option o [])) own_is line)
 
   -- a symbol that differs is defined
   differing_defined : (s : SymId) → s.0 < length tree.symbols → passes s ≡ true → Contains tree.defined s

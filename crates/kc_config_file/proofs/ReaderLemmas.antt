@@ -1,14 +1,14 @@
 -- What a call of a reader answers.
 use Rattle.std.proofs.Common.{◌≡◌, List, ℕ, refl, Option, Some, None, Ok, Err}
 use Rattle.kc_language.specs.Symbols.{TreeFacts}
-use Rattle.kc_language.specs.ConfigFile.{ArePlacesOf, UserInput}
+use Rattle.kc_language.specs.ConfigFile.{Notation, ArePlacesOf, UserInput}
 use Rattle.kc_config_file.specs.declared.fault.InputFault.{InputFault}
 use Rattle.kc_config_file.specs.Feeding.{StreamPosition, Feeds, Refuses, FinishesStream, ended, fed}
 use Rattle.kc_config_file.specs.ReaderCalls.{AnswersFeed, AnswersEnd}
 use Rattle.kc_config_file.specs.ReaderState.{ReaderState}
 use Rattle.kc_config_file.proofs.WholeLinesLemmas.{Feeds-lines, Refuses-lines, FinishesStream-lines}
 
-module _ (tree : TreeFacts) (prefix name : List ℕ) where
+module _ (tree : TreeFacts) (prefix : Notation) (name : List ℕ) where
   abbrev pub reader_at : StreamPosition → Option InputFault → ReaderState
   reader_at position refusal = record { tree = tree; prefix = prefix; name = name; position = position; refusal = refusal }
 

@@ -7,7 +7,7 @@ use Rattle.std.proofs.lemmas.List.Elements.{filter_map-append}
 use Rattle.std.proofs.lemmas.List.Concat.{flat_map-append}
 use Rattle.std.proofs.lemmas.List.Sums.{take_while-cons}
 use Rattle.kc_language.specs.Symbols.{TreeFacts}
-use Rattle.kc_language.specs.ConfigFile.{Places, Line, LineMeaning, StreamLocation, UserInput, ReadResult, stream_location, is_within, effect, gone_after, gone_text, input_after, is_on, lines_after, not_allowed, places_after, refused_after, untaken, untaken_line, warning, warnings, reading}
+use Rattle.kc_language.specs.ConfigFile.{Notation, Places, Line, LineMeaning, StreamLocation, UserInput, ReadResult, stream_location, is_within, effect, gone_after, gone_text, input_after, is_on, lines_after, not_allowed, places_after, refused_after, untaken, untaken_line, warning, warnings, reading}
 use Rattle.kc_config_file.specs.PartsOfConfigFile.{assignments, line_for, refused_for, before_too_long}
 use Rattle.kc_config_file.specs.Reading.{with_warnings}
 use Rattle.kc_config_file.proofs.InTurnLemmas.{told-append, told-cons}
@@ -30,7 +30,7 @@ and_true : (b : Bool) → (b && true) ≡ b
 and_true true = refl
 and_true false = refl
 
-module _ (tree : TreeFacts) (prefix : List ℕ) where
+module _ (tree : TreeFacts) (prefix : Notation) where
   pub places_after-append : (places : Places) (a b : List Line) → places_after tree prefix places (a ++ b) ≡ places_after tree prefix (places_after tree prefix places a) b
   places_after-append places a b =
       rw filter_map-append (places_given-append tree places (assignments tree prefix a) (assignments tree prefix b))
@@ -38,18 +38,19 @@ module _ (tree : TreeFacts) (prefix : List ℕ) where
   pub places_after-nothing : (places : Places) → places_after tree prefix places [] ≡ places
   places_after-nothing places = places_given-nothing tree places
 
-  untaken-nothing : (places : Places) → untaken tree prefix places [] ≡ []
+  untaken-nothing : (asked : Bool) (places : Places) → untaken tree prefix asked places [] ≡ []
   unfolding untaken
-  untaken-nothing places = refl
+  untaken-nothing asked places = refl
 
-  pub untaken-cons : (places : Places) (l : Line) (lines : List Line) →
-      untaken tree prefix places (l ∷ lines) ≡ untaken_line tree prefix places l ++ untaken tree prefix (places_after tree prefix places (l ∷ [])) lines
+  pub untaken-cons : (asked : Bool) (places : Places) (l : Line) (lines : List Line) →
+      untaken tree prefix asked places (l ∷ lines) ≡ untaken_line tree prefix asked places l ++ untaken tree prefix asked (places_after tree prefix places (l ∷ [])) lines
   unfolding untaken
-  untaken-cons places l lines = told-cons (places_after tree prefix) places_after-nothing places_after-append (untaken_line tree prefix) places l lines
+  untaken-cons asked places l lines = told-cons (places_after tree prefix) places_after-nothing places_after-append (untaken_line tree prefix asked) places l lines
 
-  pub untaken-append : (places : Places) (a b : List Line) → untaken tree prefix places (a ++ b) ≡ untaken tree prefix places a ++ untaken tree prefix (places_after tree prefix places a) b
+  pub untaken-append : (asked : Bool) (places : Places) (a b : List Line) →
+      untaken tree prefix asked places (a ++ b) ≡ untaken tree prefix asked places a ++ untaken tree prefix asked (places_after tree prefix places a) b
   unfolding untaken
-  untaken-append places a b = told-append (places_after tree prefix) places_after-nothing places_after-append (untaken_line tree prefix) places a b
+  untaken-append asked places a b = told-append (places_after tree prefix) places_after-nothing places_after-append (untaken_line tree prefix asked) places a b
 
   lines_after-nothing : (old : List (Option StreamLocation)) → lines_after tree prefix old [] ≡ old
   unfolding lines_after
@@ -96,13 +97,13 @@ module _ (tree : TreeFacts) (prefix : List ℕ) where
   -- the input that some lines leave is the input before the others
   pub input_after-append : (input : UserInput) (a b : List Line) → input_after tree prefix input (a ++ b) ≡ input_after tree prefix (input_after tree prefix input a) b
   input_after-append input a b =
-      let left = untaken tree prefix input.places a in
-      let right = untaken tree prefix (places_after tree prefix input.places a) b in
-      rw (places_after-append input.places a b, lines_after-append input.lines a b, refused_after-append input.refused a b, gone_after-append input.gone a b, untaken-append input.places a b, no_lines_left left right, and_assoc input.all_taken (length left == 0) (length right == 0)) refl
+      let left = untaken tree prefix input.asks_unset input.places a in
+      let right = untaken tree prefix input.asks_unset (places_after tree prefix input.places a) b in
+      rw (places_after-append input.places a b, lines_after-append input.lines a b, refused_after-append input.refused a b, gone_after-append input.gone a b, untaken-append input.asks_unset input.places a b, no_lines_left left right, and_assoc input.all_taken (length left == 0) (length right == 0)) refl
 
   pub input_after-nothing : (input : UserInput) → input_after tree prefix input [] ≡ input
   input_after-nothing input =
-      rw (places_after-nothing input.places, lines_after-nothing input.lines, refused_after-nothing input.refused, gone_after-nothing input.gone, untaken-nothing input.places, and_true input.all_taken) refl
+      rw (places_after-nothing input.places, lines_after-nothing input.lines, refused_after-nothing input.refused, gone_after-nothing input.gone, untaken-nothing input.asks_unset input.places, and_true input.all_taken) refl
 
   -- a line's warning, and then those of the others from the input after it
   pub warnings-cons : (input : UserInput) (l : Line) (lines : List Line) →

@@ -1,6 +1,6 @@
 -- What is written, read again.
-use Rattle.std.proofs.Common.{◌≡◌, ℕ, ◌-◌, ◌<◌, ◌≤◌, ◌⊎◌, suc, List, [], ◌∷◌, ◌++◌, true, false, length, get_or, eqb, refl, sym, ap, ◌∙◌, subst, arith, inl, inr, Some, None, append_assoc, length-append, codes}
-use Rattle.std.specs.Prelude.{◌||◌, ◌==◌, All}
+use Rattle.std.proofs.Common.{◌≡◌, ℕ, ◌-◌, ◌<◌, ◌≤◌, ◌⊎◌, suc, List, [], ◌∷◌, ◌++◌, Bool, true, false, cond, length, get_or, eqb, refl, sym, ap, ◌∙◌, subst, arith, inl, inr, Some, None, append_assoc, length-append, codes}
+use Rattle.std.specs.Prelude.{◌||◌, ◌+◌, ◌==◌, All, nat_le, option_map}
 use Rattle.std.specs.List.{list_any, suffix_len, position_or_len}
 use Rattle.std.specs.Option.{option_and_then}
 use Rattle.std.specs.Str.{bytes_eq}
@@ -13,16 +13,18 @@ use Rattle.std.proofs.lemmas.List.Folds.{list_any_none}
 use Rattle.std.proofs.lemmas.List.Sums.{AllPass-from_list_all}
 use Rattle.std.proofs.lemmas.Slice.Eq.{bytes_eq-Decides}
 use Rattle.kc_language.specs.Expressions.{SymbolValue, Truth, TextValue, is_name_byte}
+use Rattle.kc_language.specs.Values.{GivenText}
 use Rattle.kc_language.specs.declared.expressions.Tri.TheVariants.{N, M, Y}
 use Rattle.kc_language.specs.declared.expressions.SymbolType.TheVariants as symbol_type
 use Rattle.kc_language.specs.Texts.{config_file_line, EndsPlainly}
-use Rattle.kc_config_file.specs.PartsOfTexts.{is_end_byte}
+use Rattle.kc_config_file.specs.PartsOfTexts.{between_quotes, is_end_byte}
 use Rattle.kc_language.specs.Text.{escape}
 use Rattle.kc_config_file.specs.PartsOfConfigFile.{preceded}
 use Rattle.kc_language.specs.Tokens.{is_blank}
 use Rattle.kc_text.proofs.Unescaping.{unescape_law}
-use Rattle.kc_language.specs.ConfigFile.{Set, Unset, meaning_of, without_prefix, without_suffix, unset_name, name_and_value, until_quote, is_prefix}
+use Rattle.kc_language.specs.ConfigFile.{Set, Unset, meaning_of, without_prefix, without_suffix, unset_name, name_and_value, raw_string, until_quote, is_prefix}
 use Rattle.kc_config_file.specs.PartsOfConfigFile.{trimmed, plain, is_equals, split_at_equals, is_comment}
+use Rattle.kc_config_file.proofs.EscapeLemmas.{escape_longer}
 use Rattle.kc_config_file.specs.RoundTrip.{IsName, IsShortText, UnsetLineReadAgain, SetLineReadAgain, StringReadAgain}
 
 same_bytes : (bytes : List ℕ) → bytes_eq bytes bytes ≡ true
@@ -180,16 +182,33 @@ until_quote-escaped (b ∷ text) = elim (cases_Bool (eqb b 34 || eqb b 92)) [
     plain_byte c [] quote slash = rw quote refl
     plain_byte c (d ∷ rest) quote slash = rw (quote, slash) refl
 
+-- a raw text is what stands between its quotes
+pub raw_string-quoted : (text : List ℕ) → raw_string (34 ∷ text ++ 34 ∷ []) ≡ cond (nat_le (length (escape text) + 2) 65000) (Some text) None
+raw_string-quoted text =
+    let first : without_prefix (34 ∷ []) (34 ∷ text ++ 34 ∷ []) ≡ Some (text ++ 34 ∷ []) = without_prefix-front (34 ∷ []) (text ++ 34 ∷ []) in
+    ap (λ o. option_and_then (λ t. cond (nat_le (length (escape t) + 2) 65000) (Some t) None) (option_and_then (without_suffix (34 ∷ [])) o)) first
+    ∙ ap (option_and_then (λ t. cond (nat_le (length (escape t) + 2) 65000) (Some t) None)) (without_suffix-end text (34 ∷ []))
+
 pub string_read_again : StringReadAgain
-string_read_again text short =
+string_read_again true text short =
+    let longer = escape_longer text in
+    let within : length (34 ∷ text ++ 34 ∷ []) ≤ 65000 = omega (arith, length-append text (34 ∷ []), longer) in
+    ap (λ b. cond b (option_map GivenText (raw_string (34 ∷ text ++ 34 ∷ []))) None) (le-leb (length (34 ∷ text ++ 34 ∷ [])) 65000 within)
+    ∙ ap (option_map GivenText) (raw_string-quoted text ∙ ap (λ b. cond b (Some text) None) (le-leb (length (escape text) + 2) 65000 short))
+string_read_again false text short =
     let within : length (34 ∷ escape text ++ 34 ∷ []) ≤ 65000 = omega (arith, length-append (escape text) (34 ∷ [])) in
     rw (le-leb (length (34 ∷ escape text ++ 34 ∷ [])) 65000 within, until_quote-escaped text, unescape_law text) refl
 
-module _ (prefix name : List ℕ) (few : length prefix ≤ 64) (short : length name ≤ 255) where
+-- between its quotes a text has at most as many bytes as with escapes
+pub between_short : (is_raw : Bool) (text : List ℕ) → length (between_quotes is_raw text) ≤ length (escape text)
+between_short true text = escape_longer text
+between_short false text = omega arith
+
+module _ (is_raw : Bool) (prefix name : List ℕ) (few : length prefix ≤ 64) (short : length name ≤ 255) where
   whole_name : length (prefix ++ name) ≤ 319
   whole_name = omega (arith, length-append prefix name)
 
-  pub written_short : (known : SymbolValue) → IsShortText known → length (config_file_line (prefix ++ name) known) ≤ 65323
+  pub written_short : (known : SymbolValue) → IsShortText known → length (config_file_line is_raw (prefix ++ name) known) ≤ 65323
   written_short (Truth N) fits = omega (arith, length-append (codes "# ") (prefix ++ name), length-append (codes "# " ++ (prefix ++ name)) (codes " is not set\n"), whole_name)
   written_short (Truth M) fits = omega (arith, length-append (prefix ++ name) (codes "=m\n"), whole_name)
   written_short (Truth Y) fits = omega (arith, length-append (prefix ++ name) (codes "=y\n"), whole_name)
@@ -197,13 +216,15 @@ module _ (prefix name : List ℕ) (few : length prefix ≤ 64) (short : length n
   written_short (TextValue symbol_type.Bool text) fits = omega arith
   written_short (TextValue symbol_type.Tristate text) fits = omega arith
   written_short (TextValue symbol_type.Str text) fits =
+      let inner : List ℕ = between_quotes is_raw text in
       omega (
         arith,
-        length-append ((prefix ++ name) ++ codes "=" ++ (codes "\"" ++ escape text ++ codes "\"")) (codes "\n"),
+        between_short is_raw text,
+        length-append ((prefix ++ name) ++ codes "=" ++ (codes "\"" ++ inner ++ codes "\"")) (codes "\n"),
         length-append
-            ((prefix ++ name) ++ codes "=") (codes "\"" ++ escape text ++ codes "\""),
-        length-append (codes "\"" ++ escape text) (codes "\""),
-        length-append (codes "\"") (escape text),
+            ((prefix ++ name) ++ codes "=") (codes "\"" ++ inner ++ codes "\""),
+        length-append (codes "\"" ++ inner) (codes "\""),
+        length-append (codes "\"") inner,
         length-append (prefix ++ name) (codes "="),
         whole_name,
       )

@@ -18,16 +18,17 @@ use Rattle.kc_tree.specs.TreeFacts.{IsLineText, IsWellFormed, OfTitles}
 use Rattle.kc_language.specs.Values.{GivenValue, UserPlace, name_count, known_from, name as name_of}
 use Rattle.kc_config_file.specs.HasNames.{HasNames}
 use Rattle.kc_language.specs.Texts.{HasShortLines, valuation_view, config_file_line, config_text, title_lines, shown_title, symbol_config, end_is_last, entry_text, minimal_text, SolutionView, is_shown}
-use Rattle.kc_config_file.specs.PartsOfTexts.{title_line, config_heading, end_line, end_if, gap, entries_text, minimal_if}
-use Rattle.kc_language.specs.ConfigFile.{is_prefix, Line, is_within, lines_from}
+use Rattle.kc_config_file.specs.PartsOfTexts.{between_quotes, title_line, config_heading, end_line, end_if, gap, entries_text, minimal_if}
+use Rattle.kc_language.specs.ConfigFile.{Notation, is_prefix, Line, is_within, lines_from}
 use Rattle.kc_config_file.specs.PartsOfConfigFile.{line}
 use Rattle.kc_config_file.proofs.FilledLemmas.{contains_here, contains_later}
 use Rattle.kc_config_file.proofs.LineLemmas.{HasNoLf, lines_from-lf, lines_from-last, is_within-line}
 use Rattle.kc_config_file.proofs.MinimalTextLemmas.{there}
+use Rattle.kc_config_file.proofs.EscapeLemmas.{escape_longer}
+use Rattle.kc_config_file.proofs.RoundTripLemmas.{between_short}
 use Rattle.kc_config_file.proofs.SolutionLemmas.{has_names, mentioned}
-use Rattle.kc_config_file.proofs.SymbolLineLemmas.{no_lf_check, full_no_lf, short_prefix}
-use Rattle.kc_config_file.proofs.TextBytes.{escape_no_lf}
-use Rattle.kc_config_file.proofs.ValueTextLemmas.{fits_known, fits_parts, escape_longer}
+use Rattle.kc_config_file.proofs.SymbolLineLemmas.{between_no_lf, no_lf_check, full_no_lf, short_prefix}
+use Rattle.kc_config_file.proofs.ValueTextLemmas.{fits_known, fits_parts}
 
 abbrev Within : Line → Type 0
 Within l = is_within l ≡ true
@@ -74,7 +75,7 @@ module _ (stream : List ℕ) where
   short_if false text short = short_nothing
 
   -- A symbol's line.
-  module _ (name : List ℕ) (none : HasNoLf name) (few : length name ≤ 319) where
+  module _ (is_raw : Bool) (name : List ℕ) (none : HasNoLf name) (few : length name ≤ 319) where
     behind : (words : List ℕ) → HasNoLf words → HasNoLf (name ++ words)
     behind words solid = All-append (λ b. is_line_feed b ≡ false) name words none solid
 
@@ -85,19 +86,19 @@ module _ (stream : List ℕ) where
         short_line (front ++ text) (name ++ codes "=" ++ text ++ codes "\n") refl (All-append (λ b. is_line_feed b ≡ false) front text (behind (codes "=") (no_lf_check (codes "=") refl)) solid)
         (omega (arith, few, fits, longer, length-append name (codes "="), length-append front text))
 
-    known_short : (k : SymbolValue) → fits_known k ≡ true → Short (config_file_line name k)
+    known_short : (k : SymbolValue) → fits_known k ≡ true → Short (config_file_line is_raw name k)
     known_short (Truth N) e =
         let front : List ℕ = codes "# " ++ name in
         let body : List ℕ = front ++ codes " is not set" in
         let front_none : HasNoLf front = All-append (λ b. is_line_feed b ≡ false) (codes "# ") name (no_lf_check (codes "# ") refl) none in
-        short_line body (config_file_line name (Truth N)) (sym (append_assoc front (codes " is not set") (10 ∷ [])))
+        short_line body (config_file_line is_raw name (Truth N)) (sym (append_assoc front (codes " is not set") (10 ∷ [])))
         (All-append (λ b. is_line_feed b ≡ false) front (codes " is not set") front_none (no_lf_check (codes " is not set") refl))
         (omega (arith, few, length-append (codes "# ") name, length-append front (codes " is not set")))
     known_short (Truth M) e =
-        short_line (name ++ codes "=m") (config_file_line name (Truth M)) (sym (append_assoc name (codes "=m") (10 ∷ [])))
+        short_line (name ++ codes "=m") (config_file_line is_raw name (Truth M)) (sym (append_assoc name (codes "=m") (10 ∷ [])))
         (behind (codes "=m") (no_lf_check (codes "=m") refl)) (omega (arith, few, length-append name (codes "=m")))
     known_short (Truth Y) e =
-        short_line (name ++ codes "=y") (config_file_line name (Truth Y)) (sym (append_assoc name (codes "=y") (10 ∷ [])))
+        short_line (name ++ codes "=y") (config_file_line is_raw name (Truth Y)) (sym (append_assoc name (codes "=y") (10 ∷ [])))
         (behind (codes "=y") (no_lf_check (codes "=y") refl)) (omega (arith, few, length-append name (codes "=y")))
     known_short (TextValue symbol_type.Undefined text) e = short_nothing
     known_short (TextValue symbol_type.Bool text) e = short_nothing
@@ -105,13 +106,14 @@ module _ (stream : List ℕ) where
     known_short (TextValue symbol_type.Str text) e =
         let (solid, fits) = fits_parts text e in
         let front : List ℕ = name ++ codes "=" in
-        let open_ : List ℕ = codes "\"" ++ escape text in
+        let inner : List ℕ = between_quotes is_raw text in
+        let open_ : List ℕ = codes "\"" ++ inner in
         let quoted : List ℕ = open_ ++ codes "\"" in
-        let open_none : HasNoLf open_ = All-cons (λ b. is_line_feed b ≡ false) 34 (escape text) refl (escape_no_lf text solid) in
+        let open_none : HasNoLf open_ = All-cons (λ b. is_line_feed b ≡ false) 34 inner refl (between_no_lf is_raw text solid) in
         let quoted_none : HasNoLf quoted = All-append (λ b. is_line_feed b ≡ false) open_ (codes "\"") open_none (no_lf_check (codes "\"") refl) in
-        short_line (front ++ quoted) (config_file_line name (TextValue symbol_type.Str text)) refl
+        short_line (front ++ quoted) (config_file_line is_raw name (TextValue symbol_type.Str text)) refl
         (All-append (λ b. is_line_feed b ≡ false) front quoted (behind (codes "=") (no_lf_check (codes "=") refl)) quoted_none)
-        (omega (arith, few, fits, length-append name (codes "="), length-append (codes "\"") (escape text), length-append open_ (codes "\""), length-append front quoted))
+        (omega (arith, few, fits, between_short is_raw text, length-append name (codes "="), length-append (codes "\"") inner, length-append open_ (codes "\""), length-append front quoted))
     known_short (TextValue symbol_type.Int text) e = number_short text (fits_parts text e).0 (fits_parts text e).1
     known_short (TextValue symbol_type.Hex text) e = number_short text (fits_parts text e).0 (fits_parts text e).1
 
@@ -160,7 +162,7 @@ module _ (stream : List ℕ) where
   gap_short false = short_nothing
 
   -- Entries.
-  module _ (tree : TreeFacts) (prefix : List ℕ) (solution : SolutionView) (texts : OfTitles IsLineText tree) where
+  module _ (tree : TreeFacts) (prefix : Notation) (solution : SolutionView) (texts : OfTitles IsLineText tree) where
     end_if_short : (b : Bool) (text : List ℕ) → IsLineText text → Short (end_if (cond b (Some text) None))
     end_if_short true text line = end_short text line
     end_if_short false text line = short_nothing
@@ -206,19 +208,19 @@ module _ (stream : List ℕ) where
       let is : lines_from stream 1 text ≡ p.lines = ap (lines_from stream 1) (sym (append-nil text)) ∙ p.is ∙ ap (λ t. p.lines ++ t) last ∙ append-nil p.lines in
       subst (All Within) (sym is) p.short
 
-module _ (tree : TreeFacts) (user : UserPlace → Option GivenValue) (V : ℕ → SymbolValue) (prefix : List ℕ) (is_pre : is_prefix prefix ≡ true)
+module _ (tree : TreeFacts) (user : UserPlace → Option GivenValue) (V : ℕ → SymbolValue) (prefix : Notation) (is_pre : is_prefix prefix.prefix ≡ true)
     (formed : IsWellFormed tree) (fits : (i : ℕ) → i < name_count tree → fits_known (V i) ≡ true) where
   symbol_short : (stream : List ℕ) (s : SymId) → Contains tree.defined s → Short stream (symbol_config tree prefix (valuation_view tree user V) s)
   symbol_short stream s defined =
       let named : HasNames tree = has_names tree formed in
       let lt = mentioned tree formed s defined in
       let (f, at) = there tree.symbols s.0 lt in
-      let few : length prefix ≤ 64 = short_prefix tree prefix stream is_pre formed named s f at defined in
+      let few : length prefix.prefix ≤ 64 = short_prefix tree prefix stream is_pre formed named s f at defined in
       let known = named s defined in
       let value_is : known_from tree V s ≡ V s.0 = rw (lt-ltb s.0 (length tree.symbols) lt) refl in
-      let most : length (prefix ++ name_of tree s) ≤ 319 = (let n = known.1 in omega (arith, n, few, length-append prefix (name_of tree s))) in
-      subst (λ k. Short stream (config_file_line (prefix ++ name_of tree s) k)) (sym value_is)
-      (known_short stream (prefix ++ name_of tree s) (full_no_lf tree prefix stream is_pre formed named s f at defined) most (V s.0) (fits s.0 lt))
+      let most : length (prefix.prefix ++ name_of tree s) ≤ 319 = (let n = known.1 in omega (arith, n, few, length-append prefix.prefix (name_of tree s))) in
+      subst (λ k. Short stream (config_file_line prefix.is_raw (prefix.prefix ++ name_of tree s) k)) (sym value_is)
+      (known_short stream prefix.is_raw (prefix.prefix ++ name_of tree s) (full_no_lf tree prefix stream is_pre formed named s f at defined) most (V s.0) (fits s.0 lt))
 
   pub config_is_short : HasShortLines (config_text tree prefix (valuation_view tree user V))
   config_is_short name =

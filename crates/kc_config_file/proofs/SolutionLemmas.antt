@@ -1,15 +1,14 @@
 -- A tree and a solution, as the laws of the written texts want them.
-use Rattle.std.proofs.Common.{◌≡◌, ◌<◌, [], length, get_or, true, false, Option, Some, None, refl, ap, sym, subst, arith}
+use Rattle.std.proofs.Common.{◌≡◌, ◌<◌, [], length, get_or, true, false, Option, Some, None, refl, ap, sym, arith}
 use Rattle.std.specs.Prelude.{slice_get, Contains}
 use Rattle.std.proofs.lemmas.Bool.{true≢false}
 use Rattle.std.proofs.lemmas.Option.{slice_get-get_or}
-use Rattle.kc_language.specs.Values.{Solves, GivenValue, equations, name_count, name as name_of}
+use Rattle.kc_language.specs.Values.{GivenValue, name as name_of}
 use Rattle.kc_language.specs.Texts.{IsSolution, Solution, value_of}
 use Rattle.kc_language.specs.declared.expressions.SymId.{SymId}
 use Rattle.kc_language.specs.Symbols.{SymbolFacts, TreeFacts}
 use Rattle.kc_tree.specs.TreeFacts.{IsWellFormed}
 use Rattle.kc_user.specs.Places.{ArePlaces, allowed, allowed_for}
-use Rattle.kc_language.specs.ConfigFile.{place_at}
 use Rattle.kc_language.specs.Needs.{IsAccepted}
 use Rattle.kc_config_file.specs.WrittenLaws.{IsSolutionOf}
 use Rattle.kc_config_file.specs.HasNames.{HasNames}

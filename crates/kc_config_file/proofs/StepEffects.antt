@@ -1,8 +1,8 @@
 -- What an effect does to each part of the input.
 use Rattle.std.proofs.Common.{List, [], ◌∷◌, Bool, false, Option, Some, slice_set}
-use Rattle.std.specs.Prelude.{◌&&◌}
+use Rattle.std.specs.Prelude.{◌&&◌, if◌then◌else◌}
 use Rattle.kc_language.specs.Symbols.{TreeFacts}
-use Rattle.kc_language.specs.ConfigFile.{Places, Effect, Silent, Warns, Assigns, StreamLocation, UserInput, is_taken, places_given}
+use Rattle.kc_language.specs.ConfigFile.{Places, Effect, Silent, Warns, Assigns, StreamLocation, UserInput, is_reported, is_taken, places_given}
 
 abbrev pub places_by : TreeFacts → Places → Effect → Places
 places_by tree places Silent = places
@@ -16,5 +16,5 @@ lines_by lines at (Assigns s given) = slice_set lines s.0 (Some at)
 
 abbrev pub all_by : UserInput → Effect → Bool
 all_by input Silent = input.all_taken
-all_by input (Warns line_warning) = false
-all_by input (Assigns s given) = input.all_taken && is_taken input.places (Assigns s given)
+all_by input (Warns line_warning) = if is_reported input.asks_unset line_warning then false else input.all_taken
+all_by input (Assigns s given) = input.all_taken && is_taken input.asks_unset input.places (Assigns s given)

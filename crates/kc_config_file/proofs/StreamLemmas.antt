@@ -15,7 +15,7 @@ use Rattle.kc_tree.specs.TreeFacts.{IsWellFormed}
 use Rattle.kc_language.specs.Values.{GivenValue, is_yes}
 use Rattle.kc_user.specs.Laws.{EmptyArePlaces, SettingKeepsPlaces, SelectingKeepsPlaces}
 use Rattle.kc_user.specs.Places.{ArePlaces, allowed, members_of}
-use Rattle.kc_language.specs.ConfigFile.{Places, meaning_of, Effect, Silent, Warns, Assigns, effect_of, Assignment, Line, ReadResult, Stream, StreamLocation, UserInput, no_input, effect, is_within, lines_from, lines_of, lines_in_stream, places_given, reading, stream_location}
+use Rattle.kc_language.specs.ConfigFile.{Notation, Places, meaning_of, Effect, Silent, Warns, Assigns, effect_of, Assignment, Line, ReadResult, Stream, StreamLocation, UserInput, no_input, effect, is_within, lines_from, lines_of, lines_in_stream, places_given, reading, stream_location}
 use Rattle.kc_config_file.specs.PartsOfConfigFile.{assignment_of, assignments, choice_of, before_too_long, last_line, line, text_of}
 use Rattle.kc_config_file.specs.Calls.{Call, Feed, Finish, NextStream, Answers, AllAnswered, rest_of, more_of, lines_fed}
 use Rattle.kc_config_file.specs.Feeding.{StreamPosition, fed, ended, stream_start, ReadsPiece, EndsStream}
@@ -91,7 +91,7 @@ streams_are_read first streams old new before after warned named fresh run =
     told_end after warned = rw (append-nil warned) refl
 
 -- Places that hold what is allowed.
-module _ (tree : TreeFacts) (prefix : List ℕ) (formed : IsWellFormed tree) (setting : SettingKeepsPlaces) (selecting : SelectingKeepsPlaces) where
+module _ (tree : TreeFacts) (prefix : Notation) (formed : IsWellFormed tree) (setting : SettingKeepsPlaces) (selecting : SelectingKeepsPlaces) where
   abbrev IsAllowed : Assignment → Type 0
   IsAllowed a = allowed tree a.symbol a.given ≡ true
 
@@ -129,7 +129,7 @@ module _ (tree : TreeFacts) (prefix : List ℕ) (formed : IsWellFormed tree) (se
       by true = strip_no_lf l.bytes none
       by false = none
 
-  effect_allowed : (l : Line) → OneLine l → (e : Effect) → effect_of tree (meaning_of prefix (text_of l)) ≡ e → (rest : List Assignment) →
+  effect_allowed : (l : Line) → OneLine l → (e : Effect) → effect_of prefix.is_raw tree (meaning_of prefix.prefix (text_of l)) ≡ e → (rest : List Assignment) →
       AllByRecursion IsAllowed rest → AllByRecursion IsAllowed (cons_option (assignment_of e) rest)
   effect_allowed l none Silent is rest ok = ok
   effect_allowed l none (Warns line_warning) is rest ok = ok
@@ -138,7 +138,7 @@ module _ (tree : TreeFacts) (prefix : List ℕ) (formed : IsWellFormed tree) (se
   lines_allowed : (lines : List Line) → AllByRecursion OneLine lines → AllByRecursion IsAllowed (assignments tree prefix lines)
   unfolding effect
   lines_allowed [] none = tt
-  lines_allowed (l ∷ lines) none = effect_allowed l none.0 (effect_of tree (meaning_of prefix (text_of l))) refl (assignments tree prefix lines) (lines_allowed lines none.1)
+  lines_allowed (l ∷ lines) none = effect_allowed l none.0 (effect_of prefix.is_raw tree (meaning_of prefix.prefix (text_of l))) refl (assignments tree prefix lines) (lines_allowed lines none.1)
 
   counted_lines : (lines : List Line) → AllByRecursion OneLine lines → AllByRecursion OneLine (before_too_long lines)
   counted_lines [] none = tt
@@ -206,7 +206,7 @@ waiting_no_lf bytes k d lt =
     not-true (is_line_feed (get_or (drop n bytes) k d)) (ap p (get_or-drop n bytes k d ∙ sym at) ∙ passes)
 
 -- a line that is too long changes nothing, and warns of nothing
-pub reading-long_end : (tree : TreeFacts) (prefix name : List ℕ) (position : StreamPosition) (after : UserInput) (n : ℕ) → 65535 < n → HasNoLf position.pending →
+pub reading-long_end : (tree : TreeFacts) (prefix : Notation) (name : List ℕ) (position : StreamPosition) (after : UserInput) (n : ℕ) → 65535 < n → HasNoLf position.pending →
     (stop : Option StreamLocation)
     × (reading tree prefix after (lines_from name position.number (position.pending ++ replicate n 120) ++ []) ≡ record { input = after; warned = []; stopped = stop })
 reading-long_end tree prefix name position after n far none =
@@ -226,7 +226,7 @@ module _ (setting : SettingKeepsPlaces) (selecting : SelectingKeepsPlaces) where
   no_more_lines : (name : List ℕ) (n : ℕ) (bytes : List ℕ) → AllByRecursion (λ (l : Line). HasNoLf l.bytes) (lines_from name n bytes ++ [])
   no_more_lines name n bytes = subst (λ lines. AllByRecursion (λ (l : Line). HasNoLf l.bytes) lines) (sym (append-nil (lines_from name n bytes))) (stream_lines name n bytes)
 
-  end_keeps : (tree : TreeFacts) (prefix name : List ℕ) (position : StreamPosition) (before after : UserInput) (warned : List ℕ) → IsWellFormed tree →
+  end_keeps : (tree : TreeFacts) (prefix : Notation) (name : List ℕ) (position : StreamPosition) (before after : UserInput) (warned : List ℕ) → IsWellFormed tree →
       EndsStream tree prefix name position before after warned → ArePlaces tree before.places → ArePlaces tree after.places
   end_keeps tree prefix name position before after warned formed ends old =
       let is : (reading tree prefix before (lines_from name position.number position.pending ++ [])).input.places ≡ after.places =
@@ -234,7 +234,7 @@ module _ (setting : SettingKeepsPlaces) (selecting : SelectingKeepsPlaces) where
       subst (ArePlaces tree) is (reading_keeps tree prefix formed setting selecting (lines_from name position.number position.pending ++ []) before
       (no_more_lines name position.number position.pending) old)
 
-  feed_keeps : (tree : TreeFacts) (prefix name piece : List ℕ) (old new : StreamPosition) (before after : UserInput) (warned : List ℕ) (n : ℕ) → 65535 < n →
+  feed_keeps : (tree : TreeFacts) (prefix : Notation) (name piece : List ℕ) (old new : StreamPosition) (before after : UserInput) (warned : List ℕ) (n : ℕ) → 65535 < n →
       IsWellFormed tree → HasNoLf new.pending → ReadsPiece tree prefix name piece old new before after warned → ArePlaces tree before.places → ArePlaces tree after.places
   feed_keeps tree prefix name piece old new before after warned n far formed none goes held =
       let is : (reading tree prefix before (lines_from name old.number (old.pending ++ (piece ++ replicate n 120)) ++ [])).input.places ≡ after.places =
@@ -264,8 +264,8 @@ module _ (setting : SettingKeepsPlaces) (selecting : SelectingKeepsPlaces) where
 
   -- what reading streams leaves, from empty places
   pub streams_leave : EmptyArePlaces → StreamsLeavePlaces
-  streams_leave empty tree prefix keeps_lines gone streams formed =
-      reading_keeps tree prefix formed setting selecting (lines_of streams) (record (no_input keeps_lines tree) { gone = gone }) (streams_lines streams) (empty tree)
+  streams_leave empty tree prefix keeps_lines gone asks_unset lead streams formed =
+      reading_keeps tree prefix formed setting selecting (lines_of streams) (record (no_input keeps_lines tree) { gone = gone; asks_unset = asks_unset; lead = lead }) (streams_lines streams) (empty tree)
 
   -- the lines before a refused one
   pub refusals_keep : RefusalsKeepPlaces

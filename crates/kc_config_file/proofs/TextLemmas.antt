@@ -4,6 +4,7 @@ use Rattle.std.specs.Prelude.{slice_get, option_map}
 use Rattle.std.specs.List.{flat_map}
 use Rattle.std.proofs.lemmas.List.{drop_more, drop_all}
 use Rattle.std.proofs.lemmas.Option.{get_or_from_slice_get, slice_get-get_or, slice_get_read, slice_get_within, slice_get-map}
+use Rattle.kc_language.specs.ConfigFile.{Notation}
 use Rattle.kc_language.specs.declared.expressions.SymId.{SymId}
 use Rattle.kc_language.specs.Expressions.{SymbolValue}
 use Rattle.kc_language.specs.Symbols.{TreeFacts, Shown, SymbolShown, MenuShown, EndShown, CommentShown}
@@ -14,7 +15,7 @@ use Rattle.kc_tree.specs.declared.layout.Tables.{Tables}
 use Rattle.kc_tree.specs.declared.rows.ShownEntry.{ShownEntry}
 use Rattle.kc_config_file.specs.Named.{HasName}
 use Rattle.kc_language.specs.Values.{name as name_of}
-use Rattle.kc_language.specs.Texts.{config_file_line, header_line, entry_text, SolutionView}
+use Rattle.kc_language.specs.Texts.{config_file_line, header_line, entry_text, symbol_new, SolutionView}
 use Rattle.kc_config_file.specs.PartsOfTexts.{header_if, minimal_if, new_if, gap}
 use Rattle.kc_config_file.specs.EntryTexts.{ends_after, entries_after}
 
@@ -34,24 +35,23 @@ is_grown whole text rest is none = sym (append-nil text) ∙ ap (λ t. text ++ t
 pub name_is : (tree : TreeFacts) (s : SymId) (name : List ℕ) → slice_get tree.names s.0 ≡ Some name → name ≡ name_of tree s
 name_is tree s name found = sym (get_or_from_slice_get tree.names s.0 name [] found)
 
-module _ (tree : TreeFacts) (prefix : List ℕ) (solution : SolutionView) (s : SymId) where
+module _ (tree : TreeFacts) (prefix : Notation) (solution : SolutionView) (s : SymId) where
   pub header_if-written : (name : List ℕ) (known : SymbolValue) → solution.written s ≡ true → slice_get tree.names s.0 ≡ Some name → known ≡ solution.value s →
-      header_line (prefix ++ name) known ≡ header_if tree prefix solution s
+      header_line prefix.is_raw (prefix.prefix ++ name) known ≡ header_if tree prefix solution s
   header_if-written name known written found value = rw (written, name_is tree s name found, value) refl
 
   pub header_if-not : solution.written s ≡ false → [] ≡ header_if tree prefix solution s
   header_if-not not_written = rw not_written refl
 
   pub minimal_if-differs : (name : List ℕ) (known : SymbolValue) → solution.differs s ≡ true → slice_get tree.names s.0 ≡ Some name → known ≡ solution.value s →
-      config_file_line (prefix ++ name) known ≡ minimal_if tree prefix solution s
+      config_file_line prefix.is_raw (prefix.prefix ++ name) known ≡ minimal_if tree prefix solution s
   minimal_if-differs name known differs found value = rw (differs, name_is tree s name found, value) refl
 
   pub minimal_if-not : solution.differs s ≡ false → [] ≡ minimal_if tree prefix solution s
   minimal_if-not same = rw same refl
 
-  pub new_if-new : (name : List ℕ) (known : SymbolValue) → solution.is_new s ≡ true → slice_get tree.names s.0 ≡ Some name → known ≡ solution.value s →
-      config_file_line (prefix ++ name) known ≡ new_if tree prefix solution s
-  new_if-new name known new found value = rw (new, name_is tree s name found, value) refl
+  pub new_if-new : solution.is_new s ≡ true → symbol_new tree prefix solution s ≡ new_if tree prefix solution s
+  new_if-new new = rw new refl
 
   pub new_if-not : solution.is_new s ≡ false → [] ≡ new_if tree prefix solution s
   new_if-not not_new = rw not_new refl
@@ -75,10 +75,10 @@ defined_named tree formed i s at =
     let same : (get_or tree.defined i s).0 ≡ s.0 = ap (λ (t : SymId). t.0) (get_or_from_slice_get tree.defined i s s at) in
     omega (arith, there, same, formed.symbols_named)
 
-module _ (tree : TreeFacts) (prefix : List ℕ) (solution : SolutionView) where
+module _ (tree : TreeFacts) (prefix : Notation) (solution : SolutionView) where
   -- the line of a symbol that is written
   pub symbol-written : (after_end : Bool) (s : SymId) (name : List ℕ) (known : SymbolValue) → solution.written s ≡ true → slice_get tree.names s.0 ≡ Some name → known ≡ solution.value s →
-      gap after_end ++ config_file_line (prefix ++ name) known ≡ entry_text tree prefix solution after_end (SymbolShown s)
+      gap after_end ++ config_file_line prefix.is_raw (prefix.prefix ++ name) known ≡ entry_text tree prefix solution after_end (SymbolShown s)
   symbol-written after_end s name known written found value = rw (written, name_is tree s name found, value) refl
 
   module _ (t : Tables) where

@@ -31,6 +31,7 @@ use Rattle.kc_language.specs.Values as v
 use Rattle.kc_values.proofs.Selection.{found}
 use Rattle.kc_language.specs.Texts.{HasPlainNumbers}
 use Rattle.kc_config_file.specs.PartsOfTexts.{IsPlainNumber}
+use Rattle.kc_config_file.proofs.EscapeLemmas.{escape_longer}
 use Rattle.kc_config_file.proofs.LineLemmas.{HasNoLf}
 use Rattle.kc_config_file.proofs.ShapeLemmas.{no_line_feed}
 use Rattle.kc_config_file.proofs.SymbolLineLemmas.{FitsLine}
@@ -66,17 +67,6 @@ escape_double [] = omega arith
 escape_double (b ∷ t) =
     let h = escape_head b t (eqb b 34 || eqb b 92) in
     let r = escape_double t in
-    omega (arith, h, r)
-
-escape_longer_head : (b : ℕ) (t : List ℕ) (special : Bool) → 1 + length (escape t) ≤ length (cond special (92 ∷ b ∷ []) (b ∷ []) ++ escape t)
-escape_longer_head b t true = omega arith
-escape_longer_head b t false = omega arith
-
-pub escape_longer : (t : List ℕ) → length t ≤ length (escape t)
-escape_longer [] = omega arith
-escape_longer (b ∷ t) =
-    let h = escape_longer_head b t (eqb b 34 || eqb b 92) in
-    let r = escape_longer t in
     omega (arith, h, r)
 
 simple_parts : (b : ℕ) → is_simple b ≡ true → (eqb b 10 ≡ false) × (eqb b 34 ≡ false) × (eqb b 92 ≡ false)

@@ -1,11 +1,11 @@
 -- What is told is whole lines.
 use Rattle.std.proofs.Common.{◌≡◌, ℕ, ◌<◌, Bool, true, false, List, [], ◌∷◌, ◌++◌, codes, refl, sym, ap, subst, ◌∙◌, append_assoc, append-nil, Option, Some, None, arith}
-use Rattle.std.specs.Prelude.{decimal, replicate, slice_index_or, if◌then◌else◌}
+use Rattle.std.specs.Prelude.{replicate, slice_index_or, if◌then◌else◌}
 use Rattle.std.specs.List.{last_or}
 use Rattle.kc_language.specs.declared.expressions.SymbolType.{SymbolType}
 use Rattle.kc_language.specs.Symbols.{TreeFacts, Warning, located_warning}
 use Rattle.kc_language.specs.Values.{GivenValue, SymbolPlace, same_given, name as name_of}
-use Rattle.kc_language.specs.ConfigFile.{place_at, StreamLocation, change_text, value_text, Effect, Silent, Warns, Assigns, UserInput, Line, ReadResult, effect, effect_warning, input_after, reading, stream_location, warning, warnings, lines_from}
+use Rattle.kc_language.specs.ConfigFile.{Notation, place_at, plain_line, StreamLocation, change_text, value_text, Effect, Silent, Warns, Assigns, UserInput, Line, ReadResult, effect, effect_warning, input_after, reading, stream_location, warning, warnings, lines_from}
 use Rattle.kc_config_file.specs.PartsOfConfigFile.{change_line}
 use Rattle.kc_config_file.specs.PartsOfConfigFile.{type_of, before_too_long, effect_change, effect_text, warning_line_if}
 use Rattle.kc_language.specs.declared.diagnostics.Warning.TheVariants.{Changed}
@@ -52,34 +52,34 @@ whole-warning_if : (stream : List ℕ) (number : ℕ) (warned : Option Warning) 
 whole-warning_if stream number None = refl
 whole-warning_if stream number (Some w) = is_whole_lines-line (located_warning stream number w)
 
-whole-change : (at : StreamLocation) (name : List ℕ) (symbol_type : SymbolType) (old : Option GivenValue) (from : Option StreamLocation) (given : GivenValue) →
-    is_whole_lines (change_text at name symbol_type old from given) ≡ true
-whole-change at name symbol_type None from given = refl
-whole-change at name symbol_type (Some old) None given = refl
-whole-change at name symbol_type (Some old) (Some from) given = by (same_given old given)
+whole-change : (is_raw : Bool) (at : StreamLocation) (name : List ℕ) (symbol_type : SymbolType) (old : Option GivenValue) (from : Option StreamLocation) (given : GivenValue) →
+    is_whole_lines (change_text is_raw at name symbol_type old from given) ≡ true
+whole-change is_raw at name symbol_type None from given = refl
+whole-change is_raw at name symbol_type (Some old) None given = refl
+whole-change is_raw at name symbol_type (Some old) (Some from) given = by (same_given old given)
   where
     front : List ℕ
-    front = located_warning at.stream at.number (Changed name (value_text symbol_type old) from.stream from.number (value_text symbol_type given))
+    front = located_warning at.stream at.number (Changed name (value_text is_raw symbol_type old) from.stream from.number (value_text is_raw symbol_type given))
 
-    by : (b : Bool) → is_whole_lines (if b then [] else change_line at name symbol_type old from given) ≡ true
+    by : (b : Bool) → is_whole_lines (if b then [] else change_line is_raw at name symbol_type old from given) ≡ true
     by true = refl
     by false = is_whole_lines-line front
 
-whole-effect : (tree : TreeFacts) (input : UserInput) (at : StreamLocation) (e : Effect) → is_whole_lines (effect_text tree input at e) ≡ true
-whole-effect tree input at e =
-    is_whole_lines-append (warning_line_if at.stream at.number (effect_warning tree input.places e)) (effect_change tree input at e)
-    (whole-warning_if at.stream at.number (effect_warning tree input.places e)) (changed e)
+whole-effect : (is_raw : Bool) (tree : TreeFacts) (input : UserInput) (at : StreamLocation) (e : Effect) → is_whole_lines (effect_text is_raw tree input at e) ≡ true
+whole-effect is_raw tree input at e =
+    is_whole_lines-append (warning_line_if at.stream at.number (effect_warning input.asks_unset tree input.places e)) (effect_change is_raw tree input at e)
+    (whole-warning_if at.stream at.number (effect_warning input.asks_unset tree input.places e)) (changed e)
   where
-    changed : (e : Effect) → is_whole_lines (effect_change tree input at e) ≡ true
+    changed : (e : Effect) → is_whole_lines (effect_change is_raw tree input at e) ≡ true
     changed Silent = refl
     changed (Warns line_warning) = refl
-    changed (Assigns s given) = whole-change at (name_of tree s) (type_of tree s) (place_at input.places (SymbolPlace s.0)) (slice_index_or input.lines s.0 None) given
+    changed (Assigns s given) = whole-change is_raw at (name_of tree s) (type_of tree s) (place_at input.places (SymbolPlace s.0)) (plain_line input input.lines s) given
 
-module _ (tree : TreeFacts) (prefix : List ℕ) where
+module _ (tree : TreeFacts) (prefix : Notation) where
   -- what a line warns of
   pub whole-warning : (input : UserInput) (l : Line) → is_whole_lines (warning tree prefix input l) ≡ true
   unfolding warning
-  whole-warning input l = whole-effect tree input (stream_location l) (effect tree prefix l)
+  whole-warning input l = whole-effect prefix.is_raw tree input (stream_location l) (effect tree prefix l)
 
   -- what lines warn of
   pub whole-warnings : (lines : List Line) (input : UserInput) → is_whole_lines (warnings tree prefix input lines) ≡ true
@@ -94,7 +94,7 @@ module _ (tree : TreeFacts) (prefix : List ℕ) where
   unfolding reading
   whole-reading lines input = whole-warnings (before_too_long lines) input
 
-module _ (tree : TreeFacts) (prefix name : List ℕ) where
+module _ (tree : TreeFacts) (prefix : Notation) (name : List ℕ) where
   -- what the lines of a piece warn of: a line that is too long, behind the piece, warns of nothing
   whole-long : (n : ℕ) → 65535 < n → (piece : List ℕ) (old new : StreamPosition) (before after : UserInput) (warned : List ℕ) → HasNoLf new.pending →
       ReadsPiece tree prefix name piece old new before after warned → is_whole_lines warned ≡ true

@@ -9,7 +9,7 @@ use Rattle.kc_text.specs.PartsOfLines.{HoldsNoLineFeed}
 use Rattle.kc_language.specs.Symbols.{TreeFacts}
 use Rattle.kc_config_file.specs.declared.fault.InputFault.{InputFault}
 use Rattle.kc_config_file.specs.declared.fault.InputFault.TheVariants.{InputLineTooLong, Memory}
-use Rattle.kc_language.specs.ConfigFile.{Line, UserInput, lines_from, reading}
+use Rattle.kc_language.specs.ConfigFile.{Notation, Line, UserInput, lines_from, reading}
 use Rattle.kc_config_file.specs.Reading.{with_warnings}
 
 -- where a reader stands in its stream: the number of the line not yet ended, and its bytes so far
@@ -52,7 +52,7 @@ abbrev pub to_come : List ℕ → StreamPosition → List ℕ → List Line → 
 to_come name position rest more = lines_from name position.number (position.pending ++ rest) ++ more
 
 -- For a tree, a prefix and the name of the stream.
-module _ (tree : TreeFacts) (prefix name : List ℕ) where
+module _ (tree : TreeFacts) (prefix : Notation) (name : List ℕ) where
   -- Whatever follows: reading the piece and it from the old position and input is these warnings, and then reading it
   -- from the new position and input.
   abbrev pub ReadsPiece : List ℕ → StreamPosition → StreamPosition → UserInput → UserInput → List ℕ → Type 0

@@ -15,4 +15,6 @@ input_of input = record {
   refused = map (option_map location_of) input.refused.items;
   all_taken = input.all_taken;
   gone = option_map gone_of input.gone;
+  asks_unset = input.asks_unset;
+  lead = input.lead.items;
 }

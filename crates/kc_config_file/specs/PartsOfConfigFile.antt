@@ -2,9 +2,9 @@
 use Rattle.std.specs.Char.{is_ascii_digit}
 use Rattle.std.specs.List.{after_first, before_first, filter_map, list_any, position_or_len, suffix_len}
 use Rattle.std.specs.Option.{option_and_then, option_map_or}
-use Rattle.std.specs.Prelude.{Bool, List, None, Option, Some, [], drop, false, find, if◌then◌else◌, length, nat_le, nat_lt, not, option_map, slice_index, slice_index_or, take, take_while, ℕ, ◌&&◌, ◌++◌, ◌-◌, ◌==◌, ◌∷◌}
+use Rattle.std.specs.Prelude.{Bool, List, None, Option, Some, [], codes, drop, false, find, if◌then◌else◌, length, nat_le, nat_lt, not, option_map, slice_index, take, take_while, ℕ, ◌&&◌, ◌++◌, ◌-◌, ◌==◌, ◌∷◌}
 use Rattle.std.specs.Str.Lines.{strip_carriage_return}
-use Rattle.kc_language.specs.ConfigFile.{Assignment, Assigns, Effect, Line, LineMeaning, Malformed, Nothing, Set, Silent, StreamLocation, Unset, UserInput, Warns, change_text, effect, effect_warning, is_within, meaning_of, name_and_value, place_at, set_by_type, unset_by_type, unset_name, until_quote, value_by, value_text, warning_line, yes_or_no}
+use Rattle.kc_language.specs.ConfigFile.{Notation, Assignment, Assigns, Effect, Line, LineMeaning, Malformed, Nothing, Set, Silent, StreamLocation, Unset, UserInput, Warns, change_text, effect, effect_warning, is_within, meaning_of, name_and_value, place_at, plain_line, raw_string, set_by_type, unset_by_type, unset_name, until_quote, value_by, value_text, without_prefix, without_suffix, warning_line, yes_or_no}
 use Rattle.kc_language.specs.Expressions.{symbol}
 use Rattle.kc_language.specs.Symbols.{TreeFacts, Warning}
 use Rattle.kc_language.specs.Text.{byte, longest_value, unescape}
@@ -77,15 +77,19 @@ yes_m_or_no b = if b == byte "m" then Some M else yes_or_no b
 abbrev pub quoted : List ℕ → Option (List ℕ)
 quoted text = if slice_index text 0 == byte "\"" then until_quote (drop 1 text) else None
 
-abbrev pub string_value : List ℕ → Option GivenValue
-string_value text = option_map (λ raw. GivenText (unescape raw)) (quoted text)
+-- what stands between the first byte and the last, which are a `"` each
+abbrev pub between_ends : List ℕ → Option (List ℕ)
+between_ends text = option_and_then (without_suffix (codes "\"")) (without_prefix (codes "\"") text)
+
+abbrev pub string_value : Bool → List ℕ → Option GivenValue
+string_value is_raw text = option_map GivenText (if is_raw then raw_string text else option_map unescape (quoted text))
 
 abbrev pub number_value : List ℕ → Bool → Option GivenValue
 number_value text is_number = if is_number then Some (GivenText text) else None
 
 -- a text that is too long gives no value
-abbrev pub line_value : SymbolType → List ℕ → Option GivenValue
-line_value symbol_type text = if nat_le (length text) longest_value then value_by symbol_type text else None
+abbrev pub line_value : Bool → SymbolType → List ℕ → Option GivenValue
+line_value is_raw symbol_type text = if nat_le (length text) longest_value then value_by is_raw symbol_type text else None
 
 -- the type of a symbol; a name that is not defined has none
 abbrev pub type_of : TreeFacts → SymId → SymbolType
@@ -95,9 +99,9 @@ abbrev pub assigned_or : List ℕ → SymId → Option GivenValue → Effect
 assigned_or name s None = Warns (NotAllowed name)
 assigned_or name s (Some given) = Assigns s given
 
-abbrev pub set_effect : TreeFacts → List ℕ → List ℕ → Option SymId → Effect
-set_effect tree name text None = Warns (UnknownSymbol name)
-set_effect tree name text (Some s) = set_by_type name s text (type_of tree s)
+abbrev pub set_effect : Bool → TreeFacts → List ℕ → List ℕ → Option SymId → Effect
+set_effect is_raw tree name text None = Warns (UnknownSymbol name)
+set_effect is_raw tree name text (Some s) = set_by_type is_raw name s text (type_of tree s)
 
 abbrev pub unset_effect : TreeFacts → List ℕ → Option SymId → Effect
 unset_effect tree name None = Warns (UnknownSymbol name)
@@ -142,20 +146,20 @@ warning_line_if stream number None = []
 warning_line_if stream number (Some line_warning) = warning_line stream number line_warning
 
 -- a line gives the symbol another value than an earlier line (K15)
-abbrev pub change_line : StreamLocation → List ℕ → SymbolType → GivenValue → StreamLocation → GivenValue → List ℕ
-change_line at called kind old from given =
-    warning_line at.stream at.number (Changed called (value_text kind old) from.stream from.number (value_text kind given))
+abbrev pub change_line : Bool → StreamLocation → List ℕ → SymbolType → GivenValue → StreamLocation → GivenValue → List ℕ
+change_line is_raw at called kind old from given =
+    warning_line at.stream at.number (Changed called (value_text is_raw kind old) from.stream from.number (value_text is_raw kind given))
 
 -- what a line changes, where the lines of the user's values are kept
-abbrev pub effect_change : TreeFacts → UserInput → StreamLocation → Effect → List ℕ
-effect_change tree input at Silent = []
-effect_change tree input at (Warns line_warning) = []
-effect_change tree input at (Assigns s given) =
-    change_text at (name_of tree s) (type_of tree s) (place_at input.places (SymbolPlace s.0)) (slice_index_or input.lines s.0 None) given
+abbrev pub effect_change : Bool → TreeFacts → UserInput → StreamLocation → Effect → List ℕ
+effect_change is_raw tree input at Silent = []
+effect_change is_raw tree input at (Warns line_warning) = []
+effect_change is_raw tree input at (Assigns s given) =
+    change_text is_raw at (name_of tree s) (type_of tree s) (place_at input.places (SymbolPlace s.0)) (plain_line input input.lines s) given
 
 -- what a line of this effect warns of, given the input before it
-abbrev pub effect_text : TreeFacts → UserInput → StreamLocation → Effect → List ℕ
-effect_text tree input at effect = warning_line_if at.stream at.number (effect_warning tree input.places effect) ++ effect_change tree input at effect
+abbrev pub effect_text : Bool → TreeFacts → UserInput → StreamLocation → Effect → List ℕ
+effect_text is_raw tree input at effect = warning_line_if at.stream at.number (effect_warning input.asks_unset tree input.places effect) ++ effect_change is_raw tree input at effect
 
 -- the line that gives symbol i a value
 abbrev pub line_for : ℕ → StreamLocation → Effect → Option StreamLocation
@@ -173,7 +177,7 @@ abbrev pub before_too_long : List Line → List Line
 before_too_long lines = take_while is_within lines
 
 -- For a tree and a prefix.
-module _ (tree : TreeFacts) (prefix : List ℕ) where
+module _ (tree : TreeFacts) (prefix : Notation) where
   -- the valid assignments of the lines, in order
   abbrev pub assignments : List Line → List Assignment
   assignments lines = filter_map (λ l. assignment_of (effect tree prefix l)) lines

@@ -1,12 +1,11 @@
 -- For proofs: Parts of the definitions of Texts, by names of their own.
 use Rattle.std.specs.List.{enumerate_from, flat_map}
 use Rattle.std.specs.Prelude.{Bool, List, None, Option, Some, [], codes, false, if◌then◌else◌, take, true, ℕ, ◌++◌, ◌<◌, ◌==◌, ◌||◌, ◌≡◌}
-use Rattle.kc_language.specs.ConfigFile.{Places, place_at}
+use Rattle.kc_language.specs.ConfigFile.{Notation, Places, place_at}
 use Rattle.kc_language.specs.Expressions.{SymbolValue, TextValue}
 use Rattle.kc_text.specs.PartsOfLines.{HoldsNoLineFeed}
 use Rattle.kc_language.specs.Symbols.{CommentShown, EndShown, MenuShown, Shown, SymbolShown, TreeFacts}
-use Rattle.kc_language.specs.Text.{byte, has_hex_prefix}
-use Rattle.kc_language.specs.Texts.{EndsPlainly, SolutionView, end_is_last, entry_text, header_line, symbol_config, title_lines}
+use Rattle.kc_language.specs.{Text.{byte, escape, has_hex_prefix}, Texts.{EndsPlainly, SolutionView, end_is_last, entry_text, header_line, symbol_config, symbol_new, title_lines}}
 use Rattle.kc_language.specs.Tokens.{is_blank}
 use Rattle.kc_language.specs.Values.{Solves, equations, name as name_of, name_count}
 use Rattle.kc_language.specs.declared.expressions.SymId.{SymId}
@@ -15,6 +14,10 @@ use Rattle.kc_language.specs.declared.expressions.SymbolType.TheVariants.{Hex, I
 -- a hex begins with `0x` in a header
 abbrev pub hex_text : List ℕ → List ℕ
 hex_text text = if has_hex_prefix text then text else codes "0x" ++ text
+
+-- a string's text between its quotes
+abbrev pub between_quotes : Bool → List ℕ → List ℕ
+between_quotes is_raw text = if is_raw then text else escape text
 
 abbrev pub config_heading : List ℕ → List ℕ
 config_heading title = codes "#\n# Automatically generated file; DO NOT EDIT.\n# " ++ title ++ codes "\n#\n"
@@ -42,9 +45,9 @@ is_end (MenuShown text when) = false
 is_end (EndShown menu) = true
 is_end (CommentShown text when) = false
 
-module _ (tree : TreeFacts) (prefix : List ℕ) (solution : SolutionView) where
+module _ (tree : TreeFacts) (prefix : Notation) (solution : SolutionView) where
   abbrev pub symbol_header : SymId → List ℕ
-  symbol_header s = header_line (prefix ++ name_of tree s) (solution.value s)
+  symbol_header s = header_line prefix.is_raw (prefix.prefix ++ name_of tree s) (solution.value s)
 
   -- what all give, in order: each after the entries before it
   abbrev pub entries_text : List Shown → List ℕ
@@ -57,7 +60,7 @@ module _ (tree : TreeFacts) (prefix : List ℕ) (solution : SolutionView) where
   minimal_if s = if solution.differs s then symbol_config tree prefix solution s else []
 
   abbrev pub new_if : SymId → List ℕ
-  new_if s = if solution.is_new s then symbol_config tree prefix solution s else []
+  new_if s = if solution.is_new s then symbol_new tree prefix solution s else []
 
 -- a blank or a carriage return
 abbrev pub is_end_byte : ℕ → Bool
@@ -80,5 +83,5 @@ abbrev pub title_line : List ℕ → List ℕ
 title_line text = codes "# " ++ text
 
 -- the minimal file's lines of the symbols that pass the test
-abbrev pub kept_lines : TreeFacts → List ℕ → SolutionView → (SymId → Bool) → List ℕ
+abbrev pub kept_lines : TreeFacts → Notation → SolutionView → (SymId → Bool) → List ℕ
 kept_lines tree prefix solution keep = flat_map (λ s. if keep s then minimal_if tree prefix solution s else []) tree.defined

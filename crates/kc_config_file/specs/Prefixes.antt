@@ -1,7 +1,7 @@
 -- Trusted: What may stand before the name of a symbol.
-use Rattle.std.specs.Prelude.{ℕ, List, Option, Some, None, if◌then◌else◌}
-use Rattle.kc_language.specs.ConfigFile.{is_prefix}
+use Rattle.std.specs.Prelude.{ℕ, Bool, List, Option, Some, None, if◌then◌else◌}
+use Rattle.kc_language.specs.ConfigFile.{Notation, is_prefix}
 
--- the text, where it is a prefix
-abbrev pub prefix_of : List ℕ → Option (List ℕ)
-prefix_of text = if is_prefix text then Some text else None
+-- the notation of a text, where it is a prefix
+abbrev pub prefix_of : List ℕ → Bool → Option Notation
+prefix_of text is_raw = if is_prefix text then Some (record { prefix = text; is_raw = is_raw }) else None

@@ -1,7 +1,8 @@
 -- Trusted: What a reader of .config text stands for.
-use Rattle.std.specs.Prelude.{ℕ, List, Option, refl}
-use Rattle.std.specs.Coded.{Coded, code_by, coded×, coded_ℕ, coded_option}
+use Rattle.std.specs.Prelude.{Bool, ℕ, List, Option, refl}
+use Rattle.std.specs.Coded.{Coded, code_by, coded×, coded_bool, coded_ℕ, coded_option}
 use Rattle.kc_expr.specs.FormCode.{bytes_code}
+use Rattle.kc_language.specs.ConfigFile.{Notation}
 use Rattle.kc_language.specs.Symbols.{TreeFacts}
 use Rattle.kc_tree.specs.TreeCode.{tree_code}
 use Rattle.kc_config_file.specs.declared.fault.InputFault.{InputFault}
@@ -11,7 +12,7 @@ use Rattle.kc_config_file.specs.Feeding.{StreamPosition}
 -- the tree and prefix that it reads for, its stream's name, where it stands in it, and the refusal that it keeps
 pub record ReaderState : Type 0 where
   pub tree : TreeFacts
-  pub prefix : List ℕ
+  pub prefix : Notation
   pub name : List ℕ
   pub position : StreamPosition
   pub refusal : Option InputFault
@@ -19,10 +20,13 @@ pub record ReaderState : Type 0 where
 abbrev pub position_code : Coded StreamPosition
 position_code = code_by (ℕ × List ℕ) (coded× coded_ℕ bytes_code) (λ s. (s.number, s.pending)) (λ p. record { number = p.0; pending = p.1 }) (λ _. refl)
 
+abbrev pub notation_code : Coded Notation
+notation_code = code_by (List ℕ × Bool) (coded× bytes_code coded_bool) (λ n. (n.prefix, n.is_raw)) (λ p. record { prefix = p.0; is_raw = p.1 }) (λ _. refl)
+
 abbrev pub reader_code : Coded ReaderState
 reader_code =
-    code_by (TreeFacts × ((List ℕ × List ℕ) × (StreamPosition × Option InputFault)))
-    (coded× tree_code (coded× (coded× bytes_code bytes_code) (coded× position_code (coded_option input_fault.the_row.coded))))
+    code_by (TreeFacts × ((Notation × List ℕ) × (StreamPosition × Option InputFault)))
+    (coded× tree_code (coded× (coded× notation_code bytes_code) (coded× position_code (coded_option input_fault.the_row.coded))))
     (λ r. (r.tree, ((r.prefix, r.name), (r.position, r.refusal))))
     (λ p. record { tree = p.0; prefix = p.1.0.0; name = p.1.0.1; position = p.1.1.0; refusal = p.1.1.1 })
     (λ _. refl)

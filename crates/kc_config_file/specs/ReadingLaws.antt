@@ -1,5 +1,5 @@
 -- Trusted: What holds of reading lines, for every tree, every prefix and every input before them.
-use Rattle.std.specs.Prelude.{◌≡◌, ℕ, ◌++◌, List, [], ◌∷◌, length, true, false, Some, None, slice_set}
+use Rattle.std.specs.Prelude.{◌≡◌, ℕ, ◌++◌, Bool, List, [], ◌∷◌, if◌then◌else◌, length, true, false, Some, None, slice_set}
 use Rattle.std.specs.List.{after_last}
 use Rattle.kc_language.specs.declared.expressions.SymId.{SymId}
 use Rattle.kc_text.specs.PartsOfText.{one_more}
@@ -7,7 +7,7 @@ use Rattle.kc_language.specs.Lines.{is_line_feed}
 use Rattle.kc_text.specs.PartsOfLines.{HoldsNoLineFeed}
 use Rattle.kc_language.specs.Symbols.{TreeFacts, Warning}
 use Rattle.kc_language.specs.Values.{GivenValue}
-use Rattle.kc_language.specs.ConfigFile.{ArePlacesOf, Places, Silent, Warns, Assigns, Line, UserInput, effect, gone_after, input_after, is_within, lines_from, not_allowed, places_after, reading, refused_after, stream_location, untaken, untaken_line, warning, warnings}
+use Rattle.kc_language.specs.{ConfigFile.{ArePlacesOf, Assigns, Line, Notation, Places, Silent, UserInput, Warns, effect, gone_after, input_after, is_reported, is_within, lines_from, not_allowed, places_after, reading, refused_after, stream_location, untaken, untaken_line, warning, warnings}}
 use Rattle.kc_config_file.specs.PartsOfConfigFile.{last_line, line}
 use Rattle.kc_config_file.specs.Reading.{with_warnings}
 
@@ -21,7 +21,7 @@ pub record LinesAreCut : Type 0 where
   pub waiting : (bytes : List ℕ) → HoldsNoLineFeed (after_last is_line_feed bytes)
 
 -- For a tree and a prefix.
-module _ (tree : TreeFacts) (prefix : List ℕ) where
+module _ (tree : TreeFacts) (prefix : Notation) where
   -- Reading goes line by line: a line that is not too long is read, and then the others from the input that it leaves; one
   -- that is too long stops it, with nothing read of it.
   pub record GoesLineByLine : Type 0 where
@@ -42,12 +42,12 @@ module _ (tree : TreeFacts) (prefix : List ℕ) where
     pub warn :
         (input : UserInput) (a b : List Line) →
         warnings tree prefix input (a ++ b) ≡ warnings tree prefix input a ++ warnings tree prefix (input_after tree prefix input a) b
-    pub one_untaken : (places : Places) (l : Line) → untaken tree prefix places (l ∷ []) ≡ untaken_line tree prefix places l
+    pub one_untaken : (asked : Bool) (places : Places) (l : Line) → untaken tree prefix asked places (l ∷ []) ≡ untaken_line tree prefix asked places l
     pub are_untaken :
-        (places : Places) (a b : List Line) →
-        untaken tree prefix places (a ++ b) ≡ untaken tree prefix places a ++ untaken tree prefix (places_after tree prefix places a) b
+        (asked : Bool) (places : Places) (a b : List Line) →
+        untaken tree prefix asked places (a ++ b) ≡ untaken tree prefix asked places a ++ untaken tree prefix asked (places_after tree prefix places a) b
 
-  -- A line does what it says: one that is silent or is warned of gives no symbol a value; one that gives a symbol a value
+  -- A line does what it says: one that is silent or has a warning gives no symbol a value; one that gives a symbol a value
   -- puts it in the symbol's place, and itself as the line that gave it; and one whose value for a symbol is not allowed puts
   -- itself as the line of that.
   pub record LinesDoWhatTheySay : Type 0 where
@@ -56,7 +56,7 @@ module _ (tree : TreeFacts) (prefix : List ℕ) where
         (input : UserInput) (l : Line) (line_warning : Warning) → effect tree prefix l ≡ Warns line_warning →
         input_after tree prefix input (l ∷ []) ≡ record input {
           refused = refused_after tree prefix input.refused (l ∷ []);
-          all_taken = false;
+          all_taken = if is_reported input.asks_unset line_warning then false else input.all_taken;
           gone = gone_after tree prefix input.gone (l ∷ []);
         }
     pub value :
@@ -76,13 +76,13 @@ module _ (tree : TreeFacts) (prefix : List ℕ) where
     pub refused : (input : UserInput) (lines : List Line) → length (input_after tree prefix input lines).refused ≡ length input.refused
 
 abbrev pub ReadingGoesLineByLine : Type 0
-ReadingGoesLineByLine = (tree : TreeFacts) (prefix : List ℕ) → GoesLineByLine tree prefix
+ReadingGoesLineByLine = (tree : TreeFacts) (prefix : Notation) → GoesLineByLine tree prefix
 
 -- What lines give, one after another.
-pub record LinesInTurn (tree : TreeFacts) (prefix : List ℕ) : Type 0 where
+pub record LinesInTurn (tree : TreeFacts) (prefix : Notation) : Type 0 where
   pub add_up : LinesAddUp tree prefix
   pub says : LinesDoWhatTheySay tree prefix
   pub counts : LinesKeepCounts tree prefix
 
 abbrev pub LinesGiveInTurn : Type 0
-LinesGiveInTurn = (tree : TreeFacts) (prefix : List ℕ) → LinesInTurn tree prefix
+LinesGiveInTurn = (tree : TreeFacts) (prefix : Notation) → LinesInTurn tree prefix

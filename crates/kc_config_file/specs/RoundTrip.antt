@@ -1,11 +1,11 @@
 -- Trusted: A written line, read again.
-use Rattle.std.specs.Prelude.{◌≡◌, ℕ, ◌+◌, ◌<◌, ◌≤◌, ◌++◌, List, [], ◌∷◌, length, true, All, Some, codes}
+use Rattle.std.specs.Prelude.{◌≡◌, Bool, ℕ, ◌+◌, ◌<◌, ◌≤◌, ◌++◌, List, [], ◌∷◌, length, true, All, Some, codes}
 use Rattle.kc_language.specs.Text.{byte, escape, longest_value, longest_name, longest_prefix}
 use Rattle.kc_language.specs.Values.{GivenText}
 use Rattle.kc_language.specs.Expressions.{is_name_byte, SymbolValue, Truth, TextValue}
 use Rattle.kc_language.specs.declared.expressions.SymbolType.TheVariants as symbol_type
 use Rattle.kc_language.specs.Texts.{config_file_line, EndsPlainly}
-use Rattle.kc_language.specs.ConfigFile.{Set, Unset, is_prefix}
+use Rattle.kc_language.specs.ConfigFile.{Set, Unset, is_prefix, string_text}
 use Rattle.kc_config_file.specs.PartsOfConfigFile.{ended_meaning, line_value}
 
 -- one byte or more, each of which may stand in a name
@@ -24,11 +24,11 @@ SetLineReadAgain =
     (prefix name value : List ℕ) → is_prefix prefix ≡ true → IsName name → EndsPlainly value →
     ended_meaning prefix ((prefix ++ name) ++ byte "=" ∷ value) ≡ Set name value
 
--- a string's text, quoted and escaped, is read as that text
+-- a string's text in quotes, raw or escaped, is read as that text
 abbrev pub StringReadAgain : Type 0
 StringReadAgain =
-    (text : List ℕ) → length (escape text) + 2 ≤ longest_value →
-    line_value symbol_type.Str (byte "\"" ∷ escape text ++ byte "\"" ∷ []) ≡ Some (GivenText text)
+    (is_raw : Bool) (text : List ℕ) → length (escape text) + 2 ≤ longest_value →
+    line_value is_raw symbol_type.Str (string_text is_raw text) ≡ Some (GivenText text)
 
 -- the text that a line shows is no longer than a value may be
 abbrev pub IsShortText : SymbolValue → Type 0
@@ -43,5 +43,5 @@ IsShortText (TextValue symbol_type.Hex text) = length text ≤ longest_value
 -- a line that is written is no longer than a prefix, a name and a value, with `=`, two quotes and the LF
 abbrev pub WrittenLinesAreShort : Type 0
 WrittenLinesAreShort =
-    (prefix name : List ℕ) (known : SymbolValue) → length prefix ≤ longest_prefix → length name ≤ longest_name → IsShortText known →
-    length (config_file_line (prefix ++ name) known) ≤ longest_prefix + longest_name + longest_value + 4
+    (is_raw : Bool) (prefix name : List ℕ) (known : SymbolValue) → length prefix ≤ longest_prefix → length name ≤ longest_name → IsShortText known →
+    length (config_file_line is_raw (prefix ++ name) known) ≤ longest_prefix + longest_name + longest_value + 4

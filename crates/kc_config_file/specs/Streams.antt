@@ -8,7 +8,7 @@ use Rattle.kc_config_file.specs.Calls.{Call, Feed, Finish, NextStream, AllAnswer
 use Rattle.kc_config_file.specs.declared.fault.InputFault.{InputFault}
 use Rattle.kc_config_file.specs.Feeding.{StreamPosition, Refuses, stream_start}
 use Rattle.kc_config_file.specs.ReaderState.{ReaderState}
-use Rattle.kc_language.specs.ConfigFile.{Stream, UserInput, no_input, reading_of}
+use Rattle.kc_language.specs.ConfigFile.{Notation, Stream, UserInput, no_input, reading_of}
 
 -- a stream's name, and its bytes as they are handed in
 pub record Pieces : Type 0 where
@@ -42,12 +42,12 @@ ReadingKeepsPlaces =
 -- What reading any streams leaves, from empty places, holds what is allowed.
 abbrev pub StreamsLeavePlaces : Type 0
 StreamsLeavePlaces =
-    (tree : TreeFacts) (prefix : List ℕ) (keeps_lines : Bool) (gone : Option (List ℕ × List ℕ)) (streams : List Stream) → IsWellFormed tree →
-    ArePlaces tree (reading_of tree prefix (record (no_input keeps_lines tree) { gone = gone }) streams).input.places
+    (tree : TreeFacts) (prefix : Notation) (keeps_lines : Bool) (gone : Option (List ℕ × List ℕ)) (asks_unset : Bool) (lead : List ℕ) (streams : List Stream) → IsWellFormed tree →
+    ArePlaces tree (reading_of tree prefix (record (no_input keeps_lines tree) { gone = gone; asks_unset = asks_unset; lead = lead }) streams).input.places
 
 -- Places that hold what is allowed still do after a call that was refused.
 abbrev pub RefusalsKeepPlaces : Type 0
 RefusalsKeepPlaces =
-    (tree : TreeFacts) (prefix name : List ℕ) (fault : InputFault) (piece : List ℕ) (old new : StreamPosition) (before after : UserInput) (told told_after : List ℕ) →
+    (tree : TreeFacts) (prefix : Notation) (name : List ℕ) (fault : InputFault) (piece : List ℕ) (old new : StreamPosition) (before after : UserInput) (told told_after : List ℕ) →
     IsWellFormed tree → Refuses tree prefix name fault piece old new before after told told_after →
     ArePlaces tree before.places → ArePlaces tree after.places

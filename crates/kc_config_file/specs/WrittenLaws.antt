@@ -7,20 +7,20 @@ use Rattle.kc_language.specs.Values.{Solves, GivenValue, UserPlace, equations, n
 use Rattle.kc_language.specs.Symbols.{TreeFacts}
 use Rattle.kc_tree.specs.TreeFacts.{IsWellFormed}
 use Rattle.kc_user.specs.Places.{ArePlaces, allowed}
-use Rattle.kc_language.specs.ConfigFile.{Places, place_at, meaning_of, Assigns, effect_of, is_prefix, Line, effect, is_within}
+use Rattle.kc_language.specs.{ConfigFile.{Assigns, Line, Notation, Places, UserInput, effect, effect_of, is_prefix, is_within, meaning_of, place_at}}
 use Rattle.kc_language.specs.Needs.{IsAccepted}
-use Rattle.kc_language.specs.Texts.{ConfigGivesBack, HasShortLines, MinimalGivesBack, MinimalNeedsEach, valuation_view, config_text, minimal_text}
+use Rattle.kc_language.specs.Texts.{ConfigGivesBack, HasShortLines, MinimalGivesBack, MinimalNeedsEach, NewGivesBack, valuation_view, config_text, minimal_text}
 
 -- What a line assigns to a symbol is allowed for it.
 abbrev pub AssignedAreAllowed : Type 0
 AssignedAreAllowed =
-    (tree : TreeFacts) (prefix bytes : List ℕ) (s : SymId) (given : GivenValue) → HoldsNoLineFeed bytes →
-    effect_of tree (meaning_of prefix bytes) ≡ Assigns s given → allowed tree s given ≡ true
+    (tree : TreeFacts) (prefix : Notation) (bytes : List ℕ) (s : SymId) (given : GivenValue) → HoldsNoLineFeed bytes →
+    effect_of prefix.is_raw tree (meaning_of prefix.prefix bytes) ≡ Assigns s given → allowed tree s given ≡ true
 
 -- Every value that is allowed for a symbol is assigned by some line, which is not too long.
 abbrev pub AllowedAreAssigned : Type 0
 AllowedAreAssigned =
-    (tree : TreeFacts) (prefix : List ℕ) (s : SymId) (given : GivenValue) → IsWellFormed tree → is_prefix prefix ≡ true → allowed tree s given ≡ true →
+    (tree : TreeFacts) (prefix : Notation) (s : SymId) (given : GivenValue) → IsWellFormed tree → is_prefix prefix.prefix ≡ true → allowed tree s given ≡ true →
     (l : Line) × (l.ended ≡ true) × HoldsNoLineFeed l.bytes × (is_within l ≡ true) × (effect tree prefix l ≡ Assigns s given)
 
 -- the values of an accepted tree solve its equations under places that hold what is allowed
@@ -33,26 +33,32 @@ pub record IsSolutionOf (tree : TreeFacts) (places : Places) (V : ℕ → Symbol
 -- No line of the .config or of the minimal file is too long to be read again, whatever the numbers and titles.
 abbrev pub WrittenTextsAreShort : Type 0
 WrittenTextsAreShort =
-    (tree : TreeFacts) (prefix : List ℕ) (places : Places) (V : ℕ → SymbolValue) → is_prefix prefix ≡ true → IsSolutionOf tree places V →
+    (tree : TreeFacts) (prefix : Notation) (places : Places) (V : ℕ → SymbolValue) → is_prefix prefix.prefix ≡ true → IsSolutionOf tree places V →
     HasShortLines (config_text tree prefix (valuation_view tree (place_at places) V)) × HasShortLines (minimal_text tree prefix (valuation_view tree (place_at places) V))
 
 abbrev pub MinimalRestores : Type 0
 MinimalRestores =
-    (tree : TreeFacts) (prefix : List ℕ) (places : Places) (V : ℕ → SymbolValue) → is_prefix prefix ≡ true →
+    (tree : TreeFacts) (prefix : Notation) (places : Places) (V : ℕ → SymbolValue) → is_prefix prefix.prefix ≡ true →
     IsSolutionOf tree places V → MinimalGivesBack tree prefix places V
 
 abbrev pub MinimalHasNothingToSpare : Type 0
 MinimalHasNothingToSpare =
-    (tree : TreeFacts) (prefix : List ℕ) (places : Places) (V : ℕ → SymbolValue) → is_prefix prefix ≡ true →
+    (tree : TreeFacts) (prefix : Notation) (places : Places) (V : ℕ → SymbolValue) → is_prefix prefix.prefix ≡ true →
     IsSolutionOf tree places V → MinimalNeedsEach tree prefix places V
 
 abbrev pub ConfigIsIdempotent : Type 0
 ConfigIsIdempotent =
-    (tree : TreeFacts) (prefix : List ℕ) (places : Places) (V : ℕ → SymbolValue) → is_prefix prefix ≡ true →
+    (tree : TreeFacts) (prefix : Notation) (places : Places) (V : ℕ → SymbolValue) → is_prefix prefix.prefix ≡ true →
     IsSolutionOf tree places V → ConfigGivesBack tree prefix places V
+
+-- Reading the list of new symbols after the input files gives the values back.
+abbrev pub NewListGivesBack : Type 0
+NewListGivesBack =
+    (tree : TreeFacts) (prefix : Notation) (input : UserInput) (V : ℕ → SymbolValue) → is_prefix prefix.prefix ≡ true →
+    IsSolutionOf tree input.places V → NewGivesBack tree prefix input V
 
 -- The .config is that of the values alone: under any other places, the same values have the same text.
 abbrev pub ConfigIsOfValues : Type 0
 ConfigIsOfValues =
-    (tree : TreeFacts) (prefix : List ℕ) (user other : UserPlace → Option GivenValue) (V : ℕ → SymbolValue) →
+    (tree : TreeFacts) (prefix : Notation) (user other : UserPlace → Option GivenValue) (V : ℕ → SymbolValue) →
     config_text tree prefix (valuation_view tree user V) ≡ config_text tree prefix (valuation_view tree other V)

@@ -22,20 +22,21 @@ pub enum Effect<'a> {
     Assigns(SymId, UserValue),
 }
 
-/// What the line does: an unset line gives n to a bool or tristate and leaves another symbol alone, a set line gives
-/// the value that its text spells, where it is allowed. Its only error is to be out of memory.
+/// What the line does: an unset line gives n to a bool or tristate and has no effect on another symbol (K16), a set line
+/// gives the value that its text spells, where it is allowed. Its only error is to be out of memory.
 pub fn line_effect<'a>(
     alloc: Global,
     tree: &Tree,
     line: ConfigFileLine<'a>,
+    is_raw: bool,
 ) -> Result<Effect<'a>, AllocError>
-    ensures effect { IfOk result (λ effect. effect_view effect ≡ spec.effect_of tree.now (meaning_view line.entry)) }
+    ensures effect { IfOk result (λ effect. effect_view effect ≡ spec.effect_of is_raw tree.now (meaning_view line.entry)) }
     ensures defined { IfOk result (λ effect. AssignsDefined tree.now (effect_view effect)) }
 {
     match line {
         ConfigFileLine::Nothing => Ok(Effect::Silent),
         ConfigFileLine::Unset(name) => Ok(unset_effect(tree, name)),
-        ConfigFileLine::Set(name, text) => set_effect(alloc, tree, name, text),
+        ConfigFileLine::Set(name, text) => set_effect(alloc, tree, name, text, is_raw),
         ConfigFileLine::Malformed => Ok(Effect::Warns(Warning::MalformedLine)),
     }
 }
@@ -58,7 +59,9 @@ fn unset_effect<'a>(tree: &Tree, name: &'a [u8]) -> Effect<'a>
         Some(id) => match type_of(tree, id) {
             SymbolType::Undefined => Effect::Warns(Warning::UnknownSymbol(name)),
             SymbolType::Bool | SymbolType::Tristate => Effect::Assigns(id, UserValue::Tri(Tri::N)),
-            SymbolType::Str | SymbolType::Int | SymbolType::Hex => Effect::Silent,
+            SymbolType::Str | SymbolType::Int | SymbolType::Hex => {
+                Effect::Warns(Warning::TextUnset(name))
+            }
         },
     }
 }
@@ -68,12 +71,13 @@ fn set_effect<'a>(
     tree: &Tree,
     name: &'a [u8],
     text: &[u8],
+    is_raw: bool,
 ) -> Result<Effect<'a>, AllocError>
-    ensures { IfOk result (λ effect. effect_view effect ≡ spec_parts.set_effect tree.now name.now text.now (spec.symbol_named tree.now name.now)) }
+    ensures { IfOk result (λ effect. effect_view effect ≡ spec_parts.set_effect is_raw tree.now name.now text.now (spec.symbol_named tree.now name.now)) }
 {
     match tree.find(name) {
         None => Ok(Effect::Warns(Warning::UnknownSymbol(name))),
-        Some(id) => set_by_type(alloc, name, id, text, type_of(tree, id)),
+        Some(id) => set_by_type(alloc, name, id, text, type_of(tree, id), is_raw),
     }
 }
 
@@ -83,13 +87,14 @@ fn set_by_type<'a>(
     id: SymId,
     text: &[u8],
     symbol_type: SymbolType,
+    is_raw: bool,
 ) -> Result<Effect<'a>, AllocError>
-    ensures { IfOk result (λ effect. effect_view effect ≡ spec.set_by_type name.now id text.now symbol_type) }
+    ensures { IfOk result (λ effect. effect_view effect ≡ spec.set_by_type is_raw name.now id text.now symbol_type) }
 {
     if symbol_type == SymbolType::Undefined {
         return Ok(Effect::Warns(Warning::UnknownSymbol(name)));
     }
-    match line_value(alloc, symbol_type, text)? {
+    match line_value(alloc, symbol_type, text, is_raw)? {
         Some(value) => Ok(Effect::Assigns(id, value)),
         None => Ok(Effect::Warns(Warning::NotAllowed(name))),
     }

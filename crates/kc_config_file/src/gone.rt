@@ -33,7 +33,7 @@ fn add_said_line(
     line: ConfigFileLine<'_>,
     text: &mut Vec<u8>,
 ) -> Result<(), AllocError>
-    ensures { OnOk result (text.new.items ≡ text.old.items ++ said_line prefix.now (meaning_view line.entry)) }
+    ensures { OnOk result (text.new.items ≡ text.old.items ++ said_line prefix.now.prefix (meaning_view line.entry)) }
 {
     let prefix = prefix.as_bytes();
     match line {

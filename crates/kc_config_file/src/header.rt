@@ -1,6 +1,6 @@
 //! The writers of the header, of the minimal file and of the list of new symbols.
 ghost use Rattle.std.specs.Prelude.{◌≡◌, ◌<◌, ◌++◌, length, OnOk, OnErr, IfOk, flat_map};
-ghost use Rattle.kc_language.specs.Texts.{HasShortLines, MinimalGivesBack, MinimalNeedsEach, header_text, minimal_text, new_text, solution_view, symbol_config, value_of};
+ghost use Rattle.kc_language.specs.Texts.{HasShortLines, MinimalGivesBack, MinimalNeedsEach, header_text, minimal_text, new_text, solution_view, symbol_new, value_of};
 ghost use Rattle.kc_config_file.specs.PartsOfTexts.{header_heading, header_if, minimal_if, new_if};
 ghost use Rattle.kc_config_file.specs.Writing.{Writes};
 ghost use Rattle.kc_user.specs.Places.{ArePlaces};
@@ -11,7 +11,7 @@ use crate::fault::WriteFault;
 use crate::laws::{minimal_gives_back, written_texts_are_short};
 use crate::prefix::Prefix;
 use crate::sink::Sink;
-use crate::symbol_line::{add_config_file_line, add_header_line, symbol_value};
+use crate::symbol_line::{add_config_file_line, add_header_line, add_line_of_new, symbol_value};
 use crate::text::{add_parts, new_text};
 use kc_expr::expression::SymId;
 use kc_solve::solved::Solved;
@@ -61,17 +61,17 @@ fn add_minimal_if(
     )
 }
 
-/// Adds the symbol's `.config` line. Its only error is to be out of memory.
-pub fn add_symbol_line(
+/// Adds the symbol's line of the list of new symbols. Its only error is to be out of memory.
+pub fn add_new_line(
     solved: &Solved<'_>,
     prefix: &Prefix,
     id: SymId,
     text: &mut Vec<u8>,
 ) -> Result<(), AllocError>
     requires { id.0 < length solved.now.tree.names }
-    ensures { OnOk result (text.new.items ≡ text.old.items ++ symbol_config solved.now.tree prefix.now (solution_view solved.now) id) }
+    ensures { OnOk result (text.new.items ≡ text.old.items ++ symbol_new solved.now.tree prefix.now (solution_view solved.now) id) }
 {
-    add_config_file_line(
+    add_line_of_new(
         prefix,
         solved.tree().name(id),
         symbol_value(solved, id),
@@ -93,12 +93,7 @@ fn add_new_if(
     if !solved.is_new(id) {
         return Ok(());
     }
-    add_config_file_line(
-        prefix,
-        solved.tree().name(id),
-        symbol_value(solved, id),
-        file,
-    )
+    add_new_line(solved, prefix, id, file)
 }
 
 // Adds the header lines of the written symbols.
@@ -181,7 +176,8 @@ pub fn minimal_text(
     Ok(file)
 }
 
-/// The list of new symbols: their `.config` lines, in the order of their first definition. (Our own form.)
+/// The list of new symbols: their `.config` lines, in the order of their first definition. An int or hex whose value is no
+/// number has a comment. (Our own form.)
 ///
 /// The only error is to be out of memory.
 pub fn list_of_new(

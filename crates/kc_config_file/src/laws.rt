@@ -1,14 +1,14 @@
 //! What holds of reading, stated as the contracts of functions that do nothing.
 ghost use Rattle.kc_config_file.specs.Calls.{CallsJoin};
 ghost use Rattle.kc_config_file.specs.ReadingLaws.{LinesAreCut, LinesGiveInTurn, ReadingGoesLineByLine};
-ghost use Rattle.kc_config_file.specs.WrittenLaws.{AllowedAreAssigned, AssignedAreAllowed, ConfigIsIdempotent, ConfigIsOfValues, MinimalHasNothingToSpare, MinimalRestores, WrittenTextsAreShort};
+ghost use Rattle.kc_config_file.specs.WrittenLaws.{AllowedAreAssigned, AssignedAreAllowed, ConfigIsIdempotent, ConfigIsOfValues, MinimalHasNothingToSpare, MinimalRestores, NewListGivesBack, WrittenTextsAreShort};
 ghost use Rattle.kc_config_file.specs.RoundTrip.{UnsetLineReadAgain, SetLineReadAgain, StringReadAgain, WrittenLinesAreShort};
 ghost use Rattle.kc_config_file.specs.Streams.{ReadingKeepsPlaces, RefusalsKeepPlaces, StreamsAreRead, StreamsLeavePlaces};
 
 use kc_user::laws::places_hold_what_is_allowed;
 use kc_values::laws::{
     accepted_have_one_solution, differing_are_allowed, equations_read_needs, idempotent_where,
-    minimal_restores, needs_are_symbols,
+    minimal_restores, needs_are_symbols, new_lines_keep,
 };
 
 /// The bytes of a stream are cut into lines at each line feed, and what is left behind the last one is the last line, where
@@ -123,6 +123,18 @@ pub fn config_is_idempotent()
     equations_read_needs();
     needs_are_symbols();
     idempotent_where();
+}
+
+/// States what reading the list of new symbols after the input files gives, if no new string is too long for a line. No line of it
+/// is warned of. The values stay exactly where no new tristate symbol outside a choice stands above both its visibility and what
+/// it is selected to. And a symbol is still new only if it has a comment: an int or hex whose value is no number. (Our own.)
+pub fn new_list_gives_back()
+    ensures { NewListGivesBack }
+{
+    accepted_have_one_solution();
+    equations_read_needs();
+    needs_are_symbols();
+    new_lines_keep();
 }
 
 /// The written `.config` is that of the values alone: what the user gave, and which symbols differ by it, has no part in it.

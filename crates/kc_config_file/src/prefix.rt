@@ -1,4 +1,4 @@
-//! What stands before the name of a symbol in the files that are read and written.
+//! How names and strings stand in the files that are read and written.
 ghost use Rattle.std.specs.Prelude.{◌≡◌, ◌<◌, length, true, IfOk, OnErr};
 ghost use Rattle.kc_language.specs.ConfigFile as spec;
 ghost use Rattle.kc_config_file.specs.PartsOfConfigFile as spec_parts;
@@ -12,27 +12,32 @@ use std::marker::Model;
 const LONGEST_PREFIX: usize = 64;
 
 /// What stands before each name, as `CONFIG_`: 0 to 64 of the bytes `A` to `Z`, `a` to `z`, `0` to `9` and `_`, of
-/// which the first is no digit. (Our own rule; the kernel's tools and kconfiglib take any text.)
+/// which the first is no digit. (Our own rule; the kernel's tools and kconfiglib take any text.) And whether strings are
+/// raw: they stand between their quotes as they are, without escapes, as U-Boot's `conf` reads and writes them.
 #[derive(Debug, Drop)]
 pub struct Prefix {
     bytes: Vec<u8>,
+    is_raw: bool,
 }
 
 impl Model for Prefix {
-    ghost use Rattle.std.specs.Prelude.{◌≡◌, true, ℕ, List};
-    ghost use Rattle.kc_language.specs.ConfigFile.{is_prefix};
+    ghost use Rattle.std.specs.Prelude.{◌≡◌, true};
+    ghost use Rattle.kc_language.specs.ConfigFile.{Notation, is_prefix};
 
-    ghost Value = { List ℕ };
+    ghost Value = { Notation };
 
-    ghost view = { λ p. p.bytes.items };
+    ghost view = { λ p. record { prefix = p.bytes.items; is_raw = p.is_raw } };
 
     ghost invariant = { λ p. is_prefix p.bytes.items ≡ true };
 }
 
 impl Prefix {
-    /// The text as a prefix, or None where it is none. Its only error is to be out of memory, for a prefix of a byte or more.
-    pub fn new(alloc: Global, text: &[u8]) -> Result<Option<Prefix>, AllocError>
-        ensures prefix { IfOk result (λ found. found ≡ prefix_of text.now) }
+    /// The text as a prefix, or None where it is none. With `is_raw` strings have no escapes.
+    ///
+    /// # Errors
+    /// Out of memory, for a prefix of a byte or more.
+    pub fn new(alloc: Global, text: &[u8], is_raw: bool) -> Result<Option<Prefix>, AllocError>
+        ensures prefix { IfOk result (λ found. found ≡ prefix_of text.now is_raw) }
         ensures some { OnErr result ((0 < length text.now) × (spec.is_prefix text.now ≡ true)) }
     {
         if !is_prefix(text) {
@@ -43,13 +48,20 @@ impl Prefix {
         } else {
             Vec::from_slice(alloc, text)?
         };
-        Ok(Some(Prefix { bytes }))
+        Ok(Some(Prefix { bytes, is_raw }))
+    }
+
+    /// Returns whether strings are raw, without escapes.
+    pub fn is_raw(&self) -> bool
+        ensures { result ≡ self.now.is_raw }
+    {
+        self.is_raw
     }
 
     /// The bytes of the prefix.
     pub fn as_bytes(&self) -> &[u8]
-        ensures bytes { result.now ≡ self.now }
-        ensures prefix { spec.is_prefix self.now ≡ true }
+        ensures bytes { result.now ≡ self.now.prefix }
+        ensures prefix { spec.is_prefix self.now.prefix ≡ true }
     {
         &self.bytes
     }

@@ -1,13 +1,13 @@
 //! Values and lines, as warnings tell them.
-ghost use Rattle.std.specs.Prelude.{◌≡◌, ◌++◌, OnOk};
+ghost use Rattle.std.specs.Prelude.{◌≡◌, ◌++◌, OnOk, unwrap_or};
 ghost use Rattle.kc_language.specs.Values.{same_given};
 ghost use Rattle.kc_user.specs.ValueView.{given_of_value};
-ghost use Rattle.kc_language.specs.ConfigFile.{value_text, text_in_config};
-ghost use Rattle.kc_config_file.specs.ShownView.{given_by};
+ghost use Rattle.kc_language.specs.ConfigFile.{plain_location, string_text, value_text, text_in_config, without_prefix};
+ghost use Rattle.kc_config_file.specs.ShownView.{given_by, location_of};
 
+use crate::text::add_between_quotes;
 use kc_expr::expression::{SymbolType, Tri};
 use kc_expr::values::tri_text;
-use kc_text::escape_into;
 use kc_user::value::UserValue;
 use std::alloc::AllocError;
 
@@ -18,6 +18,28 @@ pub struct InputLine<'a> {
     pub file: &'a [u8],
     /// The line's number, from 1 on.
     pub number: u64,
+}
+
+impl<'a> InputLine<'a> {
+    // The line, with the file's name without what the names of fragments begin with.
+    pub(crate) fn without(self, lead: &[u8]) -> InputLine<'a>
+        ensures { location_of result ≡ plain_location lead.now (location_of self.entry) }
+    {
+        InputLine {
+            file: without_lead(lead, self.file),
+            number: self.number,
+        }
+    }
+}
+
+// What follows the lead, or the name as it is.
+fn without_lead<'a>(lead: &[u8], name: &'a [u8]) -> &'a [u8]
+    ensures { result.now ≡ unwrap_or (without_prefix lead.now name.entry.now) name.entry.now }
+{
+    match name.strip_prefix(lead) {
+        Some(rest) => rest,
+        None => name,
+    }
 }
 
 /// A symbol's value: of a bool or tristate, or the text of another.
@@ -49,16 +71,26 @@ pub fn is_same(given: ShownValue<'_>, value: ShownValue<'_>) -> bool
     }
 }
 
+// Adds a string in quotes.
+fn add_string(is_raw: bool, text: &[u8], line: &mut Vec<u8>) -> Result<(), AllocError>
+    ensures { OnOk result (line.new.items ≡ line.old.items ++ string_text is_raw text.now) }
+{
+    line.extend_from_slice(b"\"")?;
+    add_between_quotes(is_raw, text, line)?;
+    line.extend_from_slice(b"\"")
+}
+
 // Adds a text as a `.config` writes it.
-fn add_text(symbol_type: SymbolType, text: &[u8], line: &mut Vec<u8>) -> Result<(), AllocError>
-    ensures { OnOk result (line.new.items ≡ line.old.items ++ text_in_config symbol_type text.now) }
+fn add_text(
+    is_raw: bool,
+    symbol_type: SymbolType,
+    text: &[u8],
+    line: &mut Vec<u8>,
+) -> Result<(), AllocError>
+    ensures { OnOk result (line.new.items ≡ line.old.items ++ text_in_config is_raw symbol_type text.now) }
 {
     match symbol_type {
-        SymbolType::Str => {
-            line.extend_from_slice(b"\"")?;
-            escape_into(text, line)?;
-            line.extend_from_slice(b"\"")
-        }
+        SymbolType::Str => add_string(is_raw, text, line),
         SymbolType::Undefined
         | SymbolType::Bool
         | SymbolType::Tristate
@@ -68,16 +100,20 @@ fn add_text(symbol_type: SymbolType, text: &[u8], line: &mut Vec<u8>) -> Result<
 }
 
 /// Adds the value of a symbol of this type as a `.config` writes it: a string in quotes, with a `\` before each `"` and
-/// `\`. Its only error is to be out of memory.
+/// `\` unless strings are raw.
+///
+/// # Errors
+/// Out of memory.
 pub fn add_value(
+    is_raw: bool,
     symbol_type: SymbolType,
     shown: ShownValue<'_>,
     line: &mut Vec<u8>,
 ) -> Result<(), AllocError>
-    ensures { OnOk result (line.new.items ≡ line.old.items ++ value_text symbol_type (given_by shown.entry)) }
+    ensures { OnOk result (line.new.items ≡ line.old.items ++ value_text is_raw symbol_type (given_by shown.entry)) }
 {
     match shown {
         ShownValue::Truth(tri) => line.extend_from_slice(tri_text(tri)),
-        ShownValue::Text(text) => add_text(symbol_type, text, line),
+        ShownValue::Text(text) => add_text(is_raw, symbol_type, text, line),
     }
 }

@@ -1,17 +1,18 @@
 //! What one line of a stream does to the user's input.
 ghost use Rattle.std.specs.Prelude.{◌≡◌, ◌++◌, ◌<◌, true, [], ◌∷◌, length, map, slice_set, Some, None, IfOk, OnOk, OnErr, IfSome, option_map};
 ghost use Rattle.kc_user.specs.ValueView.{given_of_value};
-ghost use Rattle.kc_language.specs.ConfigFile.{change_text, is_change, meaning_of, Assigns, Warns, effect_of, is_gone, not_allowed, warning_line, ArePlacesOf, place_at, places_given};
+ghost use Rattle.kc_language.specs.ConfigFile.{change_text, is_change, meaning_of, Assigns, Warns, effect_of, is_gone, is_reported, not_allowed, warning_line, ArePlacesOf, place_at, places_given};
 ghost use Rattle.kc_config_file.specs.PartsOfConfigFile.{change_line};
 ghost use Rattle.kc_config_file.specs.PartsOfConfigFile.{effect_text, choice_of};
 ghost use Rattle.kc_language.specs.declared.diagnostics.Warning.TheVariants.{Changed, SetAgain};
-ghost use Rattle.kc_config_file.specs.LineSteps.{input_by, input_with, refused_by, with_member};
+ghost use Rattle.kc_config_file.specs.LineSteps.{input_by, input_left, input_with, refused_by, with_member};
+ghost use Rattle.kc_config_file.specs.ConfigFileLine.{meaning_view};
 ghost use Rattle.kc_diagnostics.specs.Warnings.{shown_warning};
 ghost use Rattle.kc_config_file.specs.ShownView.{given_by, location_of};
 ghost use Rattle.kc_language.specs.Values.{SymbolPlace, is_yes};
 
 use crate::effect::{Effect, line_effect, type_of, warn};
-use crate::line::parse_config_file_line;
+use crate::line::{ConfigFileLine, parse_config_file_line};
 use crate::prefix::Prefix;
 use crate::shown::{InputLine, ShownValue, add_value, is_same, shown_given};
 use crate::user_input::UserInput;
@@ -152,6 +153,7 @@ fn tell_values<'a>(
 // Adds the line that tells what the symbol was and is now.
 fn add_change<'a>(
     alloc: Global,
+    is_raw: bool,
     name: &'a [u8],
     symbol_type: SymbolType,
     old: Given<'a>,
@@ -159,12 +161,12 @@ fn add_change<'a>(
     text: &mut Vec<u8>,
 ) -> Result<(), AllocError>
     ensures { OnOk result (text.new.items ≡ text.old.items
-        ++ change_line (location_of new.entry.at) name.now symbol_type (given_by old.entry.value) (location_of old.entry.at) (given_by new.entry.value)) }
+        ++ change_line is_raw (location_of new.entry.at) name.now symbol_type (given_by old.entry.value) (location_of old.entry.at) (given_by new.entry.value)) }
 {
     let mut before = Vec::new(alloc);
-    add_value(symbol_type, old.value, &mut before)?;
+    add_value(is_raw, symbol_type, old.value, &mut before)?;
     let mut now = Vec::new(alloc);
-    add_value(symbol_type, new.value, &mut now)?;
+    add_value(is_raw, symbol_type, new.value, &mut now)?;
     tell_values(name, old.at, &before, new.at, &now, text)
 }
 
@@ -179,6 +181,7 @@ fn tell_again(at: InputLine<'_>, name: &[u8], told: &mut Vec<u8>) -> Result<(), 
 // Tells that the symbol is set again, and what it was and is now.
 fn tell_change<'a>(
     alloc: Global,
+    is_raw: bool,
     name: &'a [u8],
     symbol_type: SymbolType,
     old: Given<'a>,
@@ -186,18 +189,19 @@ fn tell_change<'a>(
     told: &mut Vec<u8>,
 ) -> Result<(), AllocError>
     ensures whole { OnOk result (told.new.items ≡ told.old.items ++ (warning_line new.entry.at.file.now new.entry.at.number (SetAgain name.now)
-        ++ change_line (location_of new.entry.at) name.now symbol_type (given_by old.entry.value) (location_of old.entry.at) (given_by new.entry.value))) }
+        ++ change_line is_raw (location_of new.entry.at) name.now symbol_type (given_by old.entry.value) (location_of old.entry.at) (given_by new.entry.value))) }
     ensures nothing { OnErr result (told.new.items ≡ told.old.items) }
 {
     let mut text = Vec::new(alloc);
     tell_again(new.at, name, &mut text)?;
-    add_change(alloc, name, symbol_type, old, new, &mut text)?;
+    add_change(alloc, is_raw, name, symbol_type, old, new, &mut text)?;
     told.extend_from_slice(&text)
 }
 
 // Tells that the symbol is set again, and the change where there is one and its line is known.
 fn tell_both(
     alloc: Global,
+    is_raw: bool,
     name: &[u8],
     symbol_type: SymbolType,
     old: ShownValue<'_>,
@@ -206,7 +210,7 @@ fn tell_both(
     told: &mut Vec<u8>,
 ) -> Result<(), AllocError>
     ensures whole { OnOk result (told.new.items ≡ told.old.items ++ (warning_line new.entry.at.file.now new.entry.at.number (SetAgain name.now)
-        ++ change_text (location_of new.entry.at) name.now symbol_type (Some (given_by old.entry)) (option_map location_of from.entry) (given_by new.entry.value))) }
+        ++ change_text is_raw (location_of new.entry.at) name.now symbol_type (Some (given_by old.entry)) (option_map location_of from.entry) (given_by new.entry.value))) }
     ensures nothing { OnErr result (told.new.items ≡ told.old.items) }
 {
     match from {
@@ -219,7 +223,7 @@ fn tell_both(
                     value: old,
                     at: from,
                 };
-                tell_change(alloc, name, symbol_type, old, new, told)
+                tell_change(alloc, is_raw, name, symbol_type, old, new, told)
             }
         }
     }
@@ -228,6 +232,7 @@ fn tell_both(
 // Warns where the symbol has a value already.
 fn warn_again(
     alloc: Global,
+    is_raw: bool,
     tree: &Tree,
     at: InputLine<'_>,
     id: SymId,
@@ -237,7 +242,7 @@ fn warn_again(
 ) -> Result<(), AllocError>
     requires mentioned { id.0 < length tree.now.symbols }
     requires user { ArePlacesOf tree.now input.now.places }
-    ensures whole { OnOk result (told.new.items ≡ told.old.items ++ effect_text tree.now input.now (location_of at.entry) (Assigns id (given_of_value value.now))) }
+    ensures whole { OnOk result (told.new.items ≡ told.old.items ++ effect_text is_raw tree.now input.now (location_of at.entry) (Assigns id (given_of_value value.now))) }
     ensures nothing { OnErr result (told.new.items ≡ told.old.items) }
 {
     if id.0 >= tree.name_count() {
@@ -250,9 +255,10 @@ fn warn_again(
                 value: shown_given(value),
                 at,
             };
-            let from = input.line(id);
+            let from = input.plain_line(id);
             tell_both(
                 alloc,
+                is_raw,
                 tree.name(id),
                 type_of(tree, id),
                 shown_given(old),
@@ -291,8 +297,39 @@ fn refuse<'a>(refused: Option<SymId>, at: InputLine<'a>, input: &mut UserInput<'
     }
 }
 
+// Warns of a line, which is not taken as written.
+fn leave_out<'a>(
+    alloc: Global,
+    stream: &NamedStream<'a>,
+    at: InputLine<'a>,
+    line: ConfigFileLine<'_>,
+    line_warning: Warning<&[u8]>,
+    user: &mut UserInput<'a>,
+    told: &mut Vec<u8>,
+) -> Result<(), AllocError>
+    requires { is_reported user.old.asks_unset (shown_warning line_warning) ≡ true }
+    ensures left { OnOk result (user.new ≡ input_left stream.now.tree.now stream.now.prefix.now user.old (location_of at.entry)
+        (meaning_view line.entry) (Warns (shown_warning line_warning.entry))) }
+    ensures warned { OnOk result (told.new.items ≡ told.old.items
+        ++ effect_text stream.now.prefix.now.is_raw stream.now.tree.now user.old (location_of at.entry) (Warns (shown_warning line_warning.entry))) }
+    ensures unchanged { OnErr result ((user.new ≡ user.old) × (told.new.items ≡ told.old.items)) }
+{
+    let untold = told.len();
+    let is_gone = is_gone(&line_warning);
+    let refused = not_allowed(stream.tree, &line_warning);
+    warn(at.file, at.number, line_warning, told)?;
+    let noted = user.leave_out(alloc, stream.prefix, line, is_gone);
+    if noted.is_ok() {
+        refuse(refused, at, user);
+    } else {
+        told.truncate(untold);
+    }
+    noted
+}
+
 /// Reads one line, given without its end: tells its warning, and then changes the input. Its only error is to be out of
 /// memory; then the input is as it was, and nothing was told.
+#[tactic(auto, using(crate::proofs::StepLemmas::unreported, crate::proofs::StepLemmas::untold))]
 pub(crate) fn read_line<'a>(
     alloc: Global,
     stream: &NamedStream<'a>,
@@ -303,10 +340,10 @@ pub(crate) fn read_line<'a>(
 ) -> Result<(), AllocError>
     requires { ArePlacesOf stream.now.tree.now user.old.places }
     ensures places { OnOk result (user.new ≡ input_with stream.now.tree.now stream.now.prefix.now user.old (record { stream = stream.now.name.now; number = number })
-        (meaning_of stream.now.prefix.now text.now)) }
+        (meaning_of stream.now.prefix.now.prefix text.now)) }
     ensures warned { OnOk result (told.new.items ≡ told.old.items
-        ++ effect_text stream.now.tree.now user.old (record { stream = stream.now.name.now; number = number })
-        (effect_of stream.now.tree.now (meaning_of stream.now.prefix.now text.now))) }
+        ++ effect_text stream.now.prefix.now.is_raw stream.now.tree.now user.old (record { stream = stream.now.name.now; number = number })
+        (effect_of stream.now.prefix.now.is_raw stream.now.tree.now (meaning_of stream.now.prefix.now.prefix text.now))) }
     ensures unchanged { OnErr result ((user.new ≡ user.old) × (told.new.items ≡ told.old.items)) }
 {
     let at = InputLine {
@@ -314,24 +351,19 @@ pub(crate) fn read_line<'a>(
         number,
     };
     let line = parse_config_file_line(stream.prefix.as_bytes(), text);
-    match line_effect(alloc, stream.tree, line)? {
+    let is_raw = stream.prefix.is_raw();
+    match line_effect(alloc, stream.tree, line, is_raw)? {
         Effect::Silent => Ok(()),
         Effect::Warns(line_warning) => {
-            let untold = told.len();
-            let is_gone = is_gone(&line_warning);
-            let refused = not_allowed(stream.tree, &line_warning);
-            warn(stream.name, number, line_warning, told)?;
-            let noted = user.leave_out(alloc, stream.prefix, line, is_gone);
-            if noted.is_ok() {
-                refuse(refused, at, user);
+            if user.reports(&line_warning) {
+                leave_out(alloc, stream, at, line, line_warning, user, told)
             } else {
-                told.truncate(untold);
+                Ok(())
             }
-            noted
         }
         Effect::Assigns(id, value) => {
             let before = told.len();
-            warn_again(alloc, stream.tree, at, id, &value, user, told)?;
+            warn_again(alloc, is_raw, stream.tree, at, id, &value, user, told)?;
             let given = give(stream.tree, at, id, value, user);
             if given.is_err() {
                 told.truncate(before);

@@ -1,16 +1,15 @@
 //! A symbol's value, and the line that tells it.
 ghost use Rattle.std.specs.Prelude.{◌≡◌, ◌<◌, ◌++◌, length, OnOk, OnErr, codes, flat_map};
-ghost use Rattle.kc_language.specs.Text.{escape};
-ghost use Rattle.kc_language.specs.Texts.{solution_view, config_file_line, header_line};
-ghost use Rattle.kc_config_file.specs.PartsOfTexts.{hex_text};
+ghost use Rattle.kc_config_file.specs.{PartsOfTexts.{between_quotes, hex_text}};
+ghost use Rattle.kc_language.specs.{Texts.{config_file_line, has_value, header_line, new_line, solution_view}};
 ghost use Rattle.kc_config_file.specs.KnownValue.{value_view};
 
 use crate::prefix::Prefix;
-use crate::text::add_parts;
+use crate::text::{add_between_quotes, add_parts};
 use kc_expr::expression::{SymId, SymbolType, Tri};
 use kc_expr::values::Values;
 use kc_solve::solved::Solved;
-use kc_text::{escape_into, has_hex_prefix};
+use kc_text::{has_hex_prefix, read_hex, read_int};
 use std::alloc::AllocError;
 
 /// The value of a symbol: of a bool or tristate, or the text of another with its type.
@@ -37,12 +36,17 @@ pub(crate) fn symbol_value<'a>(solved: &'a Solved<'_>, id: SymId) -> WrittenValu
     }
 }
 
-// Adds the parts before a string, the string with a `\` before each `"` and `\`, and the end of its line.
-fn add_string_line(before: &[&[u8]], text: &[u8], file: &mut Vec<u8>) -> Result<(), AllocError>
-    ensures { OnOk result (file.new.items ≡ file.old.items ++ flat_map (λ part. part.now) before.now ++ escape text.now ++ codes "\"\n") }
+// Adds the parts before a string, with its first quote, the string, and the end of its line.
+fn add_string_line(
+    before: &[&[u8]],
+    is_raw: bool,
+    text: &[u8],
+    file: &mut Vec<u8>,
+) -> Result<(), AllocError>
+    ensures { OnOk result (file.new.items ≡ file.old.items ++ flat_map (λ part. part.now) before.now ++ between_quotes is_raw text.now ++ codes "\"\n") }
 {
     add_parts(before, file)?;
-    escape_into(text, file)?;
+    add_between_quotes(is_raw, text, file)?;
     file.extend_from_slice(b"\"\n")
 }
 
@@ -60,9 +64,10 @@ pub(crate) fn add_config_file_line<'a>(
     value: WrittenValue<'a>,
     file: &mut Vec<u8>,
 ) -> Result<(), AllocError>
-    ensures line { OnOk result (file.new.items ≡ file.old.items ++ config_file_line (prefix.now ++ name.now) (value_view value.entry)) }
-    ensures some { OnErr result (0 < length (config_file_line (prefix.now ++ name.now) (value_view value.entry))) }
+    ensures line { OnOk result (file.new.items ≡ file.old.items ++ config_file_line prefix.now.is_raw (prefix.now.prefix ++ name.now) (value_view value.entry)) }
+    ensures some { OnErr result (0 < length (config_file_line prefix.now.is_raw (prefix.now.prefix ++ name.now) (value_view value.entry))) }
 {
+    let is_raw = prefix.is_raw();
     let prefix = prefix.as_bytes();
     match value {
         WrittenValue::Truth(Tri::N) => add_parts(&[b"# ", prefix, name, b" is not set\n"], file),
@@ -70,6 +75,7 @@ pub(crate) fn add_config_file_line<'a>(
         WrittenValue::Truth(Tri::Y) => add_parts(&[prefix, name, b"=y\n"], file),
         WrittenValue::TextValue(SymbolType::Str, text) => add_string_line(
             &[prefix, name, b"=\""],
+            is_raw,
             text,
             file,
         ),
@@ -88,6 +94,33 @@ pub(crate) fn add_config_file_line<'a>(
     }
 }
 
+// Whether the value is one that a line can give: that of an int or hex is a number.
+fn has_value(value: WrittenValue<'_>) -> bool
+    ensures { result ≡ has_value (value_view value.entry) }
+{
+    match value {
+        WrittenValue::TextValue(SymbolType::Int, text) => read_int(text).is_some(),
+        WrittenValue::TextValue(SymbolType::Hex, text) => read_hex(text).is_some(),
+        _ => true,
+    }
+}
+
+/// Adds the symbol's line of the list of new symbols: that of a `.config`, or a comment if it has no value.
+pub(crate) fn add_line_of_new<'a>(
+    prefix: &'a Prefix,
+    name: &'a [u8],
+    value: WrittenValue<'a>,
+    file: &mut Vec<u8>,
+) -> Result<(), AllocError>
+    ensures { OnOk result (file.new.items ≡ file.old.items ++ new_line prefix.now.is_raw (prefix.now.prefix ++ name.now) (value_view value.entry)) }
+{
+    if has_value(value) {
+        add_config_file_line(prefix, name, value, file)
+    } else {
+        add_parts(&[b"# ", prefix.as_bytes(), name, b" has no value\n"], file)
+    }
+}
+
 /// Adds the symbol's line of a header, where it has one.
 pub(crate) fn add_header_line<'a>(
     prefix: &'a Prefix,
@@ -95,8 +128,9 @@ pub(crate) fn add_header_line<'a>(
     value: WrittenValue<'a>,
     file: &mut Vec<u8>,
 ) -> Result<(), AllocError>
-    ensures { OnOk result (file.new.items ≡ file.old.items ++ header_line (prefix.now ++ name.now) (value_view value.entry)) }
+    ensures { OnOk result (file.new.items ≡ file.old.items ++ header_line prefix.now.is_raw (prefix.now.prefix ++ name.now) (value_view value.entry)) }
 {
+    let is_raw = prefix.is_raw();
     let prefix = prefix.as_bytes();
     match value {
         WrittenValue::Truth(Tri::N) => Ok(()),
@@ -106,7 +140,7 @@ pub(crate) fn add_header_line<'a>(
         ),
         WrittenValue::Truth(Tri::Y) => add_parts(&[b"#define ", prefix, name, b" 1\n"], file),
         WrittenValue::TextValue(SymbolType::Str, text) => {
-            add_string_line(&[b"#define ", prefix, name, b" \""], text, file)
+            add_string_line(&[b"#define ", prefix, name, b" \""], is_raw, text, file)
         }
         WrittenValue::TextValue(SymbolType::Int, text) => {
             add_parts(&[b"#define ", prefix, name, b" ", text, b"\n"], file)

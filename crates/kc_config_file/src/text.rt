@@ -1,6 +1,8 @@
 //! A file's text in memory, which grows part by part.
 ghost use Rattle.std.specs.Prelude.{◌≡◌, ◌++◌, [], OnOk, IfOk, flat_map};
+ghost use Rattle.kc_config_file.specs.PartsOfTexts.{between_quotes};
 
+use kc_text::escape_into;
 use std::alloc::{AllocError, Global};
 
 /// The room of a text at first. Its room doubles where it is longer.
@@ -22,4 +24,19 @@ pub(crate) fn add_parts(parts: &[&[u8]], text: &mut Vec<u8>) -> Result<(), Alloc
         text.extend_from_slice(part)?;
     }
     Ok(())
+}
+
+/// Adds a string's text as it stands between quotes: raw, or with a `\` before each `"` and `\`.
+pub(crate) fn add_between_quotes(
+    is_raw: bool,
+    string: &[u8],
+    text: &mut Vec<u8>,
+) -> Result<(), AllocError>
+    ensures { OnOk result (text.new.items ≡ text.old.items ++ between_quotes is_raw string.now) }
+{
+    if is_raw {
+        text.extend_from_slice(string)
+    } else {
+        escape_into(string, text)
+    }
 }

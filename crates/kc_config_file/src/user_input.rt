@@ -1,7 +1,8 @@
 //! What the user's input files gave.
 ghost use Rattle.std.specs.Prelude.{◌≡◌, ◌++◌, [], length, map, replicate, slice_index_or, false, None, Some, IfOk, OnOk, OnErr, if◌then◌else◌, option_map};
 ghost use Rattle.std.specs.Option.{option_map_or};
-ghost use Rattle.kc_language.specs.ConfigFile.{no_input};
+ghost use Rattle.kc_language.specs.ConfigFile.{is_reported, no_input, plain_line, plain_location};
+ghost use Rattle.kc_diagnostics.specs.Warnings.{shown_warning};
 ghost use Rattle.kc_config_file.specs.ConfigFileLine.{meaning_view};
 ghost use Rattle.kc_config_file.specs.LineSteps.{with_line};
 ghost use Rattle.kc_config_file.specs.ShownView.{location_of};
@@ -10,6 +11,7 @@ use crate::gone::{GoneLines, joined, keep_line};
 use crate::line::ConfigFileLine;
 use crate::prefix::Prefix;
 use crate::shown::InputLine;
+use kc_diagnostics::Warning;
 use kc_expr::expression::SymId;
 use kc_tree::tree::Tree;
 use kc_user::user::{User, empty_places};
@@ -17,8 +19,9 @@ use std::alloc::{AllocError, Global};
 use std::marker::Model;
 
 /// What the lines of a user's input files gave: the user's values; where this is wanted, for each symbol the line that gave
-/// its value last, and the last line whose value for it was not allowed; whether every line was taken as written; and where
-/// this is wanted, the lines that named no symbol. (Our own.)
+/// its value last, and the last line whose value for it was not allowed; whether every line was taken as written; where
+/// this is wanted, the lines that named no symbol; whether unset lines without effect are reported; and what the names of
+/// fragments begin with. (Our own.)
 #[derive(Drop)]
 pub struct UserInput<'a> {
     pub(crate) user: User,
@@ -26,6 +29,8 @@ pub struct UserInput<'a> {
     pub(crate) refused: Vec<Option<InputLine<'a>>>,
     pub(crate) all_taken: bool,
     pub(crate) gone: Option<GoneLines>,
+    pub(crate) asks_unset: bool,
+    pub(crate) lead: Vec<u8>,
 }
 
 impl<'a> Model for UserInput<'a> {
@@ -66,6 +71,8 @@ impl<'a> UserInput<'a> {
             refused,
             all_taken: true,
             gone: None,
+            asks_unset: false,
+            lead: Vec::new(alloc),
         })
     }
 
@@ -86,8 +93,8 @@ impl<'a> UserInput<'a> {
         }
     }
 
-    /// The last line whose value for the symbol was not allowed (K8), where such lines are kept.
-    pub fn refused_line(&self, id: SymId) -> Option<InputLine<'a>>
+    // The last line whose value for the symbol was not allowed (K8), where such lines are kept.
+    fn refused_line(&self, id: SymId) -> Option<InputLine<'a>>
         ensures { option_map location_of result ≡ slice_index_or self.now.refused id.0 None }
     {
         match self.refused.get(id.0) {
@@ -96,7 +103,55 @@ impl<'a> UserInput<'a> {
         }
     }
 
-    /// Whether every line was taken as written: none was warned of (K7 to K9), and none gave a symbol a value where another
+    // The line without the lead.
+    fn plain(&self, line: Option<InputLine<'a>>) -> Option<InputLine<'a>>
+        ensures { option_map location_of result ≡ option_map (plain_location self.now.lead) (option_map location_of line.entry) }
+    {
+        match line {
+            Some(line) => Some(line.without(&self.lead)),
+            None => None,
+        }
+    }
+
+    /// The line that gave the symbol its value last, where such lines are kept, without the lead.
+    pub fn plain_line(&self, id: SymId) -> Option<InputLine<'a>>
+        ensures { option_map location_of result ≡ plain_line self.now self.now.lines id }
+    {
+        self.plain(self.line(id))
+    }
+
+    /// The last line whose value for the symbol was not allowed (K8), where such lines are kept, without the lead.
+    pub fn plain_refused_line(&self, id: SymId) -> Option<InputLine<'a>>
+        ensures { option_map location_of result ≡ plain_line self.now self.now.refused id }
+    {
+        self.plain(self.refused_line(id))
+    }
+
+    /// Sets what the names of fragments begin with from here on.
+    pub fn lead_with(&mut self, lead: Vec<u8>)
+        ensures { self.new ≡ record self.old { lead = lead.items } }
+    {
+        self.lead = lead;
+    }
+
+    /// Sets whether each unset line of a string, int or hex symbol is reported (K16) from here on.
+    pub fn ask_unset(&mut self, asks_unset: bool)
+        ensures { self.new ≡ record self.old { asks_unset = asks_unset } }
+    {
+        self.asks_unset = asks_unset;
+    }
+
+    // Whether a warning of a line is reported.
+    pub(crate) fn reports(&self, line_warning: &Warning<&[u8]>) -> bool
+        ensures { result ≡ is_reported self.now.asks_unset (shown_warning line_warning.now) }
+    {
+        match line_warning {
+            Warning::TextUnset(_) => self.asks_unset,
+            _ => true,
+        }
+    }
+
+    /// Whether every line was taken as written: none was warned of (K7 to K9, K16), and none gave a symbol a value where another
     /// had been given before.
     pub fn all_taken(&self) -> bool
         ensures { result ≡ self.now.all_taken }

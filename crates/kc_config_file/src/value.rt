@@ -1,25 +1,31 @@
 //! The value that the text right of a line's `=` gives.
 ghost use Rattle.std.specs.Prelude.{◌≡◌, slice_index, IfOk, option_map};
-ghost use Rattle.kc_language.specs.Values.{GivenTruth};
+ghost use Rattle.std.specs.Option.{option_copied};
+ghost use Rattle.kc_language.specs.Values.{GivenText, GivenTruth};
 ghost use Rattle.kc_user.specs.ValueView.{given_of_value};
 ghost use Rattle.kc_language.specs.ConfigFile as spec;
 ghost use Rattle.kc_config_file.specs.PartsOfConfigFile as spec_parts;
 
 use kc_expr::expression::{SymbolType, Tri};
 use kc_text::{read_hex, read_int, unescape_into};
-use kc_user::value::{LONGEST_VALUE, UserValue};
+use kc_user::value::{LONGEST_VALUE, UserValue, is_short_quoted};
 use std::alloc::{AllocError, Global};
 
 /// The value that the text gives to a symbol of this type, or None where it is not allowed: for a bool `y` or `n` as
 /// its first byte, for a tristate `y`, `m` or `n`, whatever follows that byte; for a string what stands between the `"` that
-/// it begins with and the next one that no `\` takes away, `\c` being c; for an int or hex the whole text, where it is a
-/// number of that type. A text of more than 65,000 bytes gives none, nor does one for a symbol without a type.
+/// it begins with and the next one that no `\` takes away, `\c` being c, or if strings are raw all between the `"` that it
+/// begins with and the `"` that it ends with; for an int or hex the whole text, where it is a number of that type. A text of
+/// more than 65,000 bytes gives none, nor does a raw string that has more with escapes, nor a symbol without a type.
+///
+/// # Errors
+/// Out of memory.
 pub fn line_value(
     alloc: Global,
     symbol_type: SymbolType,
     text: &[u8],
+    is_raw: bool,
 ) -> Result<Option<UserValue>, AllocError>
-    ensures { IfOk result (λ found. option_map given_of_value found ≡ spec_parts.line_value symbol_type text.now) }
+    ensures { IfOk result (λ found. option_map given_of_value found ≡ spec_parts.line_value is_raw symbol_type text.now) }
 {
     if text.len() > LONGEST_VALUE {
         return Ok(None);
@@ -28,7 +34,7 @@ pub fn line_value(
         SymbolType::Undefined => Ok(None),
         SymbolType::Bool => Ok(truth_value(yes_or_no(first_byte(text)))),
         SymbolType::Tristate => Ok(truth_value(yes_m_or_no(first_byte(text)))),
-        SymbolType::Str => string_value(alloc, text),
+        SymbolType::Str => string_value(alloc, text, is_raw),
         SymbolType::Int => number_value(alloc, text, read_int(text).is_some()),
         SymbolType::Hex => number_value(alloc, text, read_hex(text).is_some()),
     }
@@ -87,8 +93,48 @@ fn number_value(
 }
 
 // The text of a string.
-fn string_value(alloc: Global, text: &[u8]) -> Result<Option<UserValue>, AllocError>
-    ensures { IfOk result (λ found. option_map given_of_value found ≡ spec_parts.string_value text.now) }
+fn string_value(alloc: Global, text: &[u8], is_raw: bool) -> Result<Option<UserValue>, AllocError>
+    ensures { IfOk result (λ found. option_map given_of_value found ≡ spec_parts.string_value is_raw text.now) }
+{
+    if is_raw {
+        raw_value(alloc, raw_string(text))
+    } else {
+        escaped_value(alloc, text)
+    }
+}
+
+// What stands between the first byte and the last, which are a `"` each.
+fn between_ends(text: &[u8]) -> Option<&[u8]>
+    ensures { option_copied result ≡ spec_parts.between_ends text.now }
+{
+    text.strip_prefix(b"\"")?.strip_suffix(b"\"")
+}
+
+// The same, if it is not too long with escapes.
+fn raw_string(text: &[u8]) -> Option<&[u8]>
+    ensures { option_copied result ≡ spec.raw_string text.now }
+{
+    let raw = between_ends(text)?;
+    if is_short_quoted(raw) {
+        Some(raw)
+    } else {
+        None
+    }
+}
+
+// The value of a raw string's text.
+fn raw_value(alloc: Global, raw: Option<&[u8]>) -> Result<Option<UserValue>, AllocError>
+    ensures { IfOk result (λ found. option_map given_of_value found ≡ option_map GivenText (option_copied raw.entry)) }
+{
+    match raw {
+        Some(raw) => Ok(Some(UserValue::Text(Vec::from_slice(alloc, raw)?))),
+        None => Ok(None),
+    }
+}
+
+// The value of a string with escapes.
+fn escaped_value(alloc: Global, text: &[u8]) -> Result<Option<UserValue>, AllocError>
+    ensures { IfOk result (λ found. option_map given_of_value found ≡ option_map GivenText (spec.escaped_string text.now)) }
 {
     match quoted(text) {
         Some(raw) => {

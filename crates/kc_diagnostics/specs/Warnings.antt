@@ -23,7 +23,9 @@ map_warning f (warning.Selected name selected_to direct) = warning.Selected (f n
 map_warning f (warning.UserOutside name value low high) = warning.UserOutside (f name) (f value) (f low) (f high)
 map_warning f (warning.DefaultOutside name value low high used) = warning.DefaultOutside (f name) (f value) (f low) (f high) (f used)
 map_warning f (warning.Lost name given value) = warning.Lost (f name) (f given) (f value)
+map_warning f (warning.LostWithoutPrompt name given value) = warning.LostWithoutPrompt (f name) (f given) (f value)
 map_warning f (warning.Changed name old file line new) = warning.Changed (f name) (f old) (f file) line (f new)
+map_warning f (warning.TextUnset name) = warning.TextUnset (f name)
 
 -- a warning that borrows its texts
 abbrev pub shown_warning : declared.Warning (Bor (List ℕ)) → Warning

@@ -59,6 +59,9 @@ pub fn borrowed(warning: &Warning<Vec<u8>>) -> Warning<&[u8]>
             used,
         },
         Warning::Lost { name, given, value } => Warning::Lost { name, given, value },
+        Warning::LostWithoutPrompt { name, given, value } => {
+            Warning::LostWithoutPrompt { name, given, value }
+        }
         Warning::Changed {
             name,
             old,
@@ -72,6 +75,7 @@ pub fn borrowed(warning: &Warning<Vec<u8>>) -> Warning<&[u8]>
             line: *line,
             new,
         },
+        Warning::TextUnset(name) => Warning::TextUnset(name),
     }
 }
 
@@ -208,6 +212,17 @@ fn add_text(warning: Warning<&[u8]>, text: &mut Vec<u8>) -> Result<(), AllocErro
             &[b"K14: ", name, b" was given ", given, b" and is ", value],
             text,
         ),
+        Warning::LostWithoutPrompt { name, given, value } => add_parts(
+            &[
+                b"K14: ",
+                name,
+                b" has no prompt; it was given ",
+                given,
+                b" and is ",
+                value,
+            ],
+            text,
+        ),
         Warning::Changed {
             name,
             old,
@@ -215,6 +230,14 @@ fn add_text(warning: Warning<&[u8]>, text: &mut Vec<u8>) -> Result<(), AllocErro
             line,
             new,
         } => add_change(name, old, file, line, new, text),
+        Warning::TextUnset(name) => add_parts(
+            &[
+                b"K16: ",
+                name,
+                b" is not bool or tristate, the line has no effect",
+            ],
+            text,
+        ),
     }
 }
 

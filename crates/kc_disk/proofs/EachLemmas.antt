@@ -1,7 +1,10 @@
 -- What a folder told stays so where it still tells, and how the steps of a run for many configurations make one.
-use Rattle.std.proofs.Common.{◌≡◌, ℕ, List, [], ◌++◌, refl, ap, sym, subst, ◌∙◌, append-nil, Option, Some, None, Ok, Err, String, Vec, Global, map, string_bytes}
+use Rattle.std.proofs.Common.{◌≡◌, ℕ, List, [], ◌++◌, length, refl, ap, sym, subst, ◌∙◌, append-nil, Option, Some, None, Ok, Err, String, Vec, Global, map, string_bytes}
 use Rattle.kc_io.specs.Log.{Log}
-use Rattle.kc_load.specs.Folder.{AnswersAs, FolderState, Leads, files_told}
+use Rattle.kc_conf.proofs.FolderLemmas.{runs_each_over}
+use Rattle.kc_language.specs.Expansion.{Files}
+use Rattle.kc_load.specs.Folder.{AnswersAs, AreFilesOf, FolderState, Leads, files_told}
+use Rattle.kc_load.specs.Loading.{ExpandsAlike}
 use Rattle.kc_load.specs.declared.fault.LoadFault.{LoadFault}
 use Rattle.kc_load.specs.declared.fault.LoadFault.TheVariants.{CannotRead, Memory}
 use Rattle.kc_words.specs.CommandLine.{AreApart, IsClash}
@@ -11,9 +14,10 @@ use Rattle.kc_conf.specs.Faults.{load_line}
 use Rattle.kc_io.specs.Log.{TriesToSay}
 use Rattle.kc_language.specs.declared.outcome.Status.{Status}
 use Rattle.kc_language.specs.declared.outcome.Status.TheVariants as answered
-use Rattle.kc_disk.specs.Program.{AreListed, AreNames, FolderRunsEach, clashing, loaded, no_memory, unlisted, unloaded, unreadable}
+use Rattle.kc_disk.specs.Program.{AreListed, AreNames, FolderRunsEach, GivesOptions, GivesPieced, clashing, including, loaded, no_memory, no_pieces_for_each, ran_each, unlisted, unloaded, unreadable}
 use Rattle.kc_disk.specs.PartsOfProgram.{SaysClash}
-use Rattle.kc_disk.specs.EachSteps.{FindsNames, RunsNamed, not_loaded, ran}
+use Rattle.kc_disk.specs.EachSteps.{FindsNames, RunsLoaded, RunsNamed, as_named, included, not_loaded, ran, with_included}
+use Rattle.kc_disk.proofs.KeptLemmas.{rooted_pieces}
 
 -- behind reads of which none failed
 pub quiet-first : (failed : List (List ℕ)) (old mid new : Option FolderState) → Leads [] old mid → Leads failed mid new → Leads failed old new
@@ -59,5 +63,21 @@ module _ (each : Each) (old : Option FolderState) where
         RunsNamed each (map string_bytes names.items) mid new before after status → FolderRunsEach each old new before after status
     named-runs new before after status apart (not_loaded fault un says is) =
         unloaded _ fault (names-later each _ mid new _ un.leads found.1) apart (record { cause = un.cause; leads = quiet-first _ old mid new found.0 un.leads }) says is
-    named-runs new before after status apart (ran files are leads runs) =
-        loaded _ files (names-later each [] mid new _ leads found.1) apart are (quiet-first [] old mid new found.0 leads) runs
+    named-runs new before after status apart (included files is are leads runs) =
+        including _ files is (names-later each [] mid new _ leads found.1) apart are (quiet-first [] old mid new found.0 leads) runs
+    named-runs new before after status apart (ran files is are leads runs) =
+        loaded _ files is (names-later each [] mid new _ leads found.1) apart are (quiet-first [] old mid new found.0 leads) runs
+
+-- ---- files that were loaded stand for those of the folder
+
+module _ (each : Each) (names : List (List ℕ)) (folder folder_after : Option FolderState) (old new : Log) (status : Status) (map files : Files)
+    (are : AreFilesOf (files_told folder_after) (string_bytes each.options.root) (string_bytes each.options.kconfig) each.options.is_flat files) (leads : Leads [] folder folder_after)
+    (alike : ExpandsAlike (string_bytes each.options.kconfig) map files) where
+  abbrev root : List ℕ
+  root = string_bytes each.options.kconfig
+
+  pub named-loaded : RunsLoaded map each names old new status → RunsNamed each names folder folder_after old new status
+  named-loaded (with_included is (no_pieces_for_each e)) = included files is are leads (no_pieces_for_each e)
+  named-loaded (with_included is (ran_each runs)) =
+      included files is are leads (ran_each (runs_each_over root map files alike (GivesPieced each names) (length names) None None status (rooted_pieces each names) runs))
+  named-loaded (as_named is runs) = ran files is are leads (runs_each_over root map files alike (GivesOptions each names) (length names) old new status (λ i o given. given.kconfig) runs)

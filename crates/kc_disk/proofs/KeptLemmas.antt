@@ -3,7 +3,8 @@ use Rattle.std.proofs.Common.{◌≡◌, ℕ, Bool, true, false, List, refl, sym
 use Rattle.std.specs.Prelude.{◌&&◌, ◌||◌, is_some}
 use Rattle.std.specs.declared.alloc.Global.{Global}
 use Rattle.kc_conf.specs.Many.{KeepsFor}
-use Rattle.kc_disk.specs.Program.{GivesOptions}
+use Rattle.kc_disk.specs.Program.{GivesOptions, GivesPieced}
+use Rattle.kc_language.specs.Outcome.{Options, root_file}
 use Rattle.kc_options.specs.PartsOfOutcome.{wants_sources}
 use Rattle.kc_words.specs.CommandLine.{filled}
 use Rattle.kc_words.specs.declared.each.Each.{Each}
@@ -29,3 +30,11 @@ keeps_for each names i one are wants =
     ∙ ap (λ b. (b && asked.warn_lost) || (one.with_help && is_some one.list_new)) (sym are.explain_lost)
     ∙ ap (λ b. (one.explain_lost && b) || (one.with_help && is_some one.list_new)) (sym are.warn_lost)
     ∙ ap (λ (o : Option (String Global)). is_some o || ((one.explain_lost && one.warn_lost) || (one.with_help && is_some one.list_new))) (sym are.explanation) ∙ wants)
+
+-- The options for pieces want what the options want.
+pub keeps_for_pieces : (each : Each) (names : List (List ℕ)) → KeepsFor (GivesPieced each names) (wants_sources each.options)
+keeps_for_pieces each names i pieced (options, are, is) wants = keeps_for each names i options are (sym (ap wants_sources is) ∙ wants)
+
+-- All options for pieces name the root file.
+pub rooted_pieces : (each : Each) (names : List (List ℕ)) (i : ℕ) (pieced : Options) → GivesPieced each names i pieced → root_file pieced ≡ string_bytes each.options.kconfig
+rooted_pieces each names i pieced (options, are, is) = ap root_file is ∙ are.kconfig

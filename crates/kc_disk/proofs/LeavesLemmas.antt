@@ -13,7 +13,7 @@ use Rattle.kc_language.specs.Outcome.{Options, input_files}
 use Rattle.kc_conf.specs.Many.{AreSeparate, is_among, name_if, output_files}
 use Rattle.kc_io.specs.Log.{TriesToSay}
 use Rattle.kc_conf.proofs.AmongLemmas.{each_leaves_its_part_law, written_output}
-use Rattle.kc_disk.specs.Program.{NamedStandApart, ends_before, leaves, GivesOptions, clashing, loaded, unlisted, unloaded, SaysUsage}
+use Rattle.kc_disk.specs.Program.{NamedStandApart, ends_before, includes, including, leaves, GivesOptions, clashing, loaded, unlisted, unloaded, SaysUsage}
 
 -- ---- the names of the files
 
@@ -111,6 +111,7 @@ pub named_stand_apart_law : LookingKeeps → NamedStandApart
 named_stand_apart_law law each folder folder_after before after status (unlisted line is says e) = ends_before (tries_keep law before after line says)
 named_stand_apart_law law each folder folder_after before after status (clashing names wrong are leads clash says) = ends_before (usage_keeps law before after wrong says.1)
 named_stand_apart_law law each folder folder_after before after status (unloaded names fault are apart is says e) = ends_before (tries_keep law before after _ says)
-named_stand_apart_law law each folder folder_after before after status (loaded names files are apart of_folder leads runs) =
+named_stand_apart_law law each folder folder_after before after status (including names files is are apart of_folder leads runs) = includes is
+named_stand_apart_law law each folder folder_after before after status (loaded names files is are apart of_folder leads runs) =
     leaves names files are of_folder
     (each_leaves_its_part_law (GivesOptions each names) (length names) files (string_bytes each.options.kconfig) before after status (separate each names apart) runs)

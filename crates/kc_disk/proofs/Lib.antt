@@ -2,3 +2,4 @@ mod UsageLemmas
 mod EachLemmas
 mod KeptLemmas
 mod LeavesLemmas
+mod FaultLemmas

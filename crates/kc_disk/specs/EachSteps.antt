@@ -1,5 +1,5 @@
 -- For proofs: The steps of a run for many configurations.
-use Rattle.std.specs.Prelude.{◌≡◌, ℕ, List, [], Option, Some, Result, Ok, Err, String, Vec, length, map, string_bytes}
+use Rattle.std.specs.Prelude.{◌≡◌, true, false, is_some, ℕ, List, [], Option, Some, Result, Ok, Err, String, Vec, length, map, string_bytes}
 use Rattle.std.specs.Str.{IsUtf8}
 use Rattle.std.specs.declared.alloc.Global.{Global}
 use Rattle.kc_io.specs.Log.{Log}
@@ -14,7 +14,7 @@ use Rattle.kc_io.specs.Log.{TriesToSay}
 use Rattle.kc_conf.specs.Many.{RunsEach}
 use Rattle.kc_language.specs.declared.outcome.Status.{Status}
 use Rattle.kc_language.specs.declared.outcome.Status.TheVariants as answered
-use Rattle.kc_disk.specs.Program.{AreListed, AreNames, GivesOptions, HasNoList, IsUnloaded}
+use Rattle.kc_disk.specs.Program.{AreListed, AreNames, GivesOptions, HasNoList, IsUnloaded, RunsEachIncluding}
 
 -- the folder told of this list, or it cannot be read
 abbrev pub ReadsList : List ℕ → Result (Vec (String Global) Global) LoadFault → Option FolderState → Option FolderState → Type 0
@@ -44,5 +44,13 @@ FindsNames each (Err Memory) old new = (failed : List (List ℕ)) × FolderLeads
 pub data RunsNamed (each : Each) (names : List (List ℕ)) (folder folder_after : Option FolderState) (old new : Log) (status : Status) : Type 0 where
   not_loaded : (fault : LoadFault) → IsUnloaded each fault folder folder_after → TriesToSay (load_line fault) old new → status ≡ answered.Faulted →
       RunsNamed each names folder folder_after old new status
-  ran : (files : Files) → AreFilesOf (files_told folder_after) (string_bytes each.options.root) files → FolderLeads [] folder folder_after →
+  included : (files : Files) → is_some each.options.include ≡ true → AreFilesOf (files_told folder_after) (string_bytes each.options.root) (string_bytes each.options.kconfig) each.options.is_flat files →
+      FolderLeads [] folder folder_after → RunsEachIncluding files each names status → RunsNamed each names folder folder_after old new status
+  ran : (files : Files) → is_some each.options.include ≡ false → AreFilesOf (files_told folder_after) (string_bytes each.options.root) (string_bytes each.options.kconfig) each.options.is_flat files → FolderLeads [] folder folder_after →
       RunsEach files (string_bytes each.options.kconfig) (GivesOptions each names) (length names) old new status → RunsNamed each names folder folder_after old new status
+
+-- the configurations of these names were run over files that were loaded, with the files that their input files include or without
+pub data RunsLoaded (files : Files) (each : Each) (names : List (List ℕ)) (old new : Log) (status : Status) : Type 0 where
+  with_included : is_some each.options.include ≡ true → RunsEachIncluding files each names status → RunsLoaded files each names old new status
+  as_named : is_some each.options.include ≡ false → RunsEach files (string_bytes each.options.kconfig) (GivesOptions each names) (length names) old new status →
+      RunsLoaded files each names old new status

@@ -1,6 +1,6 @@
 -- Trusted: What the program does with its arguments: a run, runs for many configurations, or a usage error; and the exit status (our own).
 -- `folder` and `folder_after` are what the folder of the Kconfig files records before and after a run; `old` and `new` are the logs of the device.
-use Rattle.std.specs.{Prelude.{◌≡◌, ◌≢◌, ◌⊎◌, ℕ, List, [], ◌∷◌, ◌++◌, true, if◌then◌else◌, Option, None, Some, Result, Ok, Err, String, codes, drop, length, map, slice_index_or, string_bytes}, Str.IsUtf8, IoError.error_kind, Vec.Iter.into_iter_items, declared.{alloc.Global.Global, io.{Error.Error, ErrorKind.TheVariants.OutOfMemory}, vec.IntoIter.IntoIter}}
+use Rattle.std.specs.{Prelude.{◌≡◌, ◌≢◌, ◌⊎◌, ℕ, Bool, List, [], ◌∷◌, ◌++◌, true, if◌then◌else◌, Option, None, Some, option_map, Result, Ok, Err, String, codes, drop, false, is_some, length, map, slice_index_or, string_bytes}, Str.IsUtf8, IoError.error_kind, Vec.Iter.into_iter_items, declared.{alloc.Global.Global, io.{Error.Error, ErrorKind.TheVariants.OutOfMemory}, vec.IntoIter.IntoIter}}
 use Rattle.clap.specs.Words.{fault_of, takes}
 use Rattle.kc_language.specs.{Expansion.Files, Outcome.{Options, cannot_read_line, out_of_memory_line}, declared.outcome.Status.{Status, TheVariants.{Done, Refused, Usage, Faulted}}}
 use Rattle.kc_io.specs.Log.{Journal, Log, TriesToSay, held, is_whole_lines}
@@ -48,6 +48,26 @@ pub record AreNames (each : Each) (folder : Option FolderState) (names : List (L
 abbrev pub GivesOptions : Each → List (List ℕ) → ℕ → Options → Type 0
 GivesOptions each names i options = AreOptionsFor each (slice_index_or names i []) options
 
+-- ---- Input files that include others
+-- With --include, input files are read at once and taken apart into pieces. A run reads these in place of the input files: the first is of the
+-- `.config`, and the others stand for the fragments. All else that is asked of the run stays. What the pieces hold is not recorded.
+abbrev pub IsPieced : Options → Options → Type 0
+IsPieced options pieced = pieced ≡ record options { fragments = pieced.fragments }
+
+abbrev pub GivesPieced : Each → List (List ℕ) → ℕ → Options → Type 0
+GivesPieced each names i pieced = (options : Options) × GivesOptions each names i options × IsPieced options pieced
+
+-- There was no memory for the pieces; or it is a run over them.
+pub data RunsIncluding (options : Options) (folder folder_after : Option FolderState) (status : Status) : Type 0 where
+  no_pieces : folder_after ≡ folder → status ≡ Faulted → RunsIncluding options folder folder_after status
+  ran_pieces : (pieced : Options) → IsPieced options pieced → FolderRuns pieced folder folder_after None None status →
+      RunsIncluding options folder folder_after status
+
+pub data RunsEachIncluding (files : Files) (each : Each) (names : List (List ℕ)) (status : Status) : Type 0 where
+  no_pieces_for_each : status ≡ Faulted → RunsEachIncluding files each names status
+  ran_each : RunsEach files (string_bytes each.options.kconfig) (GivesPieced each names) (length names) None None status →
+      RunsEachIncluding files each names status
+
 -- The list cannot be read: the folder failed at its path, or there is no such file, or it is not UTF-8.
 pub data HasNoList (list : List ℕ) (folder folder_after : Option FolderState) : Type 0 where
   failing : FolderLeads (list ∷ []) folder folder_after → HasNoList list folder folder_after
@@ -75,16 +95,20 @@ module _ (each : Each) (folder folder_after : Option FolderState) (old new : Log
         IsClash each names usage → EndsUsage usage status × SaysUsage usage old new → FolderRunsEach
     unloaded : (names : List (List ℕ)) (fault : LoadFault) → AreNames each folder_after names → AreApart each names →
         IsUnloaded each fault folder folder_after → TriesToSay (load_line fault) old new → status ≡ Faulted → FolderRunsEach
-    loaded : (names : List (List ℕ)) (files : Files) → AreNames each folder_after names → AreApart each names →
-        AreFilesOf (files_told folder_after) (string_bytes each.options.root) files → FolderLeads [] folder folder_after →
+    including : (names : List (List ℕ)) (files : Files) → is_some each.options.include ≡ true → AreNames each folder_after names →
+        AreApart each names → AreFilesOf (files_told folder_after) (string_bytes each.options.root) (string_bytes each.options.kconfig) each.options.is_flat files → FolderLeads [] folder folder_after →
+        RunsEachIncluding files each names status → FolderRunsEach
+    loaded : (names : List (List ℕ)) (files : Files) → is_some each.options.include ≡ false → AreNames each folder_after names →
+        AreApart each names → AreFilesOf (files_told folder_after) (string_bytes each.options.root) (string_bytes each.options.kconfig) each.options.is_flat files → FolderLeads [] folder folder_after →
         RunsEach files (string_bytes each.options.kconfig) (GivesOptions each names) (length names) old new status → FolderRunsEach
 
 -- What such a run leaves in the files. It ends before the first configuration and changes no file; or it leaves what each configuration
--- leaves of the files as they were before the run.
+-- leaves of the files as they were before the run. (What the pieces hold is not recorded, so nothing is said of a run with --include.)
 pub data FolderLeavesEach (each : Each) (folder_after : Option FolderState) (before after : Journal) (status : Status) : Type 0 where
   ends_before : ((name : List ℕ) → held after name ≡ held before name) → FolderLeavesEach each folder_after before after status
+  includes : is_some each.options.include ≡ true → FolderLeavesEach each folder_after before after status
   leaves : (names : List (List ℕ)) (files : Files) → AreNames each folder_after names →
-      AreFilesOf (files_told folder_after) (string_bytes each.options.root) files →
+      AreFilesOf (files_told folder_after) (string_bytes each.options.root) (string_bytes each.options.kconfig) each.options.is_flat files →
       LeavesEach files (string_bytes each.options.kconfig) (GivesOptions each names) (length names) before after status →
       FolderLeavesEach each folder_after before after status
 
@@ -105,9 +129,14 @@ abbrev pub GiveNone : List (String Global) → UsageError → Type 0
 GiveNone arguments usage = IsRefused (fault_of kconf_app (arguments_of arguments)) (rows_for arguments) usage
     × (takes kconf_app (arguments_of arguments) ≡ true → refusal_of (rows_for arguments) ≡ None → usage ≡ Memory)
 
+-- A run for one configuration, where files may be included or not.
+abbrev pub EndsOne : Bool → Options → Option FolderState → Option FolderState → Log → Log → Status → Type 0
+EndsOne true options folder folder_after old new status = RunsIncluding options folder folder_after status
+EndsOne false options folder folder_after old new status = FolderRuns options folder folder_after old new status
+
 -- A run for one configuration, or for many.
 abbrev pub EndsAsked : Request → Option FolderState → Option FolderState → Log → Log → Status → Type 0
-EndsAsked (One options) folder folder_after old new status = FolderRuns options folder folder_after old new status
+EndsAsked (One options) folder folder_after old new status = EndsOne (is_some options.include) options folder folder_after old new status
 EndsAsked (Many each) folder folder_after old new status = FolderRunsEach each folder folder_after old new status
 
 -- What is done with arguments that were read: the run that they ask for; or the cause is reported, and nothing else is done.
@@ -125,6 +154,22 @@ AreArgumentsOf (Err error) (Unread Memory) = Unit {0}
 AreArgumentsOf (Err error) (Unread (Bad text)) =
     (error_kind error ≢ OutOfMemory) × (string_bytes text ≡ with_hint (codes "error: invalid UTF-8 was detected in one or more arguments"))
 AreArgumentsOf (Err error) _ = ⊥
+
+-- The arguments again; or they ask to write the full `.config` where it is read, which is a pipe, a terminal or the like.
+abbrev pub needs_out_text : List ℕ
+needs_out_text = with_hint (codes "error: the argument '--config <FILE>' needs '--out <FILE>' where FILE is no regular file")
+
+abbrev pub IsNeedsOut : UsageError → Type 0
+IsNeedsOut (Bad text) = string_bytes text ≡ needs_out_text
+IsNeedsOut usage = usage ≡ Memory
+
+abbrev pub WritesWhereItReads : List (String Global) → Type 0
+WritesWhereItReads arguments = (options : Options) × GiveRequest arguments (One options) × (option_map string_bytes options.out ≡ Some (string_bytes options.config))
+
+abbrev pub AreChecked : Arguments → Arguments → Type 0
+AreChecked (Given arguments) (Given checked) = checked ≡ arguments
+AreChecked (Given arguments) (Unread usage) = WritesWhereItReads arguments.items × IsNeedsOut usage
+AreChecked (Unread usage) checked = checked ≡ Unread usage
 
 -- A run of the program; and the same on a disk, which records nothing.
 abbrev pub KconfEnds : Arguments → Option FolderState → Option FolderState → Log → Log → Status → Type 0

@@ -1,11 +1,13 @@
 //! What arguments ask for, done.
 ghost use Rattle.std.specs.Prelude.{◌≡◌};
-ghost use Rattle.kc_disk.specs.Program.{AnswersArguments, KconfEnds, EndsUsage, SaysUsage};
+ghost use Rattle.kc_disk.specs.Program.{AnswersArguments, EndsAsked, KconfEnds, EndsUsage, SaysUsage};
+ghost use Rattle.kc_words.specs.declared.options.Request.TheVariants.{One};
 
 use crate::arguments::Arguments;
 use crate::each::run_each_in_folder;
+use crate::including::run_including;
 use crate::usage::say_usage;
-use kc_conf::{AcceptedTree, Status, run_in_folder};
+use kc_conf::{AcceptedTree, Options, Status, run_in_folder};
 use kc_io::Device;
 use kc_load::Folder;
 use kc_words::{Request, UsageError, request_of};
@@ -28,6 +30,22 @@ fn print_usage<D: Device>(rt: &HostRuntime, device: &mut D, usage: &UsageError) 
     }
 }
 
+// Runs with these options.
+fn answer_one<F: Folder, D: Device>(
+    rt: &HostRuntime,
+    options: Options,
+    folder: &mut F,
+    device: &mut D,
+    kept: &mut Option<AcceptedTree>,
+) -> Status
+    ensures { EndsAsked (One options) (F.state folder.old) (F.state folder.new) (D.log device.old) (D.log device.new) result }
+{
+    if options.include.is_some() {
+        return run_including(rt.alloc(), folder, options, device, kept);
+    }
+    run_in_folder(rt.alloc(), folder, &options, device, kept)
+}
+
 // Does what arguments that were read ask for.
 fn answer_given<F: Folder, D: Device>(
     rt: &HostRuntime,
@@ -39,7 +57,7 @@ fn answer_given<F: Folder, D: Device>(
     ensures { AnswersArguments arguments.now (F.state folder.old) (F.state folder.new) (D.log device.old) (D.log device.new) result }
 {
     match request_of(rt.alloc(), arguments) {
-        Ok(Request::One(options)) => run_in_folder(rt.alloc(), folder, &options, device, kept),
+        Ok(Request::One(options)) => answer_one(rt, options, folder, device, kept),
         Ok(Request::Each(each)) => run_each_in_folder(rt.alloc(), folder, &each, device, kept),
         Err(usage) => print_usage(rt, device, &usage),
     }

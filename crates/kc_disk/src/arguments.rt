@@ -1,10 +1,12 @@
 //! The arguments that the process was started with.
-ghost use Rattle.std.specs.Prelude.{◌≡◌, drop, IfOk};
+ghost use Rattle.std.specs.Prelude.{◌≡◌, drop, option_map, string_bytes, true, IfOk, Some};
 ghost use Rattle.std.specs.Vec.Iter.{into_iter_items};
-ghost use Rattle.kc_disk.specs.Program.{AreArgumentsOf};
+ghost use Rattle.kc_disk.specs.Program.{AreArgumentsOf, AreChecked, IsNeedsOut, WritesWhereItReads};
 ghost use Rattle.kc_disk.specs.PartsOfProgram.{AreUnread};
 
-use kc_words::UsageError;
+use crate::open_file::has_no_place;
+use kc_options::Options;
+use kc_words::{Request, UsageError, request_of};
 use std::alloc::{AllocError, Global};
 use std::env::Args;
 use std::io::{self, Error, ErrorKind};
@@ -30,6 +32,75 @@ impl Arguments {
             },
             Err(error) => Arguments::Unread(unread(alloc, &error)),
         }
+    }
+
+    /// Returns the arguments, unless they ask to write the full `.config` where it is read, and that is a pipe or a terminal: this is a
+    /// bad command line.
+    pub fn checked(self, rt: &HostRuntime) -> Arguments
+        ensures { AreChecked self result }
+    {
+        match self {
+            Arguments::Given(given) => {
+                if writes_where_it_reads(rt, &given) {
+                    Arguments::Unread(needs_out(rt.alloc()))
+                } else {
+                    Arguments::Given(given)
+                }
+            }
+            Arguments::Unread(usage) => Arguments::Unread(usage),
+        }
+    }
+}
+
+// What is told of a `.config` that is read from a pipe, and of no other file to write it to.
+const NEEDS_OUT: &str =
+    "error: the argument '--config <FILE>' needs '--out <FILE>' where FILE is no regular file\n\nFor more information, try '--help'.\n";
+
+// That the `.config` is read from a pipe, and no other file is named to write it to.
+fn needs_out(alloc: Global) -> UsageError
+    ensures { IsNeedsOut result }
+{
+    match String::from_str(alloc, NEEDS_OUT) {
+        Ok(text) => UsageError::Bad(text),
+        Err(_) => UsageError::Memory,
+    }
+}
+
+// Whether one of the arguments begins like the option for the `.config`.
+fn names_config(arguments: &[String]) -> bool {
+    for argument in arguments {
+        if argument.as_str().as_bytes().starts_with(b"--config") {
+            return true;
+        }
+    }
+    false
+}
+
+// Whether the full `.config` goes to the file that it is read from.
+fn is_written_in_place(options: &Options) -> bool
+    ensures { result ≡ true → option_map string_bytes options.now.out ≡ Some (string_bytes options.now.config) }
+{
+    match &options.out {
+        Some(out) => out.as_str() == options.config.as_str(),
+        None => false,
+    }
+}
+
+// Whether the arguments ask to write the full `.config` where it is read, and that is no place for a text.
+fn writes_where_it_reads(rt: &HostRuntime, arguments: &[String]) -> bool
+    ensures { result ≡ true → WritesWhereItReads arguments.now }
+{
+    if !names_config(arguments) {
+        return false;
+    }
+    match request_of(rt.alloc(), arguments) {
+        Ok(Request::One(options)) => {
+            if !is_written_in_place(&options) {
+                return false;
+            }
+            has_no_place(rt, options.config.as_str())
+        }
+        Ok(Request::Each(_)) | Err(_) => false,
     }
 }
 

@@ -1,15 +1,20 @@
 //! The calls of the system that read files, make them and write diagnostics.
-ghost use Rattle.std.specs.Prelude.{◌≤◌, ◌-◌, None, length, IfOk};
+ghost use Rattle.std.specs.Prelude.{◌≡◌, ◌≤◌, ◌-◌, None, length, IfOk};
 ghost use Rattle.kc_disk.specs.Limits.{most_reads};
 
 use crate::destination::{Destination, destination_of};
 use crate::diagnostics::Diagnostics;
+use crate::held::{Held, Report};
 use crate::open_file::{Devices, open_to_read};
-use crate::same_text::holds_text;
+use crate::same_text::{bytes_of, holds_text};
 use crate::temporary::{Started, TemporaryFile, move_to_place, remove, start};
 use crate::terminal::show;
+use kc_display::{Showing, difference};
+use kc_hints::Facts;
 use kc_io::{Device, Fault, Site};
-use std::fs::File;
+use std::alloc::AllocError;
+use std::cell::Cell;
+use std::fs::{File, Metadata};
 use std::io::{self, ErrorKind, IsTerminal, Read, Write};
 use std::mem;
 
@@ -52,6 +57,14 @@ enum Writing {
 pub struct SystemDevice<'a> {
     rt: &'a HostRuntime,
     diagnostics: Diagnostics<'a>,
+    // How the diagnostics are shown.
+    showing: Showing,
+    // Why the system refused what failed last, for a hint.
+    reason: &'static str,
+    // The difference of the file that was compared last, which follows the next diagnostic.
+    difference: Cell<Option<Vec<u8>>>,
+    // What waits for the facts of its hints, if anything may.
+    held: Option<Held>,
     // The file that is read.
     reading: Option<File>,
     // The names that were read though no regular file is there. No text goes to such a name.
@@ -71,6 +84,10 @@ impl<'a> SystemDevice<'a> {
         SystemDevice {
             rt,
             diagnostics,
+            showing: Showing::PLAIN,
+            reason: "",
+            difference: Cell::new(None),
+            held: None,
             reading: None,
             special: Vec::new(rt.alloc()),
             reads: 0,
@@ -91,6 +108,150 @@ impl<'a> SystemDevice<'a> {
         SystemDevice::with(rt, Diagnostics::keeping(rt))
     }
 
+    /// Shows the diagnostics from now on in this way.
+    pub fn show(&mut self, showing: Showing) {
+        self.showing = showing;
+    }
+
+    /// Holds diagnostics back from now on: from the first one on whose hint may begin with a fact, until `take_held`.
+    pub(crate) fn hold(&mut self) {
+        self.held = Some(Held::new(self.rt.alloc()));
+    }
+
+    /// Returns what was held back, if something was to be. Nothing is held back from now on.
+    pub(crate) fn take_held(&mut self) -> Option<Held> {
+        mem::replace(&mut self.held, None)
+    }
+
+    // The diagnostics of these parts, with what belongs to them.
+    fn report_of(&self, parts: &[&[u8]]) -> Result<Report, AllocError> {
+        let mut text = Vec::new(self.rt.alloc());
+        for part in parts {
+            text.extend_from_slice(part)?;
+        }
+        Ok(Report {
+            text,
+            reason: self.reason,
+            difference: self.difference.replace(None),
+        })
+    }
+
+    /// Writes reports as they are shown with these facts.
+    ///
+    /// # Errors
+    ///
+    /// Fails if they cannot be written.
+    pub(crate) fn write_reports(
+        &mut self,
+        reports: &[Report],
+        facts: &Facts<'_>,
+    ) -> io::Result<()> {
+        write_all(self.rt, self.showing, &mut self.diagnostics, reports, facts)
+    }
+
+    // Writes what is held back, without facts.
+    fn let_go(&mut self) -> io::Result<()>
+        ensures { self.new.reads ≡ self.old.reads }
+    {
+        match &mut self.held {
+            Some(held) => {
+                let reports = held.take_reports(self.rt.alloc());
+                write_all(
+                    self.rt,
+                    self.showing,
+                    &mut self.diagnostics,
+                    &reports,
+                    &Facts::none(),
+                )
+            }
+            None => Ok(()),
+        }
+    }
+
+    // Holds a report back. Gives it back if it need not wait, or if there is no memory.
+    fn hold_back(&mut self, report: Report) -> Option<Report>
+        ensures { self.new.reads ≡ self.old.reads }
+    {
+        match &mut self.held {
+            Some(held) if self.showing.hints => held.take(self.rt.alloc(), report),
+            _ => Some(report),
+        }
+    }
+
+    // Writes a report without facts, behind what is held back.
+    fn write_now(&mut self, report: &Report) -> io::Result<()>
+        ensures { self.new.reads ≡ self.old.reads }
+    {
+        self.let_go()?;
+        write_report(
+            self.rt,
+            self.showing,
+            &mut self.diagnostics,
+            report,
+            &Facts::none(),
+        )
+    }
+
+    // Writes parts as they are, behind what is held back.
+    fn write_plain(&mut self, parts: &[&[u8]]) -> io::Result<()>
+        ensures { self.new.reads ≡ self.old.reads }
+    {
+        self.let_go()?;
+        self.diagnostics.write_parts(parts)
+    }
+
+    // Writes the diagnostics as they are shown, or holds them back.
+    fn tell(&mut self, parts: &[&[u8]]) -> io::Result<()>
+        ensures { self.new.reads ≡ self.old.reads }
+    {
+        match self.report_of(parts) {
+            Ok(report) => match self.hold_back(report) {
+                Some(report) => self.write_now(&report),
+                None => Ok(()),
+            },
+            Err(_) => self.write_plain(parts),
+        }
+    }
+
+    // Keeps the file of this name, if its lines may be asked for.
+    fn keep_input(&mut self, name: &str) {
+        if let Some(held) = &mut self.held {
+            held.begin_input(self.rt.alloc(), name);
+        }
+    }
+
+    // Keeps bytes of the file that is read.
+    fn keep_bytes(&mut self, bytes: &[u8])
+        ensures { self.new.reads ≡ self.old.reads }
+    {
+        if let Some(held) = &mut self.held {
+            held.add_bytes(bytes);
+        }
+    }
+
+    // Keeps how the file at this path differs from these bytes. Without memory for it, or if the file cannot be read, nothing is kept.
+    fn keep_difference(&self, name: &str, path: &str, found: &Metadata, bytes: &[u8]) {
+        let kept = match bytes_of(self.rt, path, found) {
+            Ok(held) => difference(self.rt.alloc(), name, &held, bytes).ok(),
+            Err(_) => None,
+        };
+        self.difference.set(kept);
+    }
+
+    // The answer to what the system answered, whose reason is kept for a hint.
+    fn answer(&mut self, done: io::Result<()>) -> Result<(), Fault> {
+        match done {
+            Ok(()) => Ok(()),
+            Err(error) => Err(self.fault(&error)),
+        }
+    }
+
+    // The fault of an error, whose reason is kept for a hint.
+    fn fault(&mut self, error: &io::Error) -> Fault {
+        self.reason = reason_of(error);
+        fault_of(error)
+    }
+
     /// Returns the diagnostics that were kept: none, if they went to standard error.
     pub fn into_diagnostics(self) -> Vec<u8> {
         let SystemDevice { diagnostics, .. } = self;
@@ -104,6 +265,7 @@ impl<'a> SystemDevice<'a> {
             self.special.push(String::from_str(self.rt.alloc(), name)?)?;
         }
         self.reading = Some(file);
+        self.keep_input(name);
         Ok(())
     }
 
@@ -160,6 +322,34 @@ impl<'a> SystemDevice<'a> {
         self.try_names_anew();
         Ok(())
     }
+}
+
+// Writes a report as it is shown with these facts, or as it is if there is no memory for that.
+fn write_report(
+    rt: &HostRuntime,
+    showing: Showing,
+    diagnostics: &mut Diagnostics<'_>,
+    report: &Report,
+    facts: &Facts<'_>,
+) -> io::Result<()> {
+    match report.shown(rt.alloc(), showing, facts) {
+        Ok(shown) => diagnostics.write_parts(&[&shown]),
+        Err(_) => diagnostics.write_parts(&report.parts()),
+    }
+}
+
+// Writes reports, one after another.
+fn write_all(
+    rt: &HostRuntime,
+    showing: Showing,
+    diagnostics: &mut Diagnostics<'_>,
+    reports: &[Report],
+    facts: &Facts<'_>,
+) -> io::Result<()> {
+    for report in reports {
+        write_report(rt, showing, diagnostics, report, facts)?;
+    }
+    Ok(())
 }
 
 // Empties the file of this name, or makes it.
@@ -232,6 +422,19 @@ fn fault_of(error: &io::Error) -> Fault {
     }
 }
 
+// Why the system refused something, for a hint.
+fn reason_of(error: &io::Error) -> &'static str {
+    match error.kind() {
+        ErrorKind::NotFound => "there is no such file or folder; ",
+        ErrorKind::PermissionDenied => "permission denied; ",
+        ErrorKind::IsADirectory => "it is a folder; ",
+        ErrorKind::NotADirectory => "a part of its path is no folder; ",
+        ErrorKind::StorageFull => "no space is left on the device; ",
+        ErrorKind::ReadOnlyFilesystem => "the file system is read-only; ",
+        _ => "",
+    }
+}
+
 // The answer of a device to what the system answered.
 fn answer(done: io::Result<()>) -> Result<(), Fault> {
     match done {
@@ -250,7 +453,7 @@ impl<'a> Device for SystemDevice<'a> {
         match self.open_input(name) {
             Ok(()) => Ok(true),
             Err(error) if may_be_missing && error.kind() == ErrorKind::NotFound => Ok(false),
-            Err(error) => Err(fault_of(&error)),
+            Err(error) => Err(self.fault(&error)),
         }
     }
 
@@ -262,45 +465,56 @@ impl<'a> Device for SystemDevice<'a> {
             Ok(count) => {
                 if count > 0 {
                     self.reads += 1;
+                    self.keep_bytes(&buffer[..count]);
                 }
                 Ok(count)
             }
-            Err(error) => Err(fault_of(&error)),
+            Err(error) => Err(self.fault(&error)),
         }
     }
 
     fn report(&mut self, parts: &[&[u8]]) -> Result<(), Fault> {
-        answer(self.diagnostics.write_parts(parts))
+        if self.showing == Showing::PLAIN {
+            return answer(self.diagnostics.write_parts(parts));
+        }
+        answer(self.tell(parts))
     }
 
     fn holds(&self, name: &str, bytes: &[u8]) -> bool {
         let Ok(Destination::Taken(path, found)) = destination_of(self.rt, name) else {
             return false;
         };
-        matches!(
-            holds_text(self.rt, path.as_path().as_str(), &found, bytes),
-            Ok(true)
-        )
+        let path = path.as_path().as_str();
+        if matches!(holds_text(self.rt, path, &found, bytes), Ok(true)) {
+            return true;
+        }
+        if self.showing.differences {
+            self.keep_difference(name, path, &found, bytes);
+        }
+        false
     }
 
     fn create(&mut self, site: Site, name: &str) -> Result<(), Fault> {
-        answer(self.make(site, name))
+        let done = self.make(site, name);
+        self.answer(done)
     }
 
     fn write(&mut self, _site: Site, _name: &str, bytes: &[u8]) -> Result<usize, Fault> {
         match write_on(self.rt, &mut self.writing, bytes) {
             Ok(count) if count > 0 => Ok(count),
             Ok(_) => Err(Fault::Refused),
-            Err(error) => Err(fault_of(&error)),
+            Err(error) => Err(self.fault(&error)),
         }
     }
 
     fn close(&mut self, site: Site, _name: &str) -> Result<(), Fault> {
-        answer(self.finish(site))
+        let done = self.finish(site);
+        self.answer(done)
     }
 
     fn move_there(&mut self, _name: &str) -> Result<(), Fault> {
-        answer(self.move_first())
+        let done = self.move_first();
+        self.answer(done)
     }
 
     fn clear(&mut self) {

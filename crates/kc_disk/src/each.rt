@@ -1,13 +1,16 @@
 //! A run for many configurations over a folder.
 ghost use Rattle.std.specs.Prelude.{◌≡◌, length, map, string_bytes, IfOk};
 ghost use Rattle.kc_disk.specs.Program.{FolderRunsEach, GivesOptions};
-ghost use Rattle.kc_disk.specs.EachSteps.{FindsNames, IsUnreadable, ReadsList, ReadsListIf, RunsNamed};
+ghost use Rattle.kc_disk.specs.EachSteps.{FindsNames, IsUnreadable, ReadsList, ReadsListIf, RunsLoaded, RunsNamed};
+ghost use Rattle.kc_read.specs.Files.{files_in};
 
+use crate::including::run_each_including;
 use crate::usage::say_usage;
 use kc_conf::{AcceptedTree, Configurations, Options, Status, run_each, say_load_fault};
 use kc_io::Device;
 use kc_load::{Folder, FolderFault, LoadFault, load};
 use kc_options::wants_sources;
+use kc_read::file_map::FileMap;
 use kc_words::{Each, list_of};
 use std::alloc::{AllocError, Global};
 
@@ -119,6 +122,25 @@ pub fn run_each_in_folder<F: Folder, D: Device>(
     }
 }
 
+// Runs for these configurations over files that were loaded.
+fn run_loaded<D: Device>(
+    alloc: Global,
+    files: FileMap,
+    each: &Each,
+    names: &[String],
+    device: &mut D,
+    kept: &mut Option<AcceptedTree>,
+) -> Status
+    ensures { RunsLoaded (files_in files) each.now (map string_bytes names.now) (D.log device.old) (D.log device.new) result }
+{
+    if each.options.include.is_some() {
+        return run_each_including(alloc, files, each, names, device, kept);
+    }
+    let configurations = NamedConfigurations { each, names };
+    let kconfig = each.options.kconfig.as_str();
+    run_each(alloc, files, kconfig, &configurations, device, kept)
+}
+
 // Runs for these configurations.
 fn run_named<F: Folder, D: Device>(
     alloc: Global,
@@ -136,15 +158,9 @@ fn run_named<F: Folder, D: Device>(
         folder,
         options.root.as_str(),
         options.kconfig.as_str(),
+        options.is_flat,
     ) {
-        Ok(files) => run_each(
-            alloc,
-            files,
-            options.kconfig.as_str(),
-            &NamedConfigurations { each, names },
-            device,
-            kept,
-        ),
+        Ok(files) => run_loaded(alloc, files, each, names, device, kept),
         Err(fault) => {
             say_load_fault(&fault, device);
             Status::Faulted

@@ -1,6 +1,7 @@
 //! Runs of the program over any folder and device. Nothing else makes an `Ended`.
 ghost use Rattle.std.specs.Prelude.{◌≡◌};
 ghost use Rattle.kc_disk.specs.Program.{KconfEnds};
+ghost use Rattle.kc_language.specs.declared.outcome.Status.TheVariants.{Faulted};
 
 use crate::answer::answer;
 use crate::arguments::Arguments;
@@ -26,6 +27,30 @@ impl<'a, F, D> Ended<'a, F, D> {
         ensures { result ≡ self.now.status }
     {
         self.status
+    }
+
+    /// With which arguments it was run.
+    pub(crate) fn arguments(&self) -> &'a Arguments
+        ensures { result.now ≡ self.now.arguments.now }
+    {
+        self.arguments
+    }
+
+    /// The same run, if its diagnostics were not all written: it ended with a fault.
+    pub(crate) fn into_fault(self) -> Self
+        ensures of { result.arguments.now ≡ self.entry.arguments.now }
+        ensures fault { result.status ≡ Faulted }
+    {
+        let Ended {
+            arguments,
+            status: _,
+            over,
+        } = self;
+        Ended {
+            arguments,
+            status: Status::Faulted,
+            over,
+        }
     }
 }
 

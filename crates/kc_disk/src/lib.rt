@@ -1,9 +1,10 @@
 #![tactic(auto)]
 //! `kconf` over the files of a disk: the system calls, and the program.
 //!
-//! - [`kconf`]: the program; [`exit_status`] is the status that it ends with.
+//! - [`kconf`]: the program; [`exit_status`] is the status that it ends with. [`kconf_with`]: the same over a device that the caller made.
 //! - [`kconf_over`]: the same over any folder and device. An [`Ended`] says how it ended.
 //! - [`Arguments`]: the arguments of the process.
+//! - [`showing_for`]: how diagnostics are shown.
 //! - [`SystemDevice`] and [`SystemFolder`]: the system calls for files, diagnostics and the files of a tree.
 //! - [`laws`]: how runs of many configurations end.
 
@@ -15,17 +16,22 @@ mod diagnostics;
 mod each;
 mod ended;
 mod folder;
+mod held;
+mod including;
 pub mod laws;
 mod open_file;
 mod permissions;
 mod program;
 mod same_text;
+mod showing;
 mod temporary;
 mod terminal;
+mod told;
 mod usage;
 
 pub use arguments::Arguments;
 pub use device::SystemDevice;
 pub use ended::{Ended, kconf_over};
 pub use folder::SystemFolder;
-pub use program::{exit_status, kconf};
+pub use program::{exit_status, kconf, kconf_with};
+pub use showing::showing_for;

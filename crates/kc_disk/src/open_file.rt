@@ -41,6 +41,18 @@ fn refuse_device(found: &Metadata, devices: Devices) -> io::Result<()> {
     Err(io::Error::from(ErrorKind::InvalidInput))
 }
 
+/// Returns whether a pipe, a terminal or the null device lies under the name: what is read there has no place to be written to.
+/// `/dev/null` itself takes all.
+#[inline(never)]
+pub(crate) fn has_no_place(rt: &HostRuntime, path: &str) -> bool {
+    match fs::metadata(rt, path) {
+        Ok(found) => {
+            path != "/dev/null" && (found.file_type().is_fifo() || is_null_or_terminal(&found))
+        }
+        Err(_) => false,
+    }
+}
+
 /// Opens a file to read it, and returns what it is. A device that may not be read is not opened: what lies under the name is looked
 /// at first. The file that was opened is looked at again, since another one may have come to lie there.
 ///

@@ -1,4 +1,4 @@
-//! Whether a file holds a text.
+//! Whether a file holds a text, and what it holds.
 use crate::destination::{changed, is_same_file};
 use std::fs::{File, Metadata};
 use std::io::{self, ErrorKind, Read};
@@ -39,4 +39,36 @@ pub(crate) fn holds_text(
         }
     }
     Ok(false)
+}
+
+/// Returns the bytes of the file that was found at this path: at most as many as it is long when it is opened, and a buffer more.
+///
+/// # Errors
+///
+/// Fails if the file cannot be opened or read, if another one is there now, or if it grows meanwhile.
+#[inline(never)]
+pub(crate) fn bytes_of(rt: &HostRuntime, path: &str, found: &Metadata) -> io::Result<Vec<u8>> {
+    let mut file = File::open(rt, path)?;
+    let opened = file.metadata()?;
+    if !is_same_file(&opened, found) {
+        return Err(changed());
+    }
+    let length = usize::try_from(opened.len()).unwrap_or(usize::MAX);
+    let mut buffer = [0u8; BUFFER_SIZE];
+    let mut bytes = Vec::new(rt.alloc());
+    for _ in 0..u64::MAX {
+        let count = match file.read(&mut buffer) {
+            Ok(count) => count,
+            Err(error) if error.kind() == ErrorKind::Interrupted => continue,
+            Err(error) => return Err(error),
+        };
+        if count == 0 {
+            return Ok(bytes);
+        }
+        if bytes.len() > length {
+            return Err(io::Error::from(ErrorKind::FileTooLarge));
+        }
+        bytes.extend_from_slice(&buffer[..count])?;
+    }
+    Ok(bytes)
 }

@@ -1,5 +1,5 @@
 -- For proofs: The lines about a symbol.
-use Rattle.std.proofs.Common.{◌≡◌, ◌≢◌, ◌<◌, ℕ, zero, suc, List, [], ◌∷◌, ◌++◌, length, map, Option, Some, None, refl, sym, ap, ◌∙◌, append-nil, arith}
+use Rattle.std.proofs.Common.{◌≡◌, ◌≢◌, ◌<◌, Bool, ℕ, zero, suc, List, [], ◌∷◌, ◌++◌, length, map, Option, Some, None, refl, sym, ap, ◌∙◌, append-nil, arith}
 use Rattle.std.proofs.Math.ListN.{get_or-map}
 use Rattle.std.proofs.lemmas.Grind.{flat_map-append}
 use Rattle.std.proofs.lemmas.List.Elements.{filter_map-append}
@@ -70,11 +70,11 @@ pub given_found : (r : Option (Bor UserValue)) (xs : List (Option UserValue)) (p
 given_found r xs places i found same =
     given_is r ∙ ap (option_map given_of_value) found ∙ sym (get_or-map (option_map given_of_value) xs i None) ∙ ap (λ (ys : List (Option GivenValue)). slice_index_or ys i None) same
 
-pub user_told : (kind kind' : SymbolType) (given given' : Option GivenValue) (at at' refused refused' : Option StreamLocation) → kind ≡ kind' → given ≡ given' → at ≡ at' →
-    refused ≡ refused' → user_lines kind given at refused ≡ user_lines kind' given' at' refused'
-user_told kind kind' given given' at at' refused refused' e f g h =
-    ap (λ (k : SymbolType). user_lines k given at refused) e ∙ ap (λ (u : Option GivenValue). user_lines kind' u at refused) f
-    ∙ ap (λ (a : Option StreamLocation). user_lines kind' given' a refused) g ∙ ap (user_lines kind' given' at') h
+pub user_told : (is_raw : Bool) (kind kind' : SymbolType) (given given' : Option GivenValue) (at at' refused refused' : Option StreamLocation) → kind ≡ kind' → given ≡ given' → at ≡ at' →
+    refused ≡ refused' → user_lines is_raw kind given at refused ≡ user_lines is_raw kind' given' at' refused'
+user_told is_raw kind kind' given given' at at' refused refused' e f g h =
+    ap (λ (k : SymbolType). user_lines is_raw k given at refused) e ∙ ap (λ (u : Option GivenValue). user_lines is_raw kind' u at refused) f
+    ∙ ap (λ (a : Option StreamLocation). user_lines is_raw kind' given' a refused) g ∙ ap (user_lines is_raw kind' given' at') h
 
 -- ---- the members of a choice
 row_listed : (o : Option Choice) → row_members o ≡ flat_map (λ x. x) (listed (option_map (λ (c : Choice). c.members.items) o))
@@ -113,18 +113,19 @@ module _ (lines : List (Located Numbered)) (solution : Solution) (s : SymId) whe
   row_within rows tree same l laid row some =
       slice_get_within solution.tree.symbols s.0 (facts_of l s.0 row) (its_facts rows tree same l laid row some)
 
-  pub member_body : (rows : RowsTellFacts) (tree : TreeFacts) → tree ≡ solution.tree → (l : Layout) → IsLayoutOf tree l → (row : Symbol) → Some row ≡ slice_get l.symbols.items s.0 →
-      (k : ChoiceId) → row.choice ≡ Some k → body_lines lines solution s ≡ rules.choice_text lines solution k.0
-  member_body rows tree same l laid row some k chosen =
-      ap (rules.body_text lines solution s) (its_facts rows tree same l laid row some)
-      ∙ ap (λ (o : Option ChoiceId). elim (mode_view o) [ Some k ↦ rules.choice_text lines solution k | None ↦ rules.plain_text lines solution s (facts_of l s.0 row) ]) chosen
+  module _ (is_raw : Bool) where
+    pub member_body : (rows : RowsTellFacts) (tree : TreeFacts) → tree ≡ solution.tree → (l : Layout) → IsLayoutOf tree l → (row : Symbol) → Some row ≡ slice_get l.symbols.items s.0 →
+        (k : ChoiceId) → row.choice ≡ Some k → body_lines lines solution is_raw s ≡ rules.choice_text lines solution is_raw k.0
+    member_body rows tree same l laid row some k chosen =
+        ap (rules.body_text lines solution is_raw s) (its_facts rows tree same l laid row some)
+        ∙ ap (λ (o : Option ChoiceId). elim (mode_view o) [ Some k ↦ rules.choice_text lines solution is_raw k | None ↦ rules.plain_text lines solution is_raw s (facts_of l s.0 row) ]) chosen
 
-  pub plain_body : (rows : RowsTellFacts) (tree : TreeFacts) → tree ≡ solution.tree → (l : Layout) → IsLayoutOf tree l → (row : Symbol) → Some row ≡ slice_get l.symbols.items s.0 →
-      row.choice ≡ None → (active : Option Interval) → active ≡ option_and_then (active_range solution.tree (known solution)) (facts solution.tree s) →
-      body_lines lines solution s ≡ plain_of lines solution s row.symbol_type active
-  plain_body rows tree same l laid row some chosen active is =
-      let f = facts_of l s.0 row in
-      let its = its_facts rows tree same l laid row some in
-      ap (rules.body_text lines solution s) its
-      ∙ ap (λ (o : Option ChoiceId). elim (mode_view o) [ Some k ↦ rules.choice_text lines solution k | None ↦ rules.plain_text lines solution s (facts_of l s.0 row) ]) chosen
-      ∙ ap (plain_of lines solution s row.symbol_type) (sym (is ∙ ap (option_and_then (active_range solution.tree (known solution))) its))
+    pub plain_body : (rows : RowsTellFacts) (tree : TreeFacts) → tree ≡ solution.tree → (l : Layout) → IsLayoutOf tree l → (row : Symbol) → Some row ≡ slice_get l.symbols.items s.0 →
+        row.choice ≡ None → (active : Option Interval) → active ≡ option_and_then (active_range solution.tree (known solution)) (facts solution.tree s) →
+        body_lines lines solution is_raw s ≡ plain_of lines solution is_raw s row.symbol_type active
+    plain_body rows tree same l laid row some chosen active is =
+        let f = facts_of l s.0 row in
+        let its = its_facts rows tree same l laid row some in
+        ap (rules.body_text lines solution is_raw s) its
+        ∙ ap (λ (o : Option ChoiceId). elim (mode_view o) [ Some k ↦ rules.choice_text lines solution is_raw k | None ↦ rules.plain_text lines solution is_raw s (facts_of l s.0 row) ]) chosen
+        ∙ ap (plain_of lines solution is_raw s row.symbol_type) (sym (is ∙ ap (option_and_then (active_range solution.tree (known solution))) its))

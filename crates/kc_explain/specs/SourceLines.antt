@@ -12,7 +12,7 @@ lines_left (Some rest) = slice_split is_line_feed rest
 
 -- the lines of a file, none where there is no such file
 abbrev pub lines_of : Files → List ℕ → List (List ℕ)
-lines_of files file = lines_left (files file)
+lines_of files file = lines_left (files.bytes file)
 
 -- what is left of a file is what is behind so many of its lines
 abbrev pub StandsBehind : List (List ℕ) → ℕ → Option (List ℕ) → Type 0

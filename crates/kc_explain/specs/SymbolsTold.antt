@@ -1,5 +1,5 @@
 -- For proofs: Parts of the lines about a symbol.
-use Rattle.std.specs.Prelude.{ℕ, List, [], ◌∷◌, ◌++◌, Option, Some, None, codes, decimal, if◌then◌else◌, map}
+use Rattle.std.specs.Prelude.{Bool, ℕ, List, [], ◌∷◌, ◌++◌, Option, Some, None, codes, decimal, if◌then◌else◌, map}
 use Rattle.std.specs.List.{flat_map}
 use Rattle.kc_language.specs.ConfigFile.{StreamLocation, value_text}
 use Rattle.kc_language.specs.Explanations as rules
@@ -29,15 +29,15 @@ input_place l = codes "  " ++ l.stream ++ codes ":" ++ decimal l.number ++ codes
 abbrev pub input_lines : List ℕ → Option StreamLocation → List (List ℕ)
 input_lines said at = map (λ l. input_place l ++ said) (listed at)
 
-abbrev pub given_lines : SymbolType → Option GivenValue → Option StreamLocation → List (List ℕ)
-given_lines kind given at = flat_map (λ g. input_lines (codes "user value " ++ value_text kind g) at) (listed given)
+abbrev pub given_lines : Bool → SymbolType → Option GivenValue → Option StreamLocation → List (List ℕ)
+given_lines is_raw kind given at = flat_map (λ g. input_lines (codes "user value " ++ value_text is_raw kind g) at) (listed given)
 
 -- the members of a choice
 abbrev pub members_at : Solution → ℕ → List SymId
 members_at solution k = flat_map (λ c. c.members) (listed (choice_at solution.tree k))
 
-abbrev pub user_lines : SymbolType → Option GivenValue → Option StreamLocation → Option StreamLocation → List (List ℕ)
-user_lines kind given at refused = given_lines kind given at ++ input_lines (codes "value not allowed") refused
+abbrev pub user_lines : Bool → SymbolType → Option GivenValue → Option StreamLocation → Option StreamLocation → List (List ℕ)
+user_lines is_raw kind given at refused = given_lines is_raw kind given at ++ input_lines (codes "value not allowed") refused
 
 -- the members of a row
 abbrev pub row_members : Option Choice → List SymId
@@ -53,39 +53,39 @@ module _ (lines : List (Located Numbered)) (solution : Solution) where
   prompts_at i = flat_map (rules.prompt_text lines solution) (rules.prompt_lines (statements lines) (i ∷ []))
 
   -- the first line of a symbol, without a type and with one
-  abbrev pub typed_head : SymId → SymbolType → List ℕ
-  typed_head s kind =
-      rules.worth_of lines solution s ++ codes " (" ++ rules.type_text kind ++ codes "): " ++ rules.source_text (rules.source solution s)
+  abbrev pub typed_head : Bool → SymId → SymbolType → List ℕ
+  typed_head is_raw s kind =
+      rules.worth_of lines solution is_raw s ++ codes " (" ++ rules.type_text kind ++ codes "): " ++ rules.source_text (rules.source solution s)
 
-  abbrev pub head_of : SymId → SymbolType → List ℕ
-  head_of s kind = elim kind [ Undefined ↦ name solution.tree s ++ codes ": not defined, or without a type" | k ↦ typed_head s k ]
+  abbrev pub head_of : Bool → List ℕ → SymId → SymbolType → List ℕ
+  head_of is_raw entries s kind = elim kind [ Undefined ↦ name solution.tree s ++ rules.untyped_text entries | k ↦ typed_head is_raw s k ]
 
   -- who selects and implies a symbol of this type; the modules symbol of a tristate
-  abbrev pub naming_text : SymId → SymbolType → List (List ℕ)
-  naming_text s kind = if is_selectable kind then map (rules.target_text lines solution (codes "selected by ")) (rules.naming_lines (statements lines) word.Select s)
-      ++ map (rules.target_text lines solution (codes "implied by ")) (rules.naming_lines (statements lines) word.Imply s) else []
+  abbrev pub naming_text : Bool → SymId → SymbolType → List (List ℕ)
+  naming_text is_raw s kind = if is_selectable kind then map (rules.target_text lines solution is_raw (codes "selected by ")) (rules.naming_lines (statements lines) word.Select s)
+      ++ map (rules.target_text lines solution is_raw (codes "implied by ")) (rules.naming_lines (statements lines) word.Imply s) else []
 
-  abbrev pub modules_text : SymbolType → List (List ℕ)
-  modules_text kind = elim kind [ Tristate ↦ map (λ m. codes "  modules " ++ rules.worth_of lines solution m) (listed solution.tree.modules) | _ ↦ [] ]
+  abbrev pub modules_text : Bool → SymbolType → List (List ℕ)
+  modules_text is_raw kind = elim kind [ Tristate ↦ map (λ m. codes "  modules " ++ rules.worth_of lines solution is_raw m) (listed solution.tree.modules) | _ ↦ [] ]
 
   -- a symbol of this type outside a choice, with this active range
-  abbrev pub plain_of : SymId → SymbolType → Option Interval → List (List ℕ)
-  plain_of s kind active = map (default_line lines solution kind) (rules.default_lines lines solution s)
-      ++ map (rules.range_text lines solution) (rules.range_lines lines solution s) ++ map (active_line kind) (listed active) ++ naming_text s kind
-      ++ modules_text kind
+  abbrev pub plain_of : Bool → SymId → SymbolType → Option Interval → List (List ℕ)
+  plain_of is_raw s kind active = map (default_line lines solution kind) (rules.default_lines lines solution s)
+      ++ map (rules.range_text lines solution) (rules.range_lines lines solution s) ++ map (active_line kind) (listed active) ++ naming_text is_raw s kind
+      ++ modules_text is_raw kind
 
   -- a choice, which an entry begins
   abbrev pub mode_lines : ℕ → ℕ → List (List ℕ)
   mode_lines k j = rules.with_parts lines solution j (codes "choice") (mode_of solution.tree (known solution) (choice_at solution.tree k))
       (rules.dependency_parts (statements lines) j)
 
-  abbrev pub choice_lines : ℕ → ℕ → List (List ℕ)
-  choice_lines k j = mode_lines k j ++ prompts_at j
-      ++ map (rules.default_text lines solution) (rules.said_at (statements lines) stated_default j) ++ map (rules.member_text lines solution) (members_at solution k)
+  abbrev pub choice_lines : Bool → ℕ → ℕ → List (List ℕ)
+  choice_lines is_raw k j = mode_lines k j ++ prompts_at j
+      ++ map (rules.default_text lines solution) (rules.said_at (statements lines) stated_default j) ++ map (rules.member_text lines solution is_raw) (members_at solution k)
 
   -- what gives a symbol its value
-  abbrev pub body_lines : SymId → List (List ℕ)
-  body_lines s = rules.body_text lines solution s (facts solution.tree s)
+  abbrev pub body_lines : Bool → SymId → List (List ℕ)
+  body_lines is_raw s = rules.body_text lines solution is_raw s (facts solution.tree s)
 
-abbrev pub untyped_head : Solution → SymId → List ℕ
-untyped_head solution s = name solution.tree s ++ codes ": not defined, or without a type"
+abbrev pub untyped_head : Solution → List ℕ → SymId → List ℕ
+untyped_head solution entries s = name solution.tree s ++ rules.untyped_text entries

@@ -1,5 +1,5 @@
 -- For proofs: Lines of an explanation, each behind what it begins with, and parts of them.
-use Rattle.std.specs.Prelude.{ℕ, ℤ, List, [], ◌++◌, Option, Some, None, codes, decimal, if◌then◌else◌}
+use Rattle.std.specs.Prelude.{Bool, ℕ, ℤ, List, [], ◌++◌, Option, Some, None, codes, decimal, if◌then◌else◌}
 use Rattle.std.specs.List.{flat_map}
 use Rattle.kc_language.specs.Explanations as rules
 use Rattle.kc_language.specs.Explanations.{Said, expression_text, operand_text}
@@ -79,6 +79,6 @@ value_from lines solution o l =
 abbrev pub not_text : Tri → List ℕ
 not_text value = if is_n value then codes "not " else []
 
-abbrev pub target_of : List (Located Numbered) → Solution → List ℕ → Option SymId → Said (Option Form) → Tri → List ℕ
-target_of lines solution word o l value =
-    rules.line_text lines solution (not_text value ++ word ++ flat_map (rules.worth_of lines solution) (listed o)) l.at l.what value
+abbrev pub target_of : List (Located Numbered) → Solution → Bool → List ℕ → Option SymId → Said (Option Form) → Tri → List ℕ
+target_of lines solution is_raw word o l value =
+    rules.line_text lines solution (not_text value ++ word ++ flat_map (rules.worth_of lines solution is_raw) (listed o)) l.at l.what value

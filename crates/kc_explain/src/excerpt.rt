@@ -1,7 +1,7 @@
 //! The list of new symbols, each with its definitions as they are written.
 
+ghost use Rattle.kc_read.specs.Files.{files_in};
 ghost use Rattle.std.specs.Prelude.{◌≡◌, ◌<◌, ◌++◌, length, option_map, IfOk, OnOk, codes, decimal, flat_map};
-ghost use Rattle.kc_language.specs.Expansion.{bytes_in};
 ghost use Rattle.kc_language.specs.Explanations as whole;
 ghost use Rattle.kc_language.specs.Texts.{solution_view};
 ghost use Rattle.kc_language.specs.Values.{name_count};
@@ -11,7 +11,7 @@ ghost use Rattle.kc_explain.specs.LineViews.{line_view};
 use crate::lines::{Line, Lines};
 use crate::source_lines::{LineReader, add_excerpt};
 use itoa::Buffer;
-use kc_config_file::header::add_symbol_line;
+use kc_config_file::header::add_new_line;
 use kc_config_file::prefix::Prefix;
 use kc_expr::expression::SymId;
 use kc_read::file_map::FileMap;
@@ -38,7 +38,7 @@ fn add_from_file<'n>(
     number: u32,
     text: &mut Vec<u8>,
 ) -> Result<(), AllocError>
-    ensures text { OnOk result (text.new.items ≡ text.old.items ++ excerpt_of (bytes_in reader.old file.now) number) }
+    ensures text { OnOk result (text.new.items ≡ text.old.items ++ excerpt_of ((files_in reader.old).bytes file.now) number) }
     ensures files { reader.new ≡ reader.old }
 {
     let rest = reader.behind(file, number.saturating_sub(1) as usize)?;
@@ -52,7 +52,7 @@ fn add_definition<'n>(
     line: Line<'n>,
     text: &mut Vec<u8>,
 ) -> Result<(), AllocError>
-    ensures text { OnOk result (text.new.items ≡ text.old.items ++ definition (bytes_in reader.old) (line_view line.entry)) }
+    ensures text { OnOk result (text.new.items ≡ text.old.items ++ definition (files_in reader.old) (line_view line.entry)) }
     ensures files { reader.new ≡ reader.old }
 {
     add_heading(line.file, line.number, text)?;
@@ -67,7 +67,7 @@ fn add_definition_at<'n>(
     at: usize,
     text: &mut Vec<u8>,
 ) -> Result<(), AllocError>
-    ensures text { OnOk result (text.new.items ≡ text.old.items ++ definition_at (bytes_in reader.old) lines.now at) }
+    ensures text { OnOk result (text.new.items ≡ text.old.items ++ definition_at (files_in reader.old) lines.now at) }
     ensures files { reader.new ≡ reader.old }
 {
     match lines.get(at) {
@@ -84,7 +84,7 @@ fn add_each_definition<'n>(
     definitions: &[usize],
     text: &mut Vec<u8>,
 ) -> Result<(), AllocError>
-    ensures text { OnOk result (text.new.items ≡ text.old.items ++ flat_map (definition_at (bytes_in reader.old) lines.now) definitions.now) }
+    ensures text { OnOk result (text.new.items ≡ text.old.items ++ flat_map (definition_at (files_in reader.old) lines.now) definitions.now) }
     ensures files { reader.new ≡ reader.old }
 {
     for at in definitions {
@@ -101,14 +101,14 @@ fn add_definitions<'n>(
     id: SymId,
     text: &mut Vec<u8>,
 ) -> Result<(), AllocError>
-    ensures text { OnOk result (text.new.items ≡ text.old.items ++ whole.definition_comments (bytes_in reader.old) lines.now id) }
+    ensures text { OnOk result (text.new.items ≡ text.old.items ++ whole.definition_comments (files_in reader.old) lines.now id) }
     ensures files { reader.new ≡ reader.old }
 {
     let definitions = lines.definitions_of(alloc, id)?;
     add_each_definition(alloc, reader, lines, &definitions, text)
 }
 
-// Adds the symbol's `.config` line and an empty line.
+// Adds the symbol's line of the list of new symbols and an empty line.
 fn add_line_and_gap(
     solved: &Solved<'_>,
     prefix: &Prefix,
@@ -118,7 +118,7 @@ fn add_line_and_gap(
     requires { id.0 < length solved.now.tree.names }
     ensures { OnOk result (text.new.items ≡ text.old.items ++ line_and_gap solved.now.tree prefix.now (solution_view solved.now) id) }
 {
-    add_symbol_line(solved, prefix, id, text)?;
+    add_new_line(solved, prefix, id, text)?;
     text.extend_from_slice(b"\n")
 }
 
@@ -135,7 +135,7 @@ fn add_new_with_help<'n>(
     requires named { id.0 < length solved.now.tree.names }
     requires mentioned { id.0 < name_count solved.now.tree }
     ensures text { OnOk result (text.new.items ≡ text.old.items
-        ++ new_with_help (bytes_in reader.old) lines.now solved.now.tree prefix.now (solution_view solved.now) id) }
+        ++ new_with_help (files_in reader.old) lines.now solved.now.tree prefix.now (solution_view solved.now) id) }
     ensures files { reader.new ≡ reader.old }
 {
     if !solved.is_new(id) {
@@ -154,7 +154,7 @@ pub fn new_text_with_help(
     solved: &Solved<'_>,
     prefix: &Prefix,
 ) -> Result<Vec<u8>, AllocError>
-    ensures { IfOk result (λ t. t.items ≡ whole.new_text_with_help (bytes_in files.now) lines.now solved.now.tree prefix.now (solution_view solved.now)) }
+    ensures { IfOk result (λ t. t.items ≡ whole.new_text_with_help (files_in files.now) lines.now solved.now.tree prefix.now (solution_view solved.now)) }
 {
     let mut text = Vec::new(alloc);
     let mut reader = LineReader::new(alloc, files);

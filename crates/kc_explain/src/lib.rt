@@ -4,7 +4,7 @@
 //! - [`Lines`]: the lines of a tree, with what stands where.
 //! - [`add_explanation`]: the lines that explain a symbol.
 //! - [`new_text_with_help`]: the list of new symbols with their definitions as they are written.
-//! - [`asked_symbol`], [`near_text`]: the symbol of a name, and names that differ from one by one letter.
+//! - [`asked_symbol`], [`near_text`]: the symbol of a name, and names that differ from one by one letter ([`differs_by_one`]).
 
 mod attributes;
 mod blocks;
@@ -22,5 +22,5 @@ pub mod text;
 
 pub use excerpt::new_text_with_help;
 pub use lines::Lines;
-pub use names::{asked_symbol, near_text};
+pub use names::{asked_symbol, differs_by_one, near_text};
 pub use text::add_explanation;

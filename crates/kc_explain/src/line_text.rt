@@ -35,11 +35,13 @@ use kc_values::texts::single_text;
 use std::alloc::{AllocError, Global};
 use std::rc::Rc;
 
-/// What lines are told of: the lines of a tree and its solution; and what each line that is told begins with.
+/// What lines are told of: the lines of a tree and its solution; whether strings are told raw, without escapes; and what each
+/// line that is told begins with.
 #[derive(Drop)]
 pub(crate) struct Teller<'t, 'l, 's> {
     pub lines: &'t Lines<'l>,
     pub solved: &'t Solved<'s>,
+    pub is_raw: bool,
     pub lead: &'t [u8],
 }
 
@@ -117,11 +119,16 @@ pub(crate) fn add_worth(
     id: SymId,
     text: &mut Vec<u8>,
 ) -> Result<(), AllocError>
-    ensures { OnOk result (text.new.items ≡ text.old.items ++ rules.worth_of t.now.lines.now t.now.solved.now id) }
+    ensures { OnOk result (text.new.items ≡ text.old.items ++ rules.worth_of t.now.lines.now t.now.solved.now t.now.is_raw id) }
 {
     add_name(t, id, text)?;
     text.extend_from_slice(b"=")?;
-    add_value(t.solved.symbol_type(id), shown_value(t.solved, id), text)
+    add_value(
+        t.is_raw,
+        t.solved.symbol_type(id),
+        shown_value(t.solved, id),
+        text,
+    )
 }
 
 // Adds a value behind a line, and the end of the line.
@@ -596,7 +603,7 @@ fn add_worth_of(
     symbol: Option<SymId>,
     text: &mut Vec<u8>,
 ) -> Result<(), AllocError>
-    ensures { OnOk result (text.new.items ≡ text.old.items ++ flat_map (rules.worth_of t.now.lines.now t.now.solved.now) (listed symbol)) }
+    ensures { OnOk result (text.new.items ≡ text.old.items ++ flat_map (rules.worth_of t.now.lines.now t.now.solved.now t.now.is_raw) (listed symbol)) }
 {
     match symbol {
         None => Ok(()),
@@ -614,7 +621,7 @@ fn add_target_of(
     text: &mut Vec<u8>,
 ) -> Result<(), AllocError>
     ensures { OnOk result (text.new.items ≡ text.old.items
-        ++ spec.target_of t.now.lines.now t.now.solved.now word.now symbol (target_at_view target.now) value) }
+        ++ spec.target_of t.now.lines.now t.now.solved.now t.now.is_raw word.now symbol (target_at_view target.now) value) }
 {
     begin_line(t, target.at, text)?;
     add_not(value, text)?;
@@ -632,7 +639,7 @@ pub(crate) fn add_target(
     text: &mut Vec<u8>,
 ) -> Result<(), AllocError>
     ensures { OnOk result (text.new.items ≡ text.old.items
-        ++ led t.now.lead.now (rules.target_text t.now.lines.now t.now.solved.now word.now (target_at_view target.now) ∷ [])) }
+        ++ led t.now.lead.now (rules.target_text t.now.lines.now t.now.solved.now t.now.is_raw word.now (target_at_view target.now) ∷ [])) }
 {
     let symbol = t.lines.symbol_at(target.entry);
     let value = value_from(alloc, t, symbol, target)?;
@@ -650,7 +657,7 @@ pub(crate) fn add_member(
     text: &mut Vec<u8>,
 ) -> Result<(), AllocError>
     ensures { OnOk result (text.new.items ≡ text.old.items
-        ++ led t.now.lead.now (rules.member_text t.now.lines.now t.now.solved.now member ∷ [])) }
+        ++ led t.now.lead.now (rules.member_text t.now.lines.now t.now.solved.now t.now.is_raw member ∷ [])) }
 {
     text.extend_from_slice(t.lead)?;
     text.extend_from_slice(b"  member ")?;
@@ -666,7 +673,7 @@ pub(crate) fn add_modules(
     text: &mut Vec<u8>,
 ) -> Result<(), AllocError>
     ensures { OnOk result (text.new.items ≡ text.old.items
-        ++ led t.now.lead.now ((codes "  modules " ++ rules.worth_of t.now.lines.now t.now.solved.now modules) ∷ [])) }
+        ++ led t.now.lead.now ((codes "  modules " ++ rules.worth_of t.now.lines.now t.now.solved.now t.now.is_raw modules) ∷ [])) }
 {
     text.extend_from_slice(t.lead)?;
     text.extend_from_slice(b"  modules ")?;

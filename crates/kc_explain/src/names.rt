@@ -13,14 +13,14 @@ use std::alloc::{AllocError, Global};
 
 // The symbol whose name stands behind the prefix.
 fn symbol_behind(tree: &Tree, prefix: &Prefix, asked: &[u8]) -> Option<SymId>
-    ensures { result ≡ option_and_then (symbol_named tree.now) (without_prefix prefix.now asked.now) }
+    ensures { result ≡ option_and_then (symbol_named tree.now) (without_prefix prefix.now.prefix asked.now) }
 {
     tree.find(asked.strip_prefix(prefix.as_bytes())?)
 }
 
 /// The symbol of a name that is asked for, which may have the prefix in front (our own).
 pub fn asked_symbol(tree: &Tree, prefix: &Prefix, asked: &[u8]) -> Option<SymId>
-    ensures { result ≡ whole.asked_symbol tree.now prefix.now asked.now }
+    ensures { result ≡ whole.asked_symbol tree.now prefix.now.prefix asked.now }
 {
     match tree.find(asked) {
         Some(id) => Some(id),
@@ -41,8 +41,8 @@ fn differs_here(asked: &[u8], name: &[u8]) -> bool
     }
 }
 
-// Whether two names differ by one letter.
-fn differs_by_one(mut asked: &[u8], mut name: &[u8]) -> bool
+/// Whether two names differ by one letter: it is another one, or only one of them has it (our own).
+pub fn differs_by_one(mut asked: &[u8], mut name: &[u8]) -> bool
     ensures { result ≡ whole.differs_by_one asked.entry.now name.entry.now }
 {
     'letters: while let [a, asked_rest @ ..] = asked {

@@ -1,9 +1,9 @@
 //! A definition as it is written: a line of a file, and the lines that belong to it.
 
+ghost use Rattle.kc_read.specs.Files.{files_in};
 ghost use Rattle.std.specs.Prelude.{◌≡◌, ◌≤◌, ◌∷◌, ◌-◌, ◌++◌, length, map, drop, take_while, IfOk, OnOk, flat_map};
 ghost use Rattle.std.specs.Option.{option_copied};
 ghost use Rattle.std.specs.List.{slice_split, suffix_len};
-ghost use Rattle.kc_language.specs.Expansion.{bytes_in};
 ghost use Rattle.kc_language.specs.Explanations as whole;
 ghost use Rattle.kc_language.specs.Lines.{is_line_feed};
 ghost use Rattle.kc_explain.specs.SourceLines.{StandsBehind, comment, excerpt_in, lines_left, lines_of, shown_of};
@@ -32,16 +32,16 @@ pub(crate) struct LineReader<'f, 'n> {
 }
 
 impl<'f, 'n> Model for LineReader<'f, 'n> {
-    ghost use Rattle.std.specs.Prelude.{ℕ, List, All};
+    ghost use Rattle.std.specs.Prelude.{All};
     ghost use Rattle.std.specs.Option.{option_copied};
-    ghost use Rattle.kc_language.specs.Expansion.{bytes_in};
+    ghost use Rattle.kc_read.specs.Files.{FileTable, files_in};
     ghost use Rattle.kc_explain.specs.SourceLines.{StandsBehind, lines_of};
 
-    ghost Value = { List (List ℕ × List ℕ) };
+    ghost Value = { FileTable };
 
     ghost view = { λ r. r.files.now };
 
-    ghost invariant = { λ r. All (λ e. StandsBehind (lines_of (bytes_in r.files.now) e.1.file.now) e.1.passed (option_copied e.1.rest)) r.places.entries };
+    ghost invariant = { λ r. All (λ e. StandsBehind (lines_of (files_in r.files.now) e.1.file.now) e.1.passed (option_copied e.1.rest)) r.places.entries };
 }
 
 impl<'f, 'n> LineReader<'f, 'n> {
@@ -57,7 +57,7 @@ impl<'f, 'n> LineReader<'f, 'n> {
 
     // The place that is kept for the file, else its start.
     fn kept_place(&self, file: &'n [u8]) -> LinePlace<'f, 'n>
-        ensures { StandsBehind (lines_of (bytes_in self.now) result.file.now) result.passed (option_copied result.rest) }
+        ensures { StandsBehind (lines_of (files_in self.now) result.file.now) result.passed (option_copied result.rest) }
     {
         match self.places.get(&file) {
             None => start_of(self.files, file),
@@ -72,7 +72,7 @@ impl<'f, 'n> LineReader<'f, 'n> {
         count: usize,
     ) -> Result<Option<&'f [u8]>, AllocError>
         ensures files { self.new ≡ self.old }
-        ensures rest { IfOk result (λ r. lines_left (option_copied r) ≡ drop count (lines_of (bytes_in self.old) file.now)) }
+        ensures rest { IfOk result (λ r. lines_left (option_copied r) ≡ drop count (lines_of (files_in self.old) file.now)) }
     {
         let kept = self.kept_place(file);
         let place = place_behind(self.files, kept, file, count);
@@ -85,7 +85,7 @@ impl<'f, 'n> LineReader<'f, 'n> {
 fn start_of<'f, 'n>(files: &'f FileMap, file: &'n [u8]) -> LinePlace<'f, 'n>
     ensures file { result.file.now ≡ file.now }
     ensures passed { result.passed ≡ 0 }
-    ensures place { StandsBehind (lines_of (bytes_in files.now) file.now) result.passed (option_copied result.rest) }
+    ensures place { StandsBehind (lines_of (files_in files.now) file.now) result.passed (option_copied result.rest) }
 {
     LinePlace {
         file,
@@ -101,9 +101,9 @@ fn nearest_place<'f, 'n>(
     file: &'n [u8],
     count: usize,
 ) -> LinePlace<'f, 'n>
-    requires { StandsBehind (lines_of (bytes_in files.now) place.file.now) place.passed (option_copied place.rest) }
+    requires { StandsBehind (lines_of (files_in files.now) place.file.now) place.passed (option_copied place.rest) }
     ensures passed { result.passed ≤ count }
-    ensures place { StandsBehind (lines_of (bytes_in files.now) file.now) result.passed (option_copied result.rest) }
+    ensures place { StandsBehind (lines_of (files_in files.now) file.now) result.passed (option_copied result.rest) }
 {
     if place.file == file && place.passed <= count {
         return place;
@@ -118,10 +118,10 @@ fn place_behind<'f, 'n>(
     file: &'n [u8],
     count: usize,
 ) -> LinePlace<'f, 'n>
-    requires { StandsBehind (lines_of (bytes_in files.now) place.file.now) place.passed (option_copied place.rest) }
+    requires { StandsBehind (lines_of (files_in files.now) place.file.now) place.passed (option_copied place.rest) }
     ensures file { result.file.now ≡ file.now }
     ensures passed { result.passed ≡ count }
-    ensures place { StandsBehind (lines_of (bytes_in files.now) file.now) count (option_copied result.rest) }
+    ensures place { StandsBehind (lines_of (files_in files.now) file.now) count (option_copied result.rest) }
 {
     let near = nearest_place(files, place, file, count);
     LinePlace {

@@ -184,14 +184,14 @@ fn add_given(
     text: &mut Vec<u8>,
 ) -> Result<(), AllocError>
     ensures { OnOk result (text.new.items ≡ text.old.items
-        ++ led t.now.lead.now (spec.input_lines (codes "user value " ++ value_text symbol_type (given_of_value given.now)) (option_map location_of at.entry))) }
+        ++ led t.now.lead.now (spec.input_lines (codes "user value " ++ value_text t.now.is_raw symbol_type (given_of_value given.now)) (option_map location_of at.entry))) }
 {
     match at {
         None => Ok(()),
         Some(at) => {
             begin_input_line(t, &at, text)?;
             text.extend_from_slice(b"user value ")?;
-            add_value(symbol_type, shown_given(given), text)?;
+            add_value(t.is_raw, symbol_type, shown_given(given), text)?;
             text.extend_from_slice(b"\n")
         }
     }
@@ -206,7 +206,7 @@ fn add_given_of(
     text: &mut Vec<u8>,
 ) -> Result<(), AllocError>
     ensures { OnOk result (text.new.items ≡ text.old.items
-        ++ led t.now.lead.now (spec.given_lines symbol_type (given_in given.entry) (option_map location_of at.entry))) }
+        ++ led t.now.lead.now (spec.given_lines t.now.is_raw symbol_type (given_in given.entry) (option_map location_of at.entry))) }
 {
     match given {
         None => Ok(()),
@@ -249,7 +249,7 @@ fn add_user_of(
     text: &mut Vec<u8>,
 ) -> Result<(), AllocError>
     ensures { OnOk result (text.new.items ≡ text.old.items ++ led t.now.lead.now
-        (spec.user_lines symbol_type (given_in given.entry) (option_map location_of at.entry) (option_map location_of refused.entry))) }
+        (spec.user_lines t.now.is_raw symbol_type (given_in given.entry) (option_map location_of at.entry) (option_map location_of refused.entry))) }
 {
     add_given_of(t, symbol_type, given, at, text)?;
     add_refused(t, refused, text)
@@ -262,12 +262,12 @@ fn add_user(
     id: SymId,
     text: &mut Vec<u8>,
 ) -> Result<(), AllocError>
-    ensures { OnOk result (text.new.items ≡ text.old.items ++ led t.now.lead.now (rules.user_text t.now.lines.now t.now.solved.now input.now id)) }
+    ensures { OnOk result (text.new.items ≡ text.old.items ++ led t.now.lead.now (rules.user_text t.now.lines.now t.now.solved.now input.now t.now.is_raw id)) }
 {
     let symbol_type = t.solved.symbol_type(id);
     let given = given_at(t.solved, id);
-    let at = input.line(id);
-    let refused = input.refused_line(id);
+    let at = input.plain_line(id);
+    let refused = input.plain_refused_line(id);
     add_user_of(t, symbol_type, given, at, refused, text)
 }
 
@@ -305,13 +305,30 @@ fn source_text(from: Source) -> &'static [u8]
     }
 }
 
-// Adds the first line of a symbol without a type.
-fn add_untyped_head(t: &Teller<'_, '_, '_>, id: SymId, text: &mut Vec<u8>) -> Result<(), AllocError>
-    ensures { OnOk result (text.new.items ≡ text.old.items ++ led t.now.lead.now (spec.untyped_head t.now.solved.now id ∷ [])) }
+// What is said of a name without a type that these entries define.
+fn untyped_text(entries: &[usize]) -> &'static [u8]
+    ensures { result.now ≡ rules.untyped_text entries.now }
+{
+    if entries.is_empty() {
+        b": not a symbol, only mentioned"
+    } else {
+        b": a symbol without a type"
+    }
+}
+
+// Adds the first line of a name without a type that these entries define.
+fn add_untyped_head(
+    t: &Teller<'_, '_, '_>,
+    entries: &[usize],
+    id: SymId,
+    text: &mut Vec<u8>,
+) -> Result<(), AllocError>
+    ensures { OnOk result (text.new.items ≡ text.old.items ++ led t.now.lead.now (spec.untyped_head t.now.solved.now entries.now id ∷ [])) }
 {
     text.extend_from_slice(t.lead)?;
     add_name(t, id, text)?;
-    text.extend_from_slice(b": not defined, or without a type\n")
+    text.extend_from_slice(untyped_text(entries))?;
+    text.extend_from_slice(b"\n")
 }
 
 // Adds a symbol of this type, with its value and where that comes from.
@@ -322,7 +339,7 @@ fn add_typed(
     text: &mut Vec<u8>,
 ) -> Result<(), AllocError>
     requires { id.0 < name_count t.now.solved.now.tree }
-    ensures { OnOk result (text.new.items ≡ text.old.items ++ spec.typed_head t.now.lines.now t.now.solved.now id symbol_type) }
+    ensures { OnOk result (text.new.items ≡ text.old.items ++ spec.typed_head t.now.lines.now t.now.solved.now t.now.is_raw id symbol_type) }
 {
     add_worth(t, id, text)?;
     text.extend_from_slice(b" (")?;
@@ -340,37 +357,43 @@ fn add_typed_head(
 ) -> Result<(), AllocError>
     requires { id.0 < name_count t.now.solved.now.tree }
     ensures { OnOk result (text.new.items ≡ text.old.items
-        ++ led t.now.lead.now (spec.typed_head t.now.lines.now t.now.solved.now id symbol_type ∷ [])) }
+        ++ led t.now.lead.now (spec.typed_head t.now.lines.now t.now.solved.now t.now.is_raw id symbol_type ∷ [])) }
 {
     text.extend_from_slice(t.lead)?;
     add_typed(t, id, symbol_type, text)?;
     text.extend_from_slice(b"\n")
 }
 
-// Adds the first line of a symbol that has this type.
+// Adds the first line of a symbol that has this type and that these entries define.
 #[tactic(auto, using(crate::proofs::ToldLemmas::typed_within))]
 fn add_head_of(
     t: &Teller<'_, '_, '_>,
+    entries: &[usize],
     id: SymId,
     symbol_type: SymbolType,
     text: &mut Vec<u8>,
 ) -> Result<(), AllocError>
     requires { symbol_type ≡ type_in (facts t.now.solved.now.tree id) }
     ensures { OnOk result (text.new.items ≡ text.old.items
-        ++ led t.now.lead.now (spec.head_of t.now.lines.now t.now.solved.now id symbol_type ∷ [])) }
+        ++ led t.now.lead.now (spec.head_of t.now.lines.now t.now.solved.now t.now.is_raw entries.now id symbol_type ∷ [])) }
 {
     match symbol_type {
-        SymbolType::Undefined => add_untyped_head(t, id, text),
+        SymbolType::Undefined => add_untyped_head(t, entries, id, text),
         _ => add_typed_head(t, id, symbol_type, text),
     }
 }
 
-// Adds the first line of a symbol.
-fn add_head(t: &Teller<'_, '_, '_>, id: SymId, text: &mut Vec<u8>) -> Result<(), AllocError>
+// Adds the first line of a symbol that these entries define.
+fn add_head(
+    t: &Teller<'_, '_, '_>,
+    entries: &[usize],
+    id: SymId,
+    text: &mut Vec<u8>,
+) -> Result<(), AllocError>
     ensures { OnOk result (text.new.items ≡ text.old.items
-        ++ led t.now.lead.now (spec.head_of t.now.lines.now t.now.solved.now id (type_in (facts t.now.solved.now.tree id)) ∷ [])) }
+        ++ led t.now.lead.now (spec.head_of t.now.lines.now t.now.solved.now t.now.is_raw entries.now id (type_in (facts t.now.solved.now.tree id)) ∷ [])) }
 {
-    add_head_of(t, id, t.solved.symbol_type(id), text)
+    add_head_of(t, entries, id, t.solved.symbol_type(id), text)
 }
 
 // ---- a symbol outside a choice
@@ -434,7 +457,7 @@ fn add_targets(
     text: &mut Vec<u8>,
 ) -> Result<(), AllocError>
     ensures { OnOk result (text.new.items ≡ text.old.items
-        ++ led t.now.lead.now (map (rules.target_text t.now.lines.now t.now.solved.now word.now) (map target_at_view targets.now))) }
+        ++ led t.now.lead.now (map (rules.target_text t.now.lines.now t.now.solved.now t.now.is_raw word.now) (map target_at_view targets.now))) }
 {
     for target in targets {
         add_target(alloc, t, word, target, text)?;
@@ -461,7 +484,7 @@ fn add_naming(
     text: &mut Vec<u8>,
 ) -> Result<(), AllocError>
     ensures { OnOk result (text.new.items ≡ text.old.items
-        ++ led t.now.lead.now (spec.naming_text t.now.lines.now t.now.solved.now id symbol_type)) }
+        ++ led t.now.lead.now (spec.naming_text t.now.lines.now t.now.solved.now t.now.is_raw id symbol_type)) }
 {
     if is_selectable(symbol_type) {
         let selects = t.lines.targets(alloc, SelectOrImply::Select, id)?;
@@ -479,7 +502,7 @@ fn add_modules_of(
     symbol_type: SymbolType,
     text: &mut Vec<u8>,
 ) -> Result<(), AllocError>
-    ensures { OnOk result (text.new.items ≡ text.old.items ++ led t.now.lead.now (spec.modules_text t.now.lines.now t.now.solved.now symbol_type)) }
+    ensures { OnOk result (text.new.items ≡ text.old.items ++ led t.now.lead.now (spec.modules_text t.now.lines.now t.now.solved.now t.now.is_raw symbol_type)) }
 {
     match symbol_type {
         SymbolType::Tristate => match t.solved.modules() {
@@ -501,7 +524,7 @@ fn add_plain(
 ) -> Result<(), AllocError>
     requires { IfSome active HasSmallBounds }
     ensures { OnOk result (text.new.items ≡ text.old.items
-        ++ led t.now.lead.now (spec.plain_of t.now.lines.now t.now.solved.now id symbol_type active)) }
+        ++ led t.now.lead.now (spec.plain_of t.now.lines.now t.now.solved.now t.now.is_raw id symbol_type active)) }
 {
     let defaults = default_lines(alloc, t.lines, t.solved, id)?;
     let ranges = range_lines(alloc, t.lines, t.solved, id)?;
@@ -537,7 +560,7 @@ fn add_members(
     text: &mut Vec<u8>,
 ) -> Result<(), AllocError>
     ensures { OnOk result (text.new.items ≡ text.old.items
-        ++ led t.now.lead.now (map (rules.member_text t.now.lines.now t.now.solved.now) members.now)) }
+        ++ led t.now.lead.now (map (rules.member_text t.now.lines.now t.now.solved.now t.now.is_raw) members.now)) }
 {
     for member in members {
         add_member(t, *member, text)?;
@@ -592,7 +615,7 @@ fn add_choice_at(
     entry: usize,
     text: &mut Vec<u8>,
 ) -> Result<(), AllocError>
-    ensures { OnOk result (text.new.items ≡ text.old.items ++ led t.now.lead.now (spec.choice_lines t.now.lines.now t.now.solved.now choice entry)) }
+    ensures { OnOk result (text.new.items ≡ text.old.items ++ led t.now.lead.now (spec.choice_lines t.now.lines.now t.now.solved.now t.now.is_raw choice entry)) }
 {
     let defaults = defaults_at(alloc, t.lines, entry)?;
     add_mode(alloc, t, choice, entry, text)?;
@@ -610,7 +633,7 @@ fn add_choice_of(
     text: &mut Vec<u8>,
 ) -> Result<(), AllocError>
     ensures { OnOk result (text.new.items ≡ text.old.items
-        ++ led t.now.lead.now (flat_map (spec.choice_lines t.now.lines.now t.now.solved.now choice) (listed entry))) }
+        ++ led t.now.lead.now (flat_map (spec.choice_lines t.now.lines.now t.now.solved.now t.now.is_raw choice) (listed entry))) }
 {
     match entry {
         None => Ok(()),
@@ -625,7 +648,7 @@ fn add_choice(
     choice: usize,
     text: &mut Vec<u8>,
 ) -> Result<(), AllocError>
-    ensures { OnOk result (text.new.items ≡ text.old.items ++ led t.now.lead.now (rules.choice_text t.now.lines.now t.now.solved.now choice)) }
+    ensures { OnOk result (text.new.items ≡ text.old.items ++ led t.now.lead.now (rules.choice_text t.now.lines.now t.now.solved.now t.now.is_raw choice)) }
 {
     add_choice_of(alloc, t, choice, t.lines.choice_entry(choice), text)
 }
@@ -639,7 +662,7 @@ fn add_body(
     id: SymId,
     text: &mut Vec<u8>,
 ) -> Result<(), AllocError>
-    ensures { OnOk result (text.new.items ≡ text.old.items ++ led t.now.lead.now (spec.body_lines t.now.lines.now t.now.solved.now id)) }
+    ensures { OnOk result (text.new.items ≡ text.old.items ++ led t.now.lead.now (spec.body_lines t.now.lines.now t.now.solved.now t.now.is_raw id)) }
 {
     rows_tell_facts();
     let layout = t.solved.tree().layout();
@@ -663,10 +686,10 @@ fn add_symbol(
     id: SymId,
     text: &mut Vec<u8>,
 ) -> Result<(), AllocError>
-    ensures { OnOk result (text.new.items ≡ text.old.items ++ led t.now.lead.now (rules.symbol_lines t.now.lines.now t.now.solved.now input.now id)) }
+    ensures { OnOk result (text.new.items ≡ text.old.items ++ led t.now.lead.now (rules.symbol_lines t.now.lines.now t.now.solved.now input.now t.now.is_raw id)) }
 {
     let entries = t.lines.definitions_of(alloc, id)?;
-    add_head(t, id, text)?;
+    add_head(t, &entries, id, text)?;
     add_definitions(alloc, t, &entries, text)?;
     add_prompts(alloc, t, &entries, text)?;
     add_user(t, input, id, text)?;
@@ -682,7 +705,7 @@ fn add_symbols(
     text: &mut Vec<u8>,
 ) -> Result<(), AllocError>
     ensures { OnOk result (text.new.items ≡ text.old.items
-        ++ flat_map (λ s. led t.now.lead.now (rules.symbol_lines t.now.lines.now t.now.solved.now input.now s)) symbols.now) }
+        ++ flat_map (λ s. led t.now.lead.now (rules.symbol_lines t.now.lines.now t.now.solved.now input.now t.now.is_raw s)) symbols.now) }
 {
     for symbol in symbols {
         add_symbol(alloc, t, input, *symbol, text)?;
@@ -710,7 +733,7 @@ fn add_further_in(
     text: &mut Vec<u8>,
 ) -> Result<(), AllocError>
     ensures { OnOk result (text.new.items ≡ text.old.items
-        ++ flat_map (λ s. led (t.now.lead.now ++ codes "  ") (rules.symbol_lines t.now.lines.now t.now.solved.now input.now s)) symbols.now) }
+        ++ flat_map (λ s. led (t.now.lead.now ++ codes "  ") (rules.symbol_lines t.now.lines.now t.now.solved.now input.now t.now.is_raw s)) symbols.now) }
 {
     let mut lead = Vec::new(alloc);
     lead.extend_from_slice(t.lead)?;
@@ -718,28 +741,31 @@ fn add_further_in(
     let further = Teller {
         lines: t.lines,
         solved: t.solved,
+        is_raw: t.is_raw,
         lead: &lead,
     };
     add_symbols(alloc, &further, input, symbols, text)
 }
 
 /// Adds the lines that explain a symbol, and those of the symbols that hold it down in so many steps, which stand two spaces
-/// further in. Each line begins with the lead. Fails only when it is out of memory, and then a part of the text may be there.
+/// further in. Each line begins with the lead. A string's value is written as a `.config` has it, raw or with escapes. Fails only when it is out of memory, and then a part of the text may be there.
 pub fn add_explanation(
     alloc: Global,
     lines: &Lines<'_>,
     solved: &Solved<'_>,
     input: &UserInput<'_>,
+    is_raw: bool,
     lead: &[u8],
     depth: usize,
     id: SymId,
     text: &mut Vec<u8>,
 ) -> Result<(), AllocError>
-    ensures { OnOk result (text.new.items ≡ text.old.items ++ rules.explanation_text lines.now solved.now input.now lead.now depth id) }
+    ensures { OnOk result (text.new.items ≡ text.old.items ++ rules.explanation_text lines.now solved.now input.now is_raw lead.now depth id) }
 {
     let teller = Teller {
         lines,
         solved,
+        is_raw,
         lead,
     };
     let all = reached(alloc, lines, solved, depth, id)?;

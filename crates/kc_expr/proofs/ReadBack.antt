@@ -99,21 +99,12 @@ body_of (b ∷ t) = elim (cases_Bool (b == 34 || b == 92)) [
   | inr e ↦ rw e (plain (eqb-false b 34 (or_parts _ _ e).0) (eqb-false b 92 (or_parts _ _ e).1) (body_of t))
 ]
 
-no_dollar : (t : List ℕ) → All (λ b. b ≢ 36) t → All (λ b. b ≢ 36) (escape t)
-no_dollar [] h = h
-no_dollar (b ∷ t) h =
-    let here = All-head (λ b. b ≢ 36) b t h in let more = no_dollar t (All-tail (λ b. b ≢ 36) b t h) in
-    elim (cases_Bool (b == 34 || b == 92)) [
-      | inl e ↦ rw e (All-cons (λ b. b ≢ 36) 92 (b ∷ escape t) (λ x. omega (arith, x)) (All-cons (λ b. b ≢ 36) b (escape t) here more))
-      | inr e ↦ rw e (All-cons (λ b. b ≢ 36) b (escape t) here more)
-    ]
-
-quoted_here : (t rest : List ℕ) → All (λ b. b ≢ 36) t →
+quoted_here : (t rest : List ℕ) →
     IsLongest (34 ∷ (escape t ++ 34 ∷ rest)) (length (escape t) + 2) (AQuoted (take (length (escape t)) (escape t ++ 34 ∷ rest)))
-quoted_here t rest h =
+quoted_here t rest =
     let front : take (length (escape t)) (escape t ++ 34 ∷ rest) ≡ escape t = take-append_seam (escape t) (34 ∷ rest) in
     quoted_token (34 ∷ (escape t ++ 34 ∷ rest)) (escape t ++ 34 ∷ rest) 34 (length (escape t)) refl (inl refl) (omega (arith, length-append (escape t) (34 ∷ rest)))
-    (get_or-append_seam (escape t) 34 rest 0) (rw front (body_of t)) (rw front (no_dollar t h))
+    (get_or-append_seam (escape t) 34 rest 0) (rw front (body_of t))
 
 constant_byte : (b : ℕ) → is_some (tristate_constant (b ∷ [])) ≡ true → is_word_byte b ≡ true
 constant_byte b h = elim (cases_Bool (b == 110)) [
@@ -136,10 +127,10 @@ module _ {ts : List Lexeme} {out : Option TextFault} where
       let longest = subst (λ v. IsLongest (b ∷ (w ++ rest)) (length (b ∷ w)) (AWord v)) (take-append_seam (b ∷ w) rest) (word_here b w rest all f.ends) in
       taken longest (rw (drop-append_seam (b ∷ w) rest) c)
 
-  cut_quoted : (t rest : List ℕ) → All (λ b. b ≢ 36) t → IsCut rest ts out → IsCut (quoted t ++ rest) (AQuoted (escape t) ∷ ts) out
-  cut_quoted t rest h c =
+  cut_quoted : (t rest : List ℕ) → IsCut rest ts out → IsCut (quoted t ++ rest) (AQuoted (escape t) ∷ ts) out
+  cut_quoted t rest c =
       let body = escape t ++ 34 ∷ rest in
-      let longest = subst (λ v. IsLongest (34 ∷ body) (length (escape t) + 2) (AQuoted v)) (take-append_seam (escape t) (34 ∷ rest)) (quoted_here t rest h) in
+      let longest = subst (λ v. IsLongest (34 ∷ body) (length (escape t) + 2) (AQuoted v)) (take-append_seam (escape t) (34 ∷ rest)) (quoted_here t rest) in
       let whole : quoted t ++ rest ≡ 34 ∷ body = ap (λ x. 34 ∷ x) (append_assoc (escape t) (34 ∷ []) rest) in
       let len : length (escape t) + 2 ≡ length (quoted t) = omega (arith, length-append (escape t) (34 ∷ [])) in
       let left : drop (length (escape t) + 2) (34 ∷ body) ≡ rest = ap (λ k. drop k (34 ∷ body)) len ∙ ap (drop (length (quoted t))) (sym whole) ∙ drop-append_seam (quoted t) rest in
@@ -149,7 +140,7 @@ module _ {ts : List Lexeme} {out : Option TextFault} where
       IsCut (operand_text names a ++ rest) (operand_token names a ∷ ts) out
   cut_operand names (Text t) rest h f c = elim (cases_Bool (is_some (tristate_constant t))) [
     | inl e ↦ rw e (cut_word t rest (constant_word t e).0 (constant_word t e).1 f c)
-    | inr e ↦ rw e (cut_quoted t rest h c)
+    | inr e ↦ rw e (cut_quoted t rest c)
   ]
   cut_operand names (Symbol s) rest h f c = cut_word (name_by names s) rest h.some h.word f c
 

@@ -1,6 +1,6 @@
 -- Examples for the chapter ConfigFile: lines of a `.config`, the values that they give, and the warnings about them.
 use Rattle.std.proofs.Common.{◌≡◌, refl}
-use Rattle.std.specs.Prelude.{List, None, Some, [], codes, false, true, ℕ, ◌∷◌}
+use Rattle.std.specs.Prelude.{Bool as Bool_, List, None, Some, [], codes, false, true, ℕ, ◌∷◌}
 use Rattle.std.specs.Fmt.{digits}
 use Rattle.kc_language.specs.ConfigFile.{Malformed, Nothing, ReadResult, Set, Unset, effect, gone_after, lines_after, lines_from, meaning_of, no_input, places_given, reading, reading_of, refused_after, untaken, untaken_line, value_by, warning, warnings}
 use Rattle.kc_language.specs.Symbols.{SymbolFacts, TreeFacts}
@@ -28,11 +28,21 @@ blank_at_the_start = refl
 -- ---- Values
 
 -- `"a\"b" # x` gives a string symbol the text `a"b`: what follows the closing `"` does not count.
-string_value : value_by Str (codes "\"a\\\"b\" # x") ≡ Some (GivenText (codes "a\"b"))
+string_value : value_by false Str (codes "\"a\\\"b\" # x") ≡ Some (GivenText (codes "a\"b"))
 string_value = refl
 
+-- A raw string has no escapes: it is all between the first `"` and the last byte, which has to be a `"`.
+raw_string : value_by true Str (codes "\"a\\\"b\"\"") ≡ Some (GivenText (codes "a\\\"b\""))
+raw_string = refl
+
+raw_string_without_end : value_by true Str (codes "\"a\" # x") ≡ None
+raw_string_without_end = refl
+
+raw_string_of_one_quote : value_by true Str (codes "\"") ≡ None
+raw_string_of_one_quote = refl
+
 -- A bool is y or n by its first byte.
-first_byte : value_by Bool (codes "yes") ≡ Some (GivenTruth Y)
+first_byte : value_by false Bool (codes "yes") ≡ Some (GivenTruth Y)
 first_byte = refl
 
 -- ---- Whole files
@@ -49,7 +59,7 @@ module _ (any_tree : TreeFacts) (any_facts : SymbolFacts) where
   -- What the input file `.config` with this text gives, where nothing was given before.
   read_text : List ℕ → ReadResult
   unfolding two_bools reading warnings warning untaken untaken_line lines_after refused_after places_given effect lines_from digits
-  read_text text = reading_of two_bools (codes "CONFIG_") (no_input true two_bools) (record { name = codes ".config"; bytes = text } ∷ [])
+  read_text text = reading_of two_bools (record { prefix = codes "CONFIG_"; is_raw = false }) (no_input true two_bools) (record { name = codes ".config"; bytes = text } ∷ [])
 
   -- A gets y. The last line needs no line feed. A symbol that no line names has no value.
   one_value : (read_text (codes "# A comment\r\nCONFIG_A=y")).input.places.symbols ≡ Some (GivenTruth Y) ∷ None ∷ []
@@ -72,6 +82,32 @@ module _ (any_tree : TreeFacts) (any_facts : SymbolFacts) where
   unfolding read_text
   warned_lines = refl
 
+  -- An unset line of a string has no effect. It is reported (K16) and not taken as written only if this is asked for.
+  with_string : TreeFacts
+  with_string = record two_bools { symbols = record any_facts { symbol_type = Str; choice = None } ∷ record any_facts { symbol_type = Bool; choice = None } ∷ [] }
+
+  unset_string : Bool_ → ReadResult
+  unfolding with_string two_bools reading warnings warning untaken untaken_line lines_after refused_after places_given effect lines_from digits
+  unset_string asked =
+      reading_of with_string (record { prefix = codes "CONFIG_"; is_raw = false }) (record (no_input true with_string) { asks_unset = asked })
+      (record { name = codes ".config"; bytes = codes "# CONFIG_A is not set\n" } ∷ [])
+
+  unset_string_reported : (unset_string true).warned ≡ codes ".config:1: warning K16: A is not bool or tristate, the line has no effect\n"
+  unfolding unset_string
+  unset_string_reported = refl
+
+  unset_string_untaken : (unset_string true).input.all_taken ≡ false
+  unfolding unset_string
+  unset_string_untaken = refl
+
+  unset_string_passes : (unset_string false).input.all_taken ≡ true
+  unfolding unset_string
+  unset_string_passes = refl
+
+  unset_string_silent : (unset_string false).warned ≡ []
+  unfolding unset_string
+  unset_string_silent = refl
+
   -- The last line whose value for B is not allowed stays known, even after one that gives B a value.
   refused_lines : (read_text (codes "CONFIG_B=1\nCONFIG_B=m\nCONFIG_B=y\nCONFIG_C=m\n")).input.refused ≡ None ∷ Some (record { stream = codes ".config"; number = 2 }) ∷ []
   unfolding read_text
@@ -79,7 +115,7 @@ module _ (any_tree : TreeFacts) (any_facts : SymbolFacts) where
 
   -- The lines of unknown names, if they are kept: those that are on, and then the others. B has a type, and its line is not among them.
   gone_lines :
-      (reading_of two_bools (codes "CONFIG_") (record (no_input false two_bools) { gone = Some ([], []) }) (record {
+      (reading_of two_bools (record { prefix = codes "CONFIG_"; is_raw = false }) (record (no_input false two_bools) { gone = Some ([], []) }) (record {
         name = codes ".config";
         bytes = codes "CONFIG_C=n  \n# CONFIG_D is not set\nCONFIG_E=\"n\" \nCONFIG_B=m\n";
       } ∷ [])).input.gone

@@ -73,7 +73,7 @@ word b w rest are ends =
     longest zero y h s = omega arith
     longest (suc m) (AWord v) h s = no_more (b ∷ w) rest ends (suc m) h (subst (λ v. All (λ b. IsTrue (is_word_byte b)) v) (sym s.0) s.2)
     longest (suc m) (AQuoted t) h s =
-        absurd (not_both is_b (subst (λ x. is_word_byte x ≡ false) (sym (ap (λ v. slice_index v 0) s.4)) (quote_begins s.0 s.1)))
+        absurd (not_both is_b (subst (λ x. is_word_byte x ≡ false) (sym (ap (λ v. slice_index v 0) s.3)) (quote_begins s.0 s.1)))
     longest (suc m) (AnOp o) h s = absurd (not_both is_b (subst (λ v. is_word_byte (slice_index v 0) ≡ false) (sym s) (op_begins o)))
 
 -- ---- The operator `&&`
@@ -83,7 +83,7 @@ and_op rest = record { fits = omega arith; spelled = refl; longest = longest }
   where
     others : (m : ℕ) (y : Lexeme) → Spells (take (suc (suc (suc m))) (codes "&& " ++ rest)) y → ⊥
     others m (AWord w) s = true≢false (sym (subst (λ v. All (λ x. IsTrue (is_word_byte x)) v) (sym s.0) s.2 0 0 (omega arith)))
-    others m (AQuoted t) s = let first = ap (λ v. slice_index v 0) s.4 in
+    others m (AQuoted t) s = let first = ap (λ v. slice_index v 0) s.3 in
         elim s.1 [ inl e ↦ absurd (omega (arith, e, first)) | inr e ↦ absurd (omega (arith, e, first)) ]
     others m (AnOp o) s = absurd (omega (arith, ap (λ v. slice_index v 2) s, op_ends o))
 
@@ -110,11 +110,6 @@ simple_parts b t e =
 simple_body : (t : List ℕ) → list_all is_simple t ≡ true → IsQuotedBody 34 t
 simple_body [] e = nothing
 simple_body (b ∷ t) e = let s = simple_parts b t e in plain s.0 s.1 (simple_body t s.3)
-
-no_dollar : (t : List ℕ) → list_all is_simple t ≡ true → All (λ b. b ≢ byte "$") t
-no_dollar [] e k d h = absurd (omega (arith, h))
-no_dollar (b ∷ t) e zero d h = (simple_parts b t e).2
-no_dollar (b ∷ t) e (suc k) d h = no_dollar t (simple_parts b t e).3 k d (omega (arith, h))
 
 -- No longer prefix ends in its first quote that is not escaped.
 ends_at_quote : (t u rest : List ℕ) (m : ℕ) → IsQuotedBody 34 t → m ≤ length (t ++ 34 ∷ rest) → IsQuotedBody 34 u →
@@ -144,7 +139,7 @@ pub quoted : (t rest : List ℕ) → list_all is_simple t ≡ true → IsLongest
 quoted t rest are = record {
   fits = omega (arith, quote_fits t rest);
   longest = longest;
-  spelled = (34, inl refl, simple_body t are, no_dollar t are, ap (λ v. 34 ∷ v) (quote_take t rest));
+  spelled = (34, inl refl, simple_body t are, ap (λ v. 34 ∷ v) (quote_take t rest));
 }
   where
     some : (m : ℕ) → suc m ≤ length (34 ∷ t ++ 34 ∷ rest) → m ≤ length (t ++ 34 ∷ rest)
@@ -153,11 +148,11 @@ quoted t rest are = record {
     longest : (m : ℕ) (y : Lexeme) → m ≤ length (34 ∷ t ++ 34 ∷ rest) → Spells (take m (34 ∷ t ++ 34 ∷ rest)) y → m ≤ suc (suc (length t))
     longest zero y h s = omega arith
     longest (suc m) (AWord w) h s = absurd (true≢false (sym (subst (λ v. All (λ x. IsTrue (is_word_byte x)) v) (sym s.0) s.2 0 0 (omega arith))))
-    longest (suc m) (AQuoted u) h s = let q_is : 34 ≡ s.0 = ap (λ v. slice_index v 0) s.4 in
+    longest (suc m) (AQuoted u) h s = let q_is : 34 ≡ s.0 = ap (λ v. slice_index v 0) s.3 in
         omega (
           arith,
           ends_at_quote t u rest m (simple_body t are) (some m h) (subst (λ q. IsQuotedBody q u) (sym q_is) s.2)
-              (subst (λ q. take m (t ++ 34 ∷ rest) ≡ u ++ q ∷ []) (sym q_is) (ap (drop 1) s.4)) are,
+              (subst (λ q. take m (t ++ 34 ∷ rest) ≡ u ++ q ∷ []) (sym q_is) (ap (drop 1) s.3)) are,
         )
     longest (suc m) (AnOp o) h s = absurd (no_op o s)
       where

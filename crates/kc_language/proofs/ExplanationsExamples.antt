@@ -71,9 +71,9 @@ abbrev given : List (Option StreamLocation)
 given = None ∷ Some (record { stream = codes ".config"; number = 2 }) ∷ Some (record { stream = codes ".config"; number = 1 }) ∷ []
 
 abbrev input : UserInput
-input = record { places = solution.places; lines = given; refused = []; all_taken = true; gone = None }
+input = record { places = solution.places; lines = given; refused = []; all_taken = true; gone = None; asks_unset = false; lead = [] }
 
-explanation_of_B : explanation_text lines solution input [] 1 (symbol 1) ≡
+explanation_of_B : explanation_text lines solution input false [] 1 (symbol 1) ≡
     codes "B=10 (int): default, moved into its range\n"
     ++ codes "  K:5: dependencies: y\n"
     ++ codes "    K:4: if A: y\n"

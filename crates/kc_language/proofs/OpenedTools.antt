@@ -5,7 +5,7 @@ use Rattle.std.proofs.lemmas.Slice.Eq.{bytes_eq-Decides}
 use Rattle.std.specs.List.{list_all, list_any}
 use Rattle.std.specs.Map.{lookup}
 use Rattle.std.specs.Prelude.{Bool, Err, List, None, Ok, Option, Result, Some, [], bytes_eq, codes, drop, false, if◌then◌else◌, is_some, length, not, suc, slice_index, take, true, zero, ℕ, ◌&&◌, ◌++◌, ◌-◌, ◌==◌, ◌||◌, ◌∷◌}
-use Rattle.kc_language.specs.Expansion.{FileContext, Files, Log, NextLine, NextStatement, Refused, Rest, at_end, blank, source, statement, without_help}
+use Rattle.kc_language.specs.Expansion.{FileContext, Files, Log, NextLine, NextStatement, Refused, Rest, at_end, blank, moved, renumbered, source, statement, without_help}
 use Rattle.kc_language.specs.Expressions.{Disjunction, if_word}
 use Rattle.kc_language.specs.Lines.{AreJoined, Physical, UnreadLines, after_help, after_text, column, continues, from_other, is_help_line, joined_text}
 use Rattle.kc_language.specs.Statements.{After, Cause, ChoiceLine, CommentLine, ConfigLine, DefLine, DefaultLine, DependsLine, IfLine, IgnoredLine, ImplyLine, InputPrompt, LineContext, Located, MainMenuLine, MenuLine, ModulesLine, Named, PromptLine, RangeLine, ReadsLine, ReadsCondition, ReadsPrompt, ReadsRest, ReadsWhole, ReadsTextLine, SelectLine, SourceLine, TypeLine, VisibleLine, begins_with, finish, is_good_name, keyword_of, keyword_words, named_target, operand_of, option_line, placement_cause, text_of, word_of}
@@ -251,17 +251,17 @@ help_keeps : (b : Bool) (l m : UnreadLines) → list_all opens_none l.lines ≡ 
 help_keeps true l m e is = ap (λ x. list_all opens_none x.lines) is ∙ all_help opens_none l.lines e
 help_keeps false l m e is = ap (λ x. list_all opens_none x.lines) is ∙ e
 
-line_keeps : {l m : UnreadLines} {ts : List Lexeme} {o : Option TextFault} → NextLine l m ts o → list_all opens_none l.lines ≡ true →
+line_keeps : {flat : Bool} {l m : UnreadLines} {ts : List Lexeme} {o : Option TextFault} → NextLine flat l m ts o → list_all opens_none l.lines ≡ true →
     list_all opens_none m.lines ≡ true
 line_keeps {m = m} {ts = ts} next e = let front = next.taken.0 in let first = next.taken.1 in
     help_keeps (begins_with (codes "help") ts || begins_with (codes "---help---") ts) next.middle m
     (all_after opens_none front next.middle.lines (ap (list_all opens_none) (sym first.split) ∙ e)) next.left_after
 
-no_source : {l m : UnreadLines} {c : LineContext} {name : List ℕ} → NextStatement l m c (Ok (SourceLine name)) →
+no_source : {flat : Bool} {l m : UnreadLines} {c : LineContext} {name : List ℕ} → NextStatement flat l m c (Ok (SourceLine name)) →
     list_all opens_none l.lines ≡ true → ⊥
 no_source {c = c} {name = name} next e = let line = next.next in
     one_text line.taken.0 line.middle.lines line.taken.1.joined (ap (list_all opens_none) (sym line.taken.1.split) ∙ e)
-    (ap first_byte (sym line.taken.2) ∙ lead_is line.cut (reads_source name c next.tokens next.reads))
+    (ap first_byte (sym line.taken.2) ∙ lead_is line.cut.cut (reads_source name c next.tokens next.reads))
 
 -- The files that are opened up to the end of the file, by induction on how it is read.
 opened_in : List (List ℕ) → Result Log Refused → List (List ℕ)
@@ -269,16 +269,18 @@ opened_in names (Ok log) = log.opened
 opened_in names (Err r) = names
 
 opened_stay : {files : Files} {a : FileContext} {l : UnreadLines} {own : List (Located Named)} {log : Log} {r : Result Log Refused} →
-    Rest files a l own log r → list_all opens_none l.lines ≡ true → opened_in log.opened r ≡ log.opened
+    files.flat ≡ false → Rest files a l own log r → list_all opens_none l.lines ≡ true → opened_in log.opened r ≡ log.opened
 unfolding opened_in
-opened_stay (at_end _ _ _ _ _ _) e = refl
-opened_stay (blank _ _ _ _ _ _ next rest) e = opened_stay rest (line_keeps next e)
-opened_stay (statement _ _ _ _ _ _ _ next _ _ rest) e = opened_stay rest (line_keeps next.next e)
-opened_stay (source _ _ _ _ _ _ _ _ _ next _ _ _ _) e = absurd (no_source next e)
-opened_stay _ e = refl
+opened_stay f (at_end _ _ _ _ _ _) e = refl
+opened_stay f (blank _ _ _ _ _ _ next rest) e = opened_stay f rest (line_keeps next.0 e)
+opened_stay f (renumbered _ _ _ _ _ _ _ marks _) e = absurd (true≢false (sym marks.1 ∙ f))
+opened_stay f (moved _ _ _ _ _ _ _ _ marks _ _) e = absurd (true≢false (sym marks.1 ∙ f))
+opened_stay f (statement _ _ _ _ _ _ _ next _ _ rest) e = opened_stay f rest (line_keeps next.next e)
+opened_stay f (source _ _ _ _ _ _ _ _ _ next _ _ _ _) e = absurd (no_source next e)
+opened_stay f _ e = refl
 
--- A file with only such lines opens no other file.
+-- A file with only such lines that is not flat opens no other file.
 pub opens_no_other : {files : Files} {a : FileContext} {l : UnreadLines} {own : List (Located Named)} {log result : Log} →
-    Rest files a l own log (Ok result) → list_all opens_none l.lines ≡ true → log.opened ≡ result.opened
+    files.flat ≡ false → Rest files a l own log (Ok result) → list_all opens_none l.lines ≡ true → log.opened ≡ result.opened
 unfolding opened_in
-opens_no_other rest e = sym (opened_stay rest e)
+opens_no_other f rest e = sym (opened_stay f rest e)

@@ -1,12 +1,11 @@
 -- Examples for the chapter Outcome: a dependency file, and a whole run from the bytes of its input to the texts that it writes.
 use Rattle.std.proofs.Common.{◌≡◌, refl, sym, ◌∙◌, ap, subst, arith, inl, inr, ◌≤◌, ◌+◌, suc, zero}
 use Rattle.std.proofs.lemmas.List.{append-nil}
-use Rattle.std.specs.List.{list_all}
+use Rattle.std.specs.List.{list_all, list_any}
 use Rattle.std.specs.Prelude.{List, None, Ok, Option, Some, [], codes, false, find, if◌then◌else◌, is_some, not, String, length, map, min, string_bytes, take, true, ℕ, ◌++◌, ◌-◌, ◌^◌, ◌||◌, ◌∷◌}
 use Rattle.std.specs.Fmt.{digits}
 use Rattle.std.specs.declared.alloc.Global.{Global}
-use Rattle.kc_language.specs.ConfigFile.{ReadResult, effect, gone_after, lines_after, lines_from, no_input, place_at, places_given, reading, reading_of, refused_after, untaken, untaken_line, warning, warnings}
-use Rattle.kc_language.specs.Expansion.{AreOpened, Expands, FileContext, Files, Log, NextStatement, Rest, at_end, bytes_in, numbered_lines, statement, with_file, without_help}
+use Rattle.kc_language.specs.{ConfigFile.{Notation, ReadResult, effect, gone_after, lines_after, lines_from, no_input, place_at, places_given, reading, reading_of, refused_after, untaken, untaken_line, warning, warnings}, Expansion.{AreOpened, Expands, FileContext, Files, Log, NextStatement, Rest, at_end, bytes_in, first_log, numbered_lines, statement, without_help}}
 use Rattle.kc_language.specs.Expressions.{Atom, Disjunction, OperandToken, QuotedAtom, Single, Symbol, Text, TextValue, Truth, WordAtom, conjunction, lone, negation, only, symbol, terminal_of}
 use Rattle.kc_language.specs.Explanations.{asked_symbol}
 use Rattle.kc_language.specs.Lines.{Physical, UnreadLines, continues, joined_text, physical_lines, unread_lines}
@@ -16,7 +15,7 @@ use Rattle.kc_language.specs.Statements.{ConfigLine, DefaultLine, LineContext, L
 use Rattle.kc_language.specs.Symbols.{IsTreeOf, SymbolShown, TreeFacts}
 use Rattle.kc_language.specs.Text.{longest_line, natural_of, unescape}
 use Rattle.kc_language.specs.Texts.{IsSolution, Solution, config_text, header_text, minimal_text, value_of}
-use Rattle.kc_language.specs.Tokens.{AQuoted, AWord, IsCut, Lexeme, ended, is_word_byte, skipped, taken}
+use Rattle.kc_language.specs.Tokens.{AQuoted, AWord, IsCut, Lexeme, ended, is_macro, is_word_byte, skipped, taken}
 use Rattle.kc_language.specs.Values.{GivenTruth, IsOnlySolution, Solves, equations, rhs}
 use Rattle.kc_language.specs.declared.diagnostics.RunError.{RunError}
 use Rattle.kc_language.specs.declared.expressions.SymbolType.{SymbolType}
@@ -24,6 +23,7 @@ use Rattle.kc_language.specs.declared.statements.Keyword.TheVariants as key
 use Rattle.kc_language.specs.declared.expressions.SymbolType.TheVariants.{Bool as IsBool, Int}
 use Rattle.kc_language.specs.declared.expressions.Tri.TheVariants.{Y}
 use Rattle.kc_language.specs.declared.outcome.Status.TheVariants.{Done}
+use Rattle.kc_language.specs.declared.tokens.TextFault.TheVariants.{Macro}
 use Rattle.kc_language.proofs.ExampleTools.{one_line, quoted, word}
 use Rattle.kc_language.proofs.OpenedTools.{opens_no_other}
 use Rattle.kc_language.proofs.ValuesExamples.{always, plain}
@@ -58,7 +58,7 @@ abbrev root_text : List ℕ
 root_text = codes "config A\n\tbool \"a\"\nconfig B\n\tbool\n\tdefault A\nconfig C\n\tint \"c\"\n\tdefault \"7\"\n"
 
 abbrev files : Files
-files = bytes_in ((codes "Kconfig", root_text) ∷ [])
+files = record { bytes = bytes_in ((codes "Kconfig", root_text) ∷ []); flat = false }
 
 -- The `.config` that is read. Its second line names no symbol of the tree.
 abbrev old_config : List ℕ
@@ -75,10 +75,10 @@ unread n rows = record { lines = rows; number = n; refusal = None }
 
 -- A line that does not continue on the next one, and is no help line, reads as its tokens do.
 next_line : (text : List ℕ) (more : List Physical) (n : ℕ) (t : Lexeme) (ts : List Lexeme) (c : LineContext) (s : Named) →
-    continues (row text) ≡ false → length text ≤ longest_line → IsCut text (t ∷ ts) None →
+    continues (row text) ≡ false → length text ≤ longest_line → IsCut text (t ∷ ts) None → list_any is_macro (t ∷ ts) ≡ false →
     (begins_with (codes "help") (t ∷ ts) || begins_with (codes "---help---") (t ∷ ts)) ≡ false → ReadsLine c (t ∷ ts) (Ok s) →
-    NextStatement (unread n (row text ∷ more)) (unread (min (n + 1) (2 ^ 32 - 1)) more) c (Ok s)
-next_line text more n t ts c s ends short cut no_help reads = record {
+    NextStatement false (unread n (row text ∷ more)) (unread (min (n + 1) (2 ^ 32 - 1)) more) c (Ok s)
+next_line text more n t ts c s ends short cut no_macro no_help reads = record {
   tokens = t ∷ ts;
   some = λ e. omega (arith, ap length e);
   reads = reads;
@@ -86,7 +86,7 @@ next_line text more n t ts c s ends short cut no_help reads = record {
     middle = middle;
     text = text;
     taken = (row text ∷ [], one_line (row text) more ends, joined, short, refl, refl);
-    cut = cut;
+    cut = record { stop = None; cut = cut; out_is = sym (ap (λ b. if b then Some Macro else None) no_macro) };
     left_after = sym (ap (λ b. if b then without_help middle else middle) no_help);
   };
 }
@@ -165,15 +165,15 @@ at_root = record { open_files = codes "Kconfig" ∷ []; file = codes "Kconfig"; 
 
 rest_is_read : Rest files at_root (unread 1 rows) [] (log_of []) (Ok (log_of read_statements))
 rest_is_read =
-    statement _ _ _ _ _ _ _ (next_line (codes "config A") _ _ _ _ _ _ refl (omega arith) (cut_config 65 refl) refl refl) refl refl (
-    statement _ _ _ _ _ _ _ (next_line (codes "\tbool \"a\"") _ _ _ _ _ _ refl (omega arith) cut_bool_prompt refl (reads_prompt _ _)) refl refl (
-    statement _ _ _ _ _ _ _ (next_line (codes "config B") _ _ _ _ _ _ refl (omega arith) (cut_config 66 refl) refl refl) refl refl (
-    statement _ _ _ _ _ _ _ (next_line (codes "\tbool") _ _ _ _ _ _ refl (omega arith) cut_bool refl (inl (refl, refl))) refl refl (
-    statement _ _ _ _ _ _ _ (next_line (codes "\tdefault A") _ _ _ _ _ _ refl (omega arith) cut_default_word refl
+    statement _ _ _ _ _ _ _ (next_line (codes "config A") _ _ _ _ _ _ refl (omega arith) (cut_config 65 refl) refl refl refl) refl refl (
+    statement _ _ _ _ _ _ _ (next_line (codes "\tbool \"a\"") _ _ _ _ _ _ refl (omega arith) cut_bool_prompt refl refl (reads_prompt _ _)) refl refl (
+    statement _ _ _ _ _ _ _ (next_line (codes "config B") _ _ _ _ _ _ refl (omega arith) (cut_config 66 refl) refl refl refl) refl refl (
+    statement _ _ _ _ _ _ _ (next_line (codes "\tbool") _ _ _ _ _ _ refl (omega arith) cut_bool refl refl (inl (refl, refl))) refl refl (
+    statement _ _ _ _ _ _ _ (next_line (codes "\tdefault A") _ _ _ _ _ _ refl (omega arith) cut_default_word refl refl
     (reads_operand _ _ refl)) refl refl (
-    statement _ _ _ _ _ _ _ (next_line (codes "config C") _ _ _ _ _ _ refl (omega arith) (cut_config 67 refl) refl refl) refl refl (
-    statement _ _ _ _ _ _ _ (next_line (codes "\tint \"c\"") _ _ _ _ _ _ refl (omega arith) cut_int_prompt refl (reads_prompt _ _)) refl refl (
-    statement _ _ _ _ _ _ _ (next_line (codes "\tdefault \"7\"") _ _ _ _ _ _ refl (omega arith) cut_default_text refl
+    statement _ _ _ _ _ _ _ (next_line (codes "config C") _ _ _ _ _ _ refl (omega arith) (cut_config 67 refl) refl refl refl) refl refl (
+    statement _ _ _ _ _ _ _ (next_line (codes "\tint \"c\"") _ _ _ _ _ _ refl (omega arith) cut_int_prompt refl refl (reads_prompt _ _)) refl refl (
+    statement _ _ _ _ _ _ _ (next_line (codes "\tdefault \"7\"") _ _ _ _ _ _ refl (omega arith) cut_default_text refl refl
     (reads_operand _ _ refl)) refl refl (
     at_end _ _ _ _ refl refl))))))))
 
@@ -185,16 +185,16 @@ root_expands = (root_text, refl, rest_is_read)
 -- It has no `source` line, so it is the only file that is opened.
 only_root_opened : AreOpened files (codes "Kconfig") (codes "Kconfig" ∷ [])
 unfolding physical_lines
-only_root_opened log expands = opens_no_other (subst (λ text. rest_of text) (same_text expands.1) expands.2) refl
+only_root_opened log expands = opens_no_other refl (subst (λ text. rest_of text) (same_text expands.1) expands.2) refl
   where
     rest_of : List ℕ → Type 0
-    rest_of text = Rest files at_root (unread_lines text 1) [] (with_file (record { lines = []; total_lines = 0; opened = [] }) (codes "Kconfig") text) (Ok log)
+    rest_of text = Rest files at_root (unread_lines text 1) [] (first_log files (codes "Kconfig") text) (Ok log)
 
     text_of : Option (List ℕ) → List ℕ
     text_of None = []
     text_of (Some text) = text
 
-    same_text : {bytes : List ℕ} → files (codes "Kconfig") ≡ Some bytes → bytes ≡ root_text
+    same_text : {bytes : List ℕ} → files.bytes (codes "Kconfig") ≡ Some bytes → bytes ≡ root_text
     same_text e = sym (ap text_of e)
 
 -- ---- From the statements to the tree
@@ -230,13 +230,17 @@ tree_is_accepted (suc (suc (suc s))) h = absurd (omega (arith, h))
 -- Reading the `.config` gives A the value y, and one warning.
 abbrev read : ReadResult
 read = record {
-  input = record { places = record { symbols = Some (GivenTruth Y) ∷ None ∷ None ∷ []; choices = [] }; lines = []; refused = []; all_taken = false; gone = None };
+  input = record { places = record { symbols = Some (GivenTruth Y) ∷ None ∷ None ∷ []; choices = [] }; lines = []; refused = []; all_taken = false; gone = None; asks_unset = false; lead = [] };
   warned = codes ".config:2: warning K7: unknown symbol D\n";
   stopped = None;
 }
 
+-- The names have the prefix CONFIG_, and strings have escapes.
+abbrev plain_notation : Notation
+plain_notation = record { prefix = codes "CONFIG_"; is_raw = false }
+
 config_is_read :
-    reading_of tree (codes "CONFIG_") (no_input false tree) (record { name = codes ".config"; bytes = old_config } ∷ []) ≡ read
+    reading_of tree plain_notation (no_input false tree) (record { name = codes ".config"; bytes = old_config } ∷ []) ≡ read
 unfolding reading warnings warning untaken untaken_line lines_after refused_after gone_after places_given effect lines_from digits
 config_is_read = refl
 
@@ -268,7 +272,7 @@ module _ (any : Options) (out header minimal : String Global) (root_is : string_
     (config_is : string_bytes any.config ≡ codes ".config") (no_fragments : any.fragments.items ≡ []) (no_names : any.explain.items ≡ []) where
   abbrev options : Options
   options = record any {
-    prefix = codes "CONFIG_";
+    prefix = plain_notation;
     out = Some out;
     header = Some header;
     minimal = Some minimal;
@@ -303,9 +307,9 @@ module _ (any : Options) (out header minimal : String Global) (root_is : string_
   -- The `.config` is the only input file.
   input_is_read : read_of options tree (old_config ∷ []) ≡ read
   input_is_read =
-      ap (λ items. reading_of tree (codes "CONFIG_") (no_input false tree)
+      ap (λ items. reading_of tree plain_notation (no_input false tree)
       (streams (string_bytes any.config ∷ map (λ name. [] ++ string_bytes name) items) (old_config ∷ []))) no_fragments
-      ∙ ap (λ name. reading_of tree (codes "CONFIG_") (no_input false tree) (record { name = name; bytes = old_config } ∷ [])) config_is
+      ∙ ap (λ name. reading_of tree plain_notation (no_input false tree) (record { name = name; bytes = old_config } ∷ [])) config_is
       ∙ config_is_read
 
   -- From the reading to the outcome.

@@ -1,11 +1,16 @@
--- Trusted: 10. ConfigFile: what reading a `.config` and its fragments gives: the user's values, and the warnings K7 to K10 and K15.
+-- Trusted: 10. ConfigFile: what reading a `.config` and its fragments gives: the user's values, and the warnings K7 to K10, K15 and K16.
 -- Source: our own, in the manner of the kernel's `conf` and kconfiglib (docs/language.md, "The `.config` file"). The result is `reading_of`, at the end.
-use Rattle.std.specs.{Char.is_ascii_digit, List.{enumerate_from, last_or, list_all, list_any, position_or_len, slice_split, suffix_len}, Option.option_map_or, Str.Lines.strip_carriage_return, Prelude.{Bool, List, None, Option, Some, [], bytes_eq, codes, drop, false, filter_map, find, flat_map, if◌then◌else◌, is_some, length, min, nat_le, nat_lt, not, option_and_then, option_map, position, replicate, slice_index, slice_index_or, take, take_while, true, ℕ, ◌&&◌, ◌++◌, ◌+◌, ◌-◌, ◌==◌, ◌^◌, ◌∷◌, ◌≡◌}}
-use Rattle.kc_language.specs.{Expressions.{is_name_byte, same_name, symbol, tri_text}, Lines.is_line_feed, Symbols.{TreeFacts, Warning, located_warning}, Text.{byte, escape, hex_of, int_of, longest_input_line, longest_prefix, longest_value, unescape}, Tokens.is_blank, Values.{ChoicePlace, GivenText, GivenTruth, GivenValue, Member, SymbolPlace, UserPlace, facts, is_yes, name, same_given, type_in}, declared.{diagnostics.Warning.TheVariants.{Changed, MalformedLine, NotAllowed, SetAgain, UnknownSymbol}, expressions.{SymId.SymId, SymbolType.{SymbolType, TheVariants.{Bool as IsBool, Hex, Int, Str, Tristate, Undefined}}, Tri.{TheVariants.{M, N, Y}, Tri}}}}
+use Rattle.std.specs.{Char.is_ascii_digit, List.{enumerate_from, last_or, list_all, list_any, position_or_len, slice_split, suffix_len}, Option.option_map_or, Str.Lines.strip_carriage_return, Prelude.{Bool, List, None, Option, Some, [], bytes_eq, codes, drop, false, filter_map, find, flat_map, if◌then◌else◌, is_some, length, min, nat_le, nat_lt, not, option_and_then, option_map, position, replicate, slice_index, slice_index_or, take, take_while, true, unwrap_or, ℕ, ◌&&◌, ◌++◌, ◌+◌, ◌-◌, ◌==◌, ◌^◌, ◌∷◌, ◌≡◌}}
+use Rattle.kc_language.specs.{Expressions.{is_name_byte, same_name, symbol, tri_text}, Lines.is_line_feed, Symbols.{TreeFacts, Warning, located_warning}, Text.{byte, escape, hex_of, int_of, longest_input_line, longest_prefix, longest_value, unescape}, Tokens.is_blank, Values.{ChoicePlace, GivenText, GivenTruth, GivenValue, Member, SymbolPlace, UserPlace, facts, is_yes, name, same_given, type_in}, declared.{diagnostics.Warning.TheVariants.{Changed, MalformedLine, NotAllowed, SetAgain, TextUnset, UnknownSymbol}, expressions.{SymId.SymId, SymbolType.{SymbolType, TheVariants.{Bool as IsBool, Hex, Int, Str, Tristate, Undefined}}, Tri.{TheVariants.{M, N, Y}, Tri}}}}
 
 -- A prefix, such as `CONFIG_`: at most 64 bytes that may stand in a name. The first is no digit.
 abbrev pub is_prefix : List ℕ → Bool
 is_prefix text = not (is_ascii_digit (slice_index text 0)) && (nat_le (length text) longest_prefix && list_all is_name_byte text)
+
+-- How files write names and strings: the prefix of names, and whether strings are raw, that is without escapes.
+pub record Notation : Type 0 where
+  pub prefix : List ℕ
+  pub is_raw : Bool
 
 -- A line says nothing, that a symbol is not set, or that a symbol has the value right of the first `=`; or it is malformed (K9).
 pub data LineMeaning : Type 0 where
@@ -49,17 +54,26 @@ until_quote (b ∷ c ∷ bs) =
     if b == byte "\"" then Some [] else if b == byte "\\" then option_map (λ more. b ∷ c ∷ more) (until_quote bs)
     else option_map (λ more. b ∷ more) (until_quote (c ∷ bs))
 
--- The value that the text right of `=` gives a symbol of this type. A bool or tristate reads the first byte alone, a string up to its closing `"`.
+-- The text of a string in quotes, up to its closing `"`, where `\c` is c. A raw string has no escapes: it is all bytes between the first and the last,
+-- which are a `"` each. The limit of a string's value holds for it with escapes, however a file writes it.
+abbrev pub escaped_string : List ℕ → Option (List ℕ)
+escaped_string text = option_map unescape (if slice_index text 0 == byte "\"" then until_quote (drop 1 text) else None)
+
+abbrev pub raw_string : List ℕ → Option (List ℕ)
+raw_string text = option_and_then (λ t. if nat_le (length (escape t) + 2) longest_value then Some t else None)
+    (option_and_then (without_suffix (codes "\"")) (without_prefix (codes "\"") text))
+
+-- The value that the text right of `=` gives a symbol of this type. A bool or tristate reads the first byte alone.
 abbrev pub yes_or_no : ℕ → Option Tri
 yes_or_no b = if b == byte "y" then Some Y else if b == byte "n" then Some N else None
 
-abbrev pub value_by : SymbolType → List ℕ → Option GivenValue
-value_by Undefined text = None
-value_by IsBool text = option_map GivenTruth (yes_or_no (slice_index text 0))
-value_by Tristate text = option_map GivenTruth (let b = slice_index text 0 in if b == byte "m" then Some M else yes_or_no b)
-value_by Str text = option_map (λ t. GivenText (unescape t)) (if slice_index text 0 == byte "\"" then until_quote (drop 1 text) else None)
-value_by Int text = if is_some (int_of text) then Some (GivenText text) else None
-value_by Hex text = if is_some (hex_of text) then Some (GivenText text) else None
+abbrev pub value_by : Bool → SymbolType → List ℕ → Option GivenValue
+value_by is_raw Undefined text = None
+value_by is_raw IsBool text = option_map GivenTruth (yes_or_no (slice_index text 0))
+value_by is_raw Tristate text = option_map GivenTruth (let b = slice_index text 0 in if b == byte "m" then Some M else yes_or_no b)
+value_by is_raw Str text = option_map GivenText (if is_raw then raw_string text else escaped_string text)
+value_by is_raw Int text = if is_some (int_of text) then Some (GivenText text) else None
+value_by is_raw Hex text = if is_some (hex_of text) then Some (GivenText text) else None
 
 -- What a line does: nothing, a warning, or a value for a symbol.
 pub data Effect : Type 0 where
@@ -67,32 +81,32 @@ pub data Effect : Type 0 where
   Warns : Warning → Effect
   Assigns : SymId → GivenValue → Effect
 
--- A set line gives its value, an unset line a bool or tristate n. K7: no symbol of this name has a type. K8: the value is too long or not allowed.
-abbrev pub set_by_type : List ℕ → SymId → List ℕ → SymbolType → Effect
-set_by_type called s text Undefined = Warns (UnknownSymbol called)
-set_by_type called s text kind =
-    elim (if nat_le (length text) longest_value then value_by kind text else None) [ None ↦ Warns (NotAllowed called) | Some given ↦ Assigns s given ]
+-- A set line gives its value, an unset line n. K7: no symbol of this name has a type. K8: the value is not allowed. K16: the unset line has no effect.
+abbrev pub set_by_type : Bool → List ℕ → SymId → List ℕ → SymbolType → Effect
+set_by_type is_raw called s text Undefined = Warns (UnknownSymbol called)
+set_by_type is_raw called s text kind =
+    elim (if nat_le (length text) longest_value then value_by is_raw kind text else None) [ None ↦ Warns (NotAllowed called) | Some given ↦ Assigns s given ]
 
 abbrev pub unset_by_type : List ℕ → SymId → SymbolType → Effect
 unset_by_type called s Undefined = Warns (UnknownSymbol called)
-unset_by_type called s kind = elim kind [ IsBool ↦ Assigns s (GivenTruth N) | Tristate ↦ Assigns s (GivenTruth N) | _ ↦ Silent ]
+unset_by_type called s kind = elim kind [ IsBool ↦ Assigns s (GivenTruth N) | Tristate ↦ Assigns s (GivenTruth N) | _ ↦ Warns (TextUnset called) ]
 
 abbrev pub symbol_named : TreeFacts → List ℕ → Option SymId
 symbol_named tree called = option_map symbol (position (same_name called) tree.names)
 
-abbrev pub effect_of : TreeFacts → LineMeaning → Effect
-effect_of tree Nothing = Silent
-effect_of tree (Unset called) =
+abbrev pub effect_of : Bool → TreeFacts → LineMeaning → Effect
+effect_of is_raw tree Nothing = Silent
+effect_of is_raw tree (Unset called) =
     elim (symbol_named tree called) [ None ↦ Warns (UnknownSymbol called) | Some s ↦ unset_by_type called s (type_in (facts tree s)) ]
-effect_of tree (Set called text) =
-    elim (symbol_named tree called) [ None ↦ Warns (UnknownSymbol called) | Some s ↦ set_by_type called s text (type_in (facts tree s)) ]
-effect_of tree Malformed = Warns MalformedLine
+effect_of is_raw tree (Set called text) =
+    elim (symbol_named tree called) [ None ↦ Warns (UnknownSymbol called) | Some s ↦ set_by_type is_raw called s text (type_in (facts tree s)) ]
+effect_of is_raw tree Malformed = Warns MalformedLine
 
 -- The symbol to which a line gives a value that is not allowed (K8), if the line does so.
 abbrev pub not_allowed : TreeFacts → Effect → Option SymId
 not_allowed tree e = elim e [ Warns w ↦ elim w [ NotAllowed called ↦ symbol_named tree called | _ ↦ None ] | _ ↦ None ]
 
--- A line is gone if no symbol of the tree has its name (K7). It is on unless it is an unset line or its value is n. Last, its text with a line feed.
+-- A line is gone if its name is that of no symbol with a type (K7). It is on unless it is an unset line or its value is n. Last, its text with a line feed.
 abbrev pub is_gone : Effect → Bool
 is_gone e = elim e [ Warns w ↦ elim w [ UnknownSymbol called ↦ true | _ ↦ false ] | _ ↦ false ]
 
@@ -172,15 +186,17 @@ places_given tree places given = record {
       then Some a.symbol else None) given)) 0 places.choices;
 }
 
--- What files gave so far: values, the line that gave each last, and the last line whose value for it was not allowed (K8). The lists of lines are
--- empty without --warn-lost. And whether all lines were taken as written.
--- With --list-gone also the texts of the gone lines: of those that are on, and of the others.
+-- What files gave so far: values, with --warn-lost the line that gave each last and the last whose value was not allowed (K8), and whether all lines
+-- were taken as written. With --list-gone the texts of the gone lines, those that are on first. Whether K16 is asked for. And what the names of
+-- fragments begin with: with --each the configuration.
 pub record UserInput : Type 0 where
   pub places : Places
   pub lines : List (Option StreamLocation)
   pub refused : List (Option StreamLocation)
   pub all_taken : Bool
   pub gone : Option (List ℕ × List ℕ)
+  pub asks_unset : Bool
+  pub lead : List ℕ
 
 abbrev pub no_input : Bool → TreeFacts → UserInput
 no_input keeps_lines tree = record {
@@ -189,37 +205,53 @@ no_input keeps_lines tree = record {
   refused = if keeps_lines then replicate (length tree.symbols) None else [];
   all_taken = true;
   gone = None;
+  asks_unset = false;
+  lead = [];
 }
 
--- A line is taken as written: it causes no warning, or only K10 with the value that the symbol already has.
+-- Where a line stands, without the configuration: within a text that begins with the configuration.
+abbrev pub plain_location : List ℕ → StreamLocation → StreamLocation
+plain_location lead at = record at { stream = unwrap_or (without_prefix lead at.stream) at.stream }
+
+abbrev pub plain_line : UserInput → List (Option StreamLocation) → SymId → Option StreamLocation
+plain_line input lines s = option_map (plain_location input.lead) (slice_index_or lines s.0 None)
+
+-- K16 is reported only if it is asked for. Any other warning of a line always is.
+abbrev pub is_reported : Bool → Warning → Bool
+is_reported asked w = elim w [ TextUnset called ↦ asked | _ ↦ true ]
+
+-- A line is taken as written: no warning of it is reported, or only K10 with the value that the symbol already has.
 abbrev pub is_change : Option GivenValue → GivenValue → Bool
 is_change None given = false
 is_change (Some old) given = not (same_given old given)
 
-abbrev pub is_taken : Places → Effect → Bool
-is_taken places e = elim e [ Silent ↦ true | Warns w ↦ false | Assigns s given ↦ not (is_change (place_at places (SymbolPlace s.0)) given) ]
+abbrev pub is_taken : Bool → Places → Effect → Bool
+is_taken asked places e = elim e [ Silent ↦ true | Warns w ↦ not (is_reported asked w) | Assigns s given ↦ not (is_change (place_at places (SymbolPlace s.0)) given) ]
 
--- A value as a .config writes it: a string in quotes, a number as it is.
-abbrev pub text_in_config : SymbolType → List ℕ → List ℕ
-text_in_config kind = elim kind [ Str ↦ λ text. codes "\"" ++ escape text ++ codes "\"" | _ ↦ λ text. text ]
+-- A value as a .config writes it: a string in quotes, raw or with a `\` before each `"` and `\`; a number as it is.
+abbrev pub string_text : Bool → List ℕ → List ℕ
+string_text is_raw text = codes "\"" ++ (if is_raw then text else escape text) ++ codes "\""
 
-abbrev pub value_text : SymbolType → GivenValue → List ℕ
-value_text kind given = elim given [ GivenTruth t ↦ tri_text t | GivenText text ↦ text_in_config kind text | Member m ↦ [] ]
+abbrev pub text_in_config : Bool → SymbolType → List ℕ → List ℕ
+text_in_config is_raw kind = elim kind [ Str ↦ string_text is_raw | _ ↦ λ text. text ]
 
--- The warning K7, K8 or K9 of a line; or K10, if the symbol has a value already.
-abbrev pub effect_warning : TreeFacts → Places → Effect → Option Warning
-effect_warning tree places e =
-    elim e [ Silent ↦ None | Warns w ↦ Some w | Assigns s given ↦ if is_some (place_at places (SymbolPlace s.0)) then Some (SetAgain (name tree s)) else None ]
+abbrev pub value_text : Bool → SymbolType → GivenValue → List ℕ
+value_text is_raw kind given = elim given [ GivenTruth t ↦ tri_text t | GivenText text ↦ text_in_config is_raw kind text | Member m ↦ [] ]
+
+-- The warning K7, K8, K9 or K16 of a line, if it is reported; or K10, if the symbol has a value already.
+abbrev pub effect_warning : Bool → TreeFacts → Places → Effect → Option Warning
+effect_warning asked tree places e =
+    elim e [ Silent ↦ None | Warns w ↦ if is_reported asked w then Some w else None | Assigns s given ↦ if is_some (place_at places (SymbolPlace s.0)) then Some (SetAgain (name tree s)) else None ]
 
 -- The line of a warning. K15: a line gives the symbol another value than an earlier line, if that line is known.
 abbrev pub warning_line : List ℕ → ℕ → Warning → List ℕ
 warning_line stream number w = located_warning stream number w ++ codes "\n"
 
-abbrev pub change_text : StreamLocation → List ℕ → SymbolType → Option GivenValue → Option StreamLocation → GivenValue → List ℕ
-change_text at called kind (Some old) (Some from) given =
+abbrev pub change_text : Bool → StreamLocation → List ℕ → SymbolType → Option GivenValue → Option StreamLocation → GivenValue → List ℕ
+change_text is_raw at called kind (Some old) (Some from) given =
     if same_given old given then []
-    else warning_line at.stream at.number (Changed called (value_text kind old) from.stream from.number (value_text kind given))
-change_text at called kind _ _ given = []
+    else warning_line at.stream at.number (Changed called (value_text is_raw kind old) from.stream from.number (value_text is_raw kind given))
+change_text is_raw at called kind _ _ given = []
 
 -- What a reading gives: the user's input, the lines of diagnostics, and the line that stopped it because it is too long.
 pub record ReadResult : Type 0 where
@@ -227,13 +259,13 @@ pub record ReadResult : Type 0 where
   pub warned : List ℕ
   pub stopped : Option StreamLocation
 
-module _ (tree : TreeFacts) (prefix : List ℕ) where
+module _ (tree : TreeFacts) (notation : Notation) where
   -- What a line says and does. A carriage return directly before the line feed belongs to the line's end.
   abbrev pub meaning : Line → LineMeaning
-  meaning l = meaning_of prefix (if l.ended then strip_carriage_return l.bytes else l.bytes)
+  meaning l = meaning_of notation.prefix (if l.ended then strip_carriage_return l.bytes else l.bytes)
 
   unfoldable pub effect : Line → Effect
-  effect l = effect_of tree (meaning l)
+  effect l = effect_of notation.is_raw tree (meaning l)
 
   -- The values after these lines, and for each symbol the line that gave its value last.
   abbrev pub places_after : Places → List Line → Places
@@ -251,17 +283,17 @@ module _ (tree : TreeFacts) (prefix : List ℕ) where
 
   -- The texts of the gone lines: those of this kind, and those before and among these lines.
   abbrev pub gone_text : (LineMeaning → Bool) → List Line → List ℕ
-  gone_text is_kind lines = flat_map (λ l. if is_gone (effect l) && is_kind (meaning l) then said_line prefix (meaning l) else []) lines
+  gone_text is_kind lines = flat_map (λ l. if is_gone (effect l) && is_kind (meaning l) then said_line notation.prefix (meaning l) else []) lines
 
   unfoldable pub gone_after : Option (List ℕ × List ℕ) → List Line → Option (List ℕ × List ℕ)
   gone_after old lines = option_map (λ told. (told.0 ++ gone_text is_on lines, told.1 ++ gone_text (λ m. not (is_on m)) lines)) old
 
   -- The lines that are not taken as written. Each is judged with the values that the lines before it give.
-  unfoldable pub untaken_line : Places → Line → List Line
-  untaken_line places l = if is_taken places (effect l) then [] else l ∷ []
+  unfoldable pub untaken_line : Bool → Places → Line → List Line
+  untaken_line asked places l = if is_taken asked places (effect l) then [] else l ∷ []
 
-  unfoldable pub untaken : Places → List Line → List Line
-  untaken places lines = flat_map (λ (i, l). untaken_line (places_after places (take i lines)) l) (enumerate_from 0 lines)
+  unfoldable pub untaken : Bool → Places → List Line → List Line
+  untaken asked places lines = flat_map (λ (i, l). untaken_line asked (places_after places (take i lines)) l) (enumerate_from 0 lines)
 
   -- The user's input after these lines.
   abbrev pub input_after : UserInput → List Line → UserInput
@@ -269,17 +301,19 @@ module _ (tree : TreeFacts) (prefix : List ℕ) where
     places = places_after input.places lines;
     lines = lines_after input.lines lines;
     refused = refused_after input.refused lines;
-    all_taken = input.all_taken && (length (untaken input.places lines) == 0);
+    all_taken = input.all_taken && (length (untaken input.asks_unset input.places lines) == 0);
     gone = gone_after input.gone lines;
+    asks_unset = input.asks_unset;
+    lead = input.lead;
   }
 
   -- The diagnostics of one line and of all lines. Each is judged with the input that the lines before it give.
   unfoldable pub warning : UserInput → Line → List ℕ
   warning input l =
-      elim (effect_warning tree input.places (effect l)) [ None ↦ [] | Some w ↦ warning_line l.stream l.number w ]
+      elim (effect_warning input.asks_unset tree input.places (effect l)) [ None ↦ [] | Some w ↦ warning_line l.stream l.number w ]
       ++ elim (effect l) [
-        | Assigns s given ↦ change_text (stream_location l) (name tree s)
-            (type_in (facts tree s)) (place_at input.places (SymbolPlace s.0)) (slice_index_or input.lines s.0 None) given
+        | Assigns s given ↦ change_text notation.is_raw (stream_location l) (name tree s)
+            (type_in (facts tree s)) (place_at input.places (SymbolPlace s.0)) (plain_line input input.lines s) given
         | _ ↦ []
       ]
 
@@ -295,5 +329,5 @@ module _ (tree : TreeFacts) (prefix : List ℕ) where
   }
 
 -- What reading these input files gives, from this input on.
-abbrev pub reading_of : TreeFacts → List ℕ → UserInput → List Stream → ReadResult
-reading_of tree prefix input streams = reading tree prefix input (lines_of streams)
+abbrev pub reading_of : TreeFacts → Notation → UserInput → List Stream → ReadResult
+reading_of tree notation input streams = reading tree notation input (lines_of streams)

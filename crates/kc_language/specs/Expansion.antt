@@ -1,15 +1,20 @@
 -- Trusted: 6. Expansion: the statements of a tree of Kconfig files in the order of reading, or the first error of a line.
 -- Source: the kernel's kconfig-language document (`source`, blocks, entries). The limits are our own. Begin with `Expands` to go from whole to parts.
-use Rattle.std.specs.{List.{before_first, filter_map, flat_map, last_or, list_any, take_while}, Map.{lookup}, Prelude.{Bool, Err, List, MatchOption, None, Ok, Option, Result, Some, [], codes, drop, false, filter, if◌then◌else◌, is_some, length, map, min, nat_le, nat_lt, option_and_then, option_map, slice_get, suc, take, true, zero, ℕ, ◌&&◌, ◌++◌, ◌+◌, ◌-◌, ◌^◌, ◌||◌, ◌∷◌, ◌≡◌, ◌≢◌}}
-use Rattle.kc_language.specs.{Expressions.{all_mentioned, mention, number_of, same_name}, Lines.{IsTooLong, TakesLine, UnreadLines, after_help, physical_lines, unread_lines}, Statements.{Cause, ChoiceLine, CommentLine, ConfigLine, EndChoiceLine, EndIfLine, EndMenuLine, IfLine, LineContext, Located, MainMenuLine, MenuLine, ModulesLine, Named, Numbered, ReadsLine, ReadsSource, SourceLine, Statement, begins_with, names_in_statement, numbered, statements}, Text.{most_lines, most_open, most_symbols}, Tokens.{IsCut, Lexeme}, declared.{statements.{Block.Block, EntryKind.{EntryKind, TheVariants.{Choice, Comment, Config, Menu, Nothing}}}, tokens.TextFault.{TextFault, TheVariants.{BadToken, LineTooLong, Macro, Memory}}}}
+use Rattle.std.specs.{List.{before_first, filter_map, flat_map, last_or, list_any, take_while}, Map.{lookup}, Prelude.{All, Bool, Err, List, MatchOption, None, Ok, Option, Result, Some, [], codes, drop, false, filter, if◌then◌else◌, is_some, length, map, min, nat_le, nat_lt, option_and_then, option_map, slice_get, suc, take, true, zero, ℕ, ◌&&◌, ◌++◌, ◌+◌, ◌-◌, ◌^◌, ◌||◌, ◌∷◌, ◌≡◌, ◌≢◌}}
+use Rattle.kc_language.specs.{Expressions.{all_mentioned, mention, number_of, same_name}, Lines.{IsTooLong, TakesLine, UnreadLines, after_help, physical_lines, unread_lines}, Statements.{Cause, ChoiceLine, CommentLine, ConfigLine, EndChoiceLine, EndIfLine, EndMenuLine, IfLine, LineContext, Located, MainMenuLine, MenuLine, ModulesLine, Named, Numbered, ReadsLine, ReadsSource, SourceLine, Statement, begins_with, names_in_statement, numbered, statements}, Text.{byte, most_lines, most_open, most_symbols, natural_of}, Tokens.{IsCutIn, Lexeme}, declared.{statements.{Block.Block, EntryKind.{EntryKind, TheVariants.{Choice, Comment, Config, Menu, Nothing}}}, tokens.TextFault.{TextFault, TheVariants.{BadToken, LineTooLong, Macro, Memory}}}}
 use Rattle.kc_language.specs.declared.diagnostics.Cause.TheVariants as cause
 
--- The bytes of each file by its name, where there is such a file. `bytes_in` takes them from a list.
-abbrev pub Files : Type 0
-Files = List ℕ → Option (List ℕ)
+-- The bytes of each file by its name, where there is such a file, and whether the root file is flat: it is all of the tree. `bytes_in` looks in a list.
+pub record Files : Type 0 where
+  pub bytes : List ℕ → Option (List ℕ)
+  pub flat : Bool
 
-abbrev pub bytes_in : List (List ℕ × List ℕ) → Files
+abbrev pub bytes_in : List (List ℕ × List ℕ) → List ℕ → Option (List ℕ)
 bytes_in files name = lookup (same_name name) files
+
+-- The bytes of the file that a `source` line names. A flat file sources none.
+abbrev pub sourced : Files → List ℕ → Option (List ℕ)
+sourced files name = if files.flat then None else files.bytes name
 
 -- The numbers below n, and the last element of a list.
 abbrev pub numbers : ℕ → List ℕ
@@ -150,7 +155,7 @@ bytes_cause name n (Some bytes) = if nat_lt most_lines (n + length (physical_lin
 -- Why a file cannot be sourced, where these files are open: it is one of them (E2), they are too many (E12), or it cannot be opened.
 abbrev pub sourcing_cause : Files → List (List ℕ) → ℕ → List ℕ → Option Cause
 sourcing_cause files names n name = if list_any (same_name name) names then Some (cause.InclusionLoop name)
-    else if nat_le most_open (length names) then Some cause.TooDeep else bytes_cause name n (files name)
+    else if nat_le most_open (length names) then Some cause.TooDeep else bytes_cause name n (sourced files name)
 
 -- A sourced file: what surrounds it, and the log as it is opened.
 abbrev pub inside : FileContext → List (Located Named) → List ℕ → FileContext
@@ -169,80 +174,99 @@ abbrev pub without_help : UnreadLines → UnreadLines
 without_help l = record l { lines = after_help l.lines; number = min (l.number + (length l.lines - length (after_help l.lines))) (2 ^ 32 - 1) }
 
 -- The next logical line of l is cut into these tokens, up to a place that cannot be cut if `out` is a fault. After it and its help text m is left.
-pub record NextLine (l m : UnreadLines) (ts : List Lexeme) (out : Option TextFault) : Type 0 where
+pub record NextLine (flat : Bool) (l m : UnreadLines) (ts : List Lexeme) (out : Option TextFault) : Type 0 where
   pub middle : UnreadLines
   pub text : List ℕ
   pub taken : TakesLine l middle text
-  pub cut : IsCut text ts out
+  pub cut : IsCutIn flat text ts out
   pub left_after : m ≡ (if begins_with (codes "help") ts || begins_with (codes "---help---") ts then without_help middle else middle)
 
+-- A marker, `# 27 "drivers/net/Kconfig"`: the next line is this line of this file. The next line is one, and m is left after it; or it is blank, and none.
+abbrev pub IsMarker : List ℕ → ℕ → List ℕ → Type 0
+IsMarker text n name = (digits : List ℕ) × (text ≡ codes "# " ++ digits ++ codes " \"" ++ name ++ codes "\"") × (natural_of 10 (2 ^ 32) digits ≡ Some n)
+    × All (λ b. b ≢ byte "\"") name
+
+abbrev pub MarksNext : Bool → UnreadLines → UnreadLines → ℕ → List ℕ → Type 0
+MarksNext flat l m n name = (x : NextLine flat l m [] None) × (flat ≡ true) × IsMarker x.text n name
+
+abbrev pub IsBlankNext : Bool → UnreadLines → UnreadLines → Type 0
+IsBlankNext flat l m = (x : NextLine flat l m [] None) × (flat ≡ true → (n : ℕ) (name : List ℕ) → IsMarker x.text n name → ⊥)
+
 -- The next line has tokens, and reads as s.
-pub record NextStatement (l m : UnreadLines) (c : LineContext) (s : Result Named Cause) : Type 0 where
+pub record NextStatement (flat : Bool) (l m : UnreadLines) (c : LineContext) (s : Result Named Cause) : Type 0 where
   pub tokens : List Lexeme
   pub some : tokens ≢ []
-  pub next : NextLine l m tokens None
+  pub next : NextLine flat l m tokens None
   pub reads : ReadsLine c tokens s
 
 -- The error of a line that cannot be cut into tokens.
 abbrev pub text_cause : TextFault → Cause
 text_cause = elim [ Macro ↦ cause.Macro | BadToken ↦ cause.BadToken | LineTooLong n ↦ cause.LineTooLong | Memory ↦ cause.Memory ]
 
--- A block is open at the end of a file. The innermost one was opened at this line.
-abbrev pub IsUnclosed : List (Located Named) → ℕ → Type 0
-IsUnclosed own line = (j : ℕ) × (last_of (open_block_indices (statements own)) ≡ Some j) × (option_map (λ l. l.line) (slice_get own j) ≡ Some line)
+-- A block is open at the end of a file. This line opened the innermost one.
+abbrev pub IsUnclosed : List (Located Named) → Located Named → Type 0
+IsUnclosed own opener = (j : ℕ) × (last_of (open_block_indices (statements own)) ≡ Some j) × (slice_get own j ≡ Some opener)
 
 -- ---- A whole file
--- What the rest of a file gives: in the context a, l is unread of it, own are its statements so far, and log is what was read.
--- The result is the log at the end of the file, or the first error.
+-- What the rest of a file gives: the log at its end, or the first error. l is unread of it, own are its statements so far, log is what was read.
 pub data Rest (files : Files) : FileContext → UnreadLines → List (Located Named) → Log → Result Log Refused → Type 0 where
   at_end : (a : FileContext) (l : UnreadLines) (own : List (Located Named)) (log : Log) → l.lines ≡ [] → open_blocks (statements own) ≡ [] →
       Rest files a l own log (Ok log)
-  unclosed : (a : FileContext) (l : UnreadLines) (own : List (Located Named)) (log : Log) (line : ℕ) → l.lines ≡ [] → IsUnclosed own line →
-      Rest files a l own log (Err (refused cause.Block a.file line))
+  unclosed : (a : FileContext) (l : UnreadLines) (own : List (Located Named)) (log : Log) (opener : Located Named) → l.lines ≡ [] → IsUnclosed own opener →
+      Rest files a l own log (Err (refused cause.Block opener.file opener.line))
   too_long : (a : FileContext) (l : UnreadLines) (own : List (Located Named)) (log : Log) → IsTooLong l →
       Rest files a l own log (Err (refused cause.LineTooLong a.file l.number))
   no_tokens : (a : FileContext) (l m : UnreadLines) (own : List (Located Named)) (log : Log) (ts : List Lexeme) (why : TextFault) →
-      NextLine l m ts (Some why) → Rest files a l own log (Err (refused (text_cause why) a.file l.number))
+      NextLine files.flat l m ts (Some why) → Rest files a l own log (Err (refused (text_cause why) a.file l.number))
   blank : (a : FileContext) (l m : UnreadLines) (own : List (Located Named)) (log : Log) (r : Result Log Refused) →
-      NextLine l m [] None → Rest files a m own log r → Rest files a l own log r
+      IsBlankNext files.flat l m → Rest files a m own log r → Rest files a l own log r
+  -- A marker of the same file changes the number alone. One of another file is like a `source` line whose file's lines follow here.
+  renumbered : (a : FileContext) (l m : UnreadLines) (own : List (Located Named)) (log : Log) (n : ℕ) (r : Result Log Refused) →
+      MarksNext files.flat l m n a.file → Rest files a (record m { number = n }) own log r → Rest files a l own log r
+  moved : (a : FileContext) (l m : UnreadLines) (own : List (Located Named)) (log : Log) (n : ℕ) (name : List ℕ) (r : Result Log Refused) →
+      MarksNext files.flat l m n name → same_name name a.file ≡ false → Rest files (record a { file = name }) (record m { number = n })
+      (with_line own a l.number (SourceLine name)) (record log { opened = mention log.opened name }) r → Rest files a l own log r
   bad_line : (a : FileContext) (l m : UnreadLines) (own : List (Located Named)) (log : Log) (c : Cause) →
-      NextStatement l m (context_of a own log) (Err c) → Rest files a l own log (Err (refused c a.file l.number))
+      NextStatement files.flat l m (context_of a own log) (Err c) → Rest files a l own log (Err (refused c a.file l.number))
   over_limit : (a : FileContext) (l m : UnreadLines) (own : List (Located Named)) (log : Log) (s : Named) (c : Cause) →
-      NextStatement l m (context_of a own log) (Ok s) → limit_cause a own log s ≡ Some c → Rest files a l own log (Err (refused c a.file l.number))
+      NextStatement files.flat l m (context_of a own log) (Ok s) → limit_cause a own log s ≡ Some c → Rest files a l own log (Err (refused c a.file l.number))
   statement : (a : FileContext) (l m : UnreadLines) (own : List (Located Named)) (log : Log) (s : Named) (r : Result Log Refused) →
-      NextStatement l m (context_of a own log) (Ok s) → elim s [ SourceLine t ↦ true | _ ↦ false ] ≡ false → limit_cause a own log s ≡ None →
+      NextStatement files.flat l m (context_of a own log) (Ok s) → elim s [ SourceLine t ↦ true | _ ↦ false ] ≡ false → limit_cause a own log s ≡ None →
       Rest files a m (with_line own a l.number s) (record log { lines = with_line log.lines a l.number s }) r → Rest files a l own log r
   bad_source : (a : FileContext) (l m : UnreadLines) (own : List (Located Named)) (log : Log) (name : List ℕ) (c : Cause) →
-      NextStatement l m (context_of a own log) (Ok (SourceLine name)) → sourcing_cause files a.open_files log.total_lines name ≡ Some c →
+      NextStatement files.flat l m (context_of a own log) (Ok (SourceLine name)) → sourcing_cause files a.open_files log.total_lines name ≡ Some c →
       Rest files a l own log (Err (refused c a.file l.number))
   refused_inside : (a : FileContext) (l m : UnreadLines) (own : List (Located Named)) (log : Log) (name bytes : List ℕ) (e : Refused) →
-      NextStatement l m (context_of a own log) (Ok (SourceLine name)) → sourcing_cause files a.open_files log.total_lines name ≡ None →
-      files name ≡ Some bytes → Rest files (inside a own name) (unread_lines bytes 1) [] (with_file log name bytes) (Err e) → Rest files a l own log (Err e)
+      NextStatement files.flat l m (context_of a own log) (Ok (SourceLine name)) → sourcing_cause files a.open_files log.total_lines name ≡ None →
+      sourced files name ≡ Some bytes → Rest files (inside a own name) (unread_lines bytes 1) [] (with_file log name bytes) (Err e) → Rest files a l own log (Err e)
   source : (a : FileContext) (l m : UnreadLines) (own : List (Located Named)) (log more : Log) (name bytes : List ℕ) (r : Result Log Refused) →
-      NextStatement l m (context_of a own log) (Ok (SourceLine name)) → sourcing_cause files a.open_files log.total_lines name ≡ None →
-      files name ≡ Some bytes → Rest files (inside a own name) (unread_lines bytes 1) [] (with_file log name bytes) (Ok more) →
+      NextStatement files.flat l m (context_of a own log) (Ok (SourceLine name)) → sourcing_cause files a.open_files log.total_lines name ≡ None →
+      sourced files name ≡ Some bytes → Rest files (inside a own name) (unread_lines bytes 1) [] (with_file log name bytes) (Ok more) →
       Rest files a m (with_line own a l.number (SourceLine name)) more r → Rest files a l own log r
 
--- The root file expands to this log, or to the first error. At first no other file is open, and nothing was read.
+-- The root file expands to this log, or to the first error. At first no other file is open. Of a flat tree only the markers' files count as opened.
+abbrev pub first_log : Files → List ℕ → List ℕ → Log
+first_log files root bytes = record { lines = []; total_lines = length (physical_lines bytes); opened = if files.flat then [] else root ∷ [] }
+
 abbrev pub Expands : Files → List ℕ → Result Log Refused → Type 0
-Expands files root r = MatchOption (bytes_cause root 0 (files root))
-    ((bytes : List ℕ) × (files root ≡ Some bytes) × Rest files (record { open_files = root ∷ []; file = root; blocks = [] })
-    (unread_lines bytes 1) [] (with_file (record { lines = []; total_lines = 0; opened = [] }) root bytes) r)
+Expands files root r = MatchOption (bytes_cause root 0 (files.bytes root))
+    ((bytes : List ℕ) × (files.bytes root ≡ Some bytes) × Rest files (record { open_files = root ∷ []; file = root; blocks = [] })
+    (unread_lines bytes 1) [] (first_log files root bytes) r)
     (λ c. r ≡ Err (refused c root 0))
 
 -- Where the root file is accepted, these are the files that are opened, each once, as first opened.
 abbrev pub AreOpened : Files → List ℕ → List (List ℕ) → Type 0
 AreOpened files root names = (log : Log) → Expands files root (Ok log) → names ≡ log.opened
 
--- ---- The files that one file names, read by itself
+-- ---- The files that one file names, read by itself (no flat file)
 -- The next line is a `source` line with this name. After it m is left.
 abbrev pub IsSource : UnreadLines → UnreadLines → List ℕ → Type 0
-IsSource l m name = (ts : List Lexeme) × NextLine l m ts None × (begins_with (codes "source") ts ≡ true) × ReadsSource (drop 1 ts) (Ok (SourceLine name))
+IsSource l m name = (ts : List Lexeme) × NextLine false l m ts None × (begins_with (codes "source") ts ≡ true) × ReadsSource (drop 1 ts) (Ok (SourceLine name))
 
 -- From l to m there are only lines that are no `source` lines.
 pub data Passes : UnreadLines → UnreadLines → Type 0 where
   here : (l : UnreadLines) → Passes l l
-  past : (l m n : UnreadLines) → (ts : List Lexeme) × NextLine l m ts None × (begins_with (codes "source") ts ≡ false) → Passes m n → Passes l n
+  past : (l m n : UnreadLines) → (ts : List Lexeme) × NextLine false l m ts None × (begins_with (codes "source") ts ≡ false) → Passes m n → Passes l n
 
 -- The names of the `source` lines, in order, up to a line that is too long or cannot be cut, or a `source` line that is refused.
 pub data SourceNames : UnreadLines → List (List ℕ) → Type 0 where

@@ -1,7 +1,7 @@
 -- Trusted: 12. Explanations: the text of an expression, and why a symbol has its value.
 -- Our own. The first part prints an expression so that the grammar reads it back. The parentheses are as few as the grammar allows.
 use Rattle.std.specs.{List.{enumerate_from, filter_map, flat_map, list_all, list_any, slice_split, suffix_len}, Option.option_or, Prelude.{All, Bool, IsTrue, List, None, Option, Some, [], codes, decimal, drop, false, filter, if◌then◌else◌, is_some, length, map, not, option_and_then, option_map, slice_get, slice_index_or, suc, take, take_while, true, zero, ℕ, ◌&&◌, ◌++◌, ◌+◌, ◌-◌, ◌<◌, ◌==◌, ◌||◌, ◌∷◌, ◌≡◌, ◌≢◌, ◌≤◌}}
-use Rattle.kc_language.specs.{ConfigFile.{StreamLocation, UserInput, place_at, symbol_named, value_text, without_prefix}, Expansion.{Files, attributes, enclosing, last_of}, Expressions.{Chain, Compares, Disjunction, Every, Form, Forms, Leaf, LoneM, MoreForms, Negated, Negation, NoForms, OperandToken, Part, QuotedAtom, Related, Single, Some_of, Symbol, SymbolValue, Terminal, Text, WordAtom, bang, compare, conjunction, group, if_word, joined, leaf_symbols, least, lesser, levels, lone, meaning, negation, number_of, number_of_text, only, same_name, same_symbol, spell, symbols, terminal_of, text, tri_text, tristate_constant, truth_of_value, value}, Statements.{DependsLine, IfLine, ImplyLine, InputPrompt, Located, MenuLine, Numbered, RangeLine, SelectLine, VisibleLine, statements}, Lines.is_line_feed, Symbols.{Bounds, ChoiceFacts, StatedDefault, SymbolFacts, TreeFacts, all_added, can_be_target, choice_number, choice_of, definitions_of, indices, is_symbol_of, listed, members_of, name_by, of_block, prompt_of, same_type, stated_default, symbol_at, type_of, facts_with, has_text, is_selectable}, Text.{byte, escape}, Texts.{IsSolution, Solution, SolutionView, known, symbol_config, value_of}, Tokens.{IsCut, Lexeme, is_blank, is_word_byte, relation_text}, Values.{default_text as value_default, GivenTruth, GivenValue, Member, SymbolPlace, above, active_range, choice_at, conditions, default_value, equations, facts, first_met, given_of, if_within_range, implied_value, is_n, is_visible, is_within_range, known_from, mode_of, name, number_or_zero, number_text, selected, selected_to, single_text, type_in, upgraded, user_or, user_place, visibility, visible_text}, declared.{expressions.{Connective.{Connective, TheVariants.{And, Or}}, SymId.SymId, SymbolType.{SymbolType, TheVariants.{Bool as IsBool, Hex, Int, Str, Tristate, Undefined}}, Tri.{Tri, TheVariants.{M, N, Y}}}, explanations.Source.Source, statements.Block.Block, symbols.SelectOrImply.SelectOrImply, tokens.Op.Op}}
+use Rattle.kc_language.specs.{ConfigFile.{Notation, StreamLocation, UserInput, place_at, plain_line, symbol_named, value_text, without_prefix}, Expansion.{Files, attributes, enclosing, last_of}, Expressions.{Chain, Compares, Disjunction, Every, Form, Forms, Leaf, LoneM, MoreForms, Negated, Negation, NoForms, OperandToken, Part, QuotedAtom, Related, Single, Some_of, Symbol, SymbolValue, Terminal, Text, WordAtom, bang, compare, conjunction, group, if_word, joined, leaf_symbols, least, lesser, levels, lone, meaning, negation, number_of, number_of_text, only, same_name, same_symbol, spell, symbols, terminal_of, text, tri_text, tristate_constant, truth_of_value, value}, Lines.{is_line_feed}, Statements.{DependsLine, IfLine, ImplyLine, InputPrompt, Located, MenuLine, Numbered, RangeLine, SelectLine, VisibleLine, statements}, Symbols.{Bounds, ChoiceFacts, StatedDefault, SymbolFacts, TreeFacts, all_added, can_be_target, choice_number, choice_of, definitions_of, facts_with, has_text, indices, is_selectable, is_symbol_of, listed, members_of, name_by, of_block, prompt_of, same_type, stated_default, symbol_at, type_of}, Text.{byte, escape}, Texts.{IsSolution, Solution, SolutionView, known, symbol_new, value_of}, Tokens.{IsCut, Lexeme, is_blank, is_word_byte, relation_text}, Values.{GivenTruth, GivenValue, Member, SymbolPlace, above, active_range, choice_at, conditions, default_text as value_default, default_value, equations, facts, first_met, given_of, if_within_range, implied_value, is_n, is_visible, is_within_range, known_from, mode_of, name, number_or_zero, number_text, selected, selected_to, single_text, type_in, upgraded, user_or, user_place, visibility, visible_text}, declared.{explanations.{Source.{Source}}, expressions.{Connective.{Connective, TheVariants.{And, Or}}, SymId.{SymId}, SymbolType.{SymbolType, TheVariants.{Bool as IsBool, Hex, Int, Str, Tristate, Undefined}}, Tri.{TheVariants.{M, N, Y}, Tri}}, statements.{Block.{Block}}, symbols.{SelectOrImply.{SelectOrImply}}, tokens.{Op.{Op}}}}
 use Rattle.kc_language.specs.declared.tokens.Op.TheVariants as op
 
 -- ---- The text of an expression
@@ -15,8 +15,7 @@ parenthesized needed text = if needed then codes "(" ++ text ++ codes ")" else t
 abbrev pub joint : Connective → List ℕ
 joint c = elim c [ And ↦ codes " && " | Or ↦ codes " || " ]
 
--- An expression stands alone (None), is a part of a `||`, or is a part of a `&&` or stands after a `!`. In the last case an `&&` needs parentheses.
--- An `||` needs them wherever it does not stand alone.
+-- An expression stands alone (None), is a part of a `||`, or of a `&&` or `!`, where an `&&` needs parentheses. An `||` needs them unless it is alone.
 abbrev pub is_and : Option Connective → Bool
 is_and place = elim place [ Some c ↦ elim c [ And ↦ true | Or ↦ false ] | None ↦ false ]
 
@@ -207,9 +206,12 @@ module _ (ss : List Numbered) where
   abbrev pub choice_entry : ℕ → List ℕ
   choice_entry k = listed (slice_get (filter (of_block ss Block.Choice) (indices ss)) k)
 
+-- What is said of a name without a type that these entries define: it is a symbol only if one does.
+abbrev pub untyped_text : List ℕ → List ℕ
+untyped_text entries = elim entries [ [] ↦ codes ": not a symbol, only mentioned" | _ ↦ codes ": a symbol without a type" ]
+
 -- ---- The facts about the solution
--- What an explanation cites of the values: that of a condition with these parts, of the mode of a choice, of a symbol, what a symbol selects or
--- implies under such a condition, the value of a default, and a bound.
+-- What an explanation cites: the value of a condition, a mode, a symbol, what a symbol selects or implies under a condition, a default, and a bound.
 pub data Cited : Type 0 where
   ConditionIs : List ConditionPart → Cited
   ModeIs : ℕ → Cited
@@ -335,8 +337,7 @@ is_by_default from =
     elim from [ Source.Implied ↦ true | Source.Default ↦ true | Source.MovedDefault ↦ true | Source.NoDefault ↦ true | _ ↦ false ]
 
 module _ (tree : TreeFacts) (known : SymId → SymbolValue) where
-  -- The default that applied, or none. The default of an int or hex may be moved into the active range. A bool or tristate may be selected above the
-  -- user's value, and implied above its default.
+  -- The default that applied, or none. It may be moved into the range. A bool or tristate may be selected above the user's value, implied above it.
   abbrev pub default_source : SymbolFacts → Source
   default_source f = let default = first_met tree known f.defaults in
       if is_some default then (if is_within_range f.symbol_type (active_range tree known f) (value_default known default)
@@ -380,9 +381,9 @@ abbrev pub ending : Tri → List ℕ
 ending t = codes ": " ++ tri_text t
 
 module _ (lines : List (Located Numbered)) (solution : Solution) where
-  -- A symbol that has a type, with its value: NAME=VALUE.
-  abbrev pub worth_of : SymId → List ℕ
-  worth_of s = name solution.tree s ++ codes "=" ++ value_text (type_in (facts solution.tree s)) (given_of (known solution s))
+  -- A symbol that has a type, with its value: NAME=VALUE. A string is written as in a `.config`, raw or escaped.
+  abbrev pub worth_of : Bool → SymId → List ℕ
+  worth_of is_raw s = name solution.tree s ++ codes "=" ++ value_text is_raw (type_in (facts solution.tree s)) (given_of (known solution s))
 
   abbrev pub location : ℕ → List ℕ
   location i = elim (slice_get lines i) [ None ↦ [] | Some l ↦ l.file ++ codes ":" ++ decimal l.line ++ codes ": " ]
@@ -438,31 +439,32 @@ module _ (lines : List (Located Numbered)) (solution : Solution) where
   abbrev pub target_value : Said (Option Form) → Tri
   target_value l = elim (symbol_at (statements lines) l.entry) [ None ↦ N | Some t ↦ lesser (truth_of_value (known solution t)) (line_value (λ w. w) l) ]
 
-  abbrev pub target_text : List ℕ → Said (Option Form) → List ℕ
-  target_text word l = line_text ((if is_n (target_value l) then codes "not " else []) ++ word ++ flat_map worth_of (listed (symbol_at (statements lines) l.entry)))
+  abbrev pub target_text : Bool → List ℕ → Said (Option Form) → List ℕ
+  target_text is_raw word l =
+      line_text ((if is_n (target_value l) then codes "not " else []) ++ word ++ flat_map (worth_of is_raw) (listed (symbol_at (statements lines) l.entry)))
       l.at l.what (target_value l)
 
   -- A choice: its mode, what it depends on, its prompt, its defaults, and each member with its visibility.
-  abbrev pub member_text : SymId → List ℕ
-  member_text m = codes "  member " ++ worth_of m
+  abbrev pub member_text : Bool → SymId → List ℕ
+  member_text is_raw m = codes "  member " ++ worth_of is_raw m
       ++ ending (conditions solution.tree (known solution) (flat_map (λ f. f.prompts) (listed (facts solution.tree m))))
 
-  abbrev pub choice_text : ℕ → List (List ℕ)
-  choice_text k = let choice = choice_at solution.tree k in flat_map (λ j.
+  abbrev pub choice_text : Bool → ℕ → List (List ℕ)
+  choice_text is_raw k = let choice = choice_at solution.tree k in flat_map (λ j.
       with_parts j (codes "choice") (mode_of solution.tree (known solution) choice) (dependency_parts (statements lines) j)
       ++ flat_map prompt_text (prompt_lines (statements lines) (j ∷ [])) ++ map default_text (said_at (statements lines) stated_default j)
-      ++ map member_text (flat_map (λ c. c.members) (listed choice))) (choice_entry (statements lines) k)
+      ++ map (member_text is_raw) (flat_map (λ c. c.members) (listed choice))) (choice_entry (statements lines) k)
 
   -- A symbol outside a choice: its defaults and ranges, and who selects and implies it.
-  abbrev pub plain_text : SymId → SymbolFacts → List (List ℕ)
-  plain_text s f = map (λ d. default_text d ++ applied_text f.symbol_type d) (default_lines lines solution s) ++ map range_text (range_lines lines solution s)
+  abbrev pub plain_text : Bool → SymId → SymbolFacts → List (List ℕ)
+  plain_text is_raw s f = map (λ d. default_text d ++ applied_text f.symbol_type d) (default_lines lines solution s) ++ map range_text (range_lines lines solution s)
       ++ active_text f
-      ++ (if is_selectable f.symbol_type then map (target_text (codes "selected by ")) (naming_lines (statements lines) SelectOrImply.Select s)
-      ++ map (target_text (codes "implied by ")) (naming_lines (statements lines) SelectOrImply.Imply s) else [])
-      ++ elim f.symbol_type [ Tristate ↦ map (λ m. codes "  modules " ++ worth_of m) (listed solution.tree.modules) | _ ↦ [] ]
+      ++ (if is_selectable f.symbol_type then map (target_text is_raw (codes "selected by ")) (naming_lines (statements lines) SelectOrImply.Select s)
+      ++ map (target_text is_raw (codes "implied by ")) (naming_lines (statements lines) SelectOrImply.Imply s) else [])
+      ++ elim f.symbol_type [ Tristate ↦ map (λ m. codes "  modules " ++ worth_of is_raw m) (listed solution.tree.modules) | _ ↦ [] ]
 
-  abbrev pub body_text : SymId → Option SymbolFacts → List (List ℕ)
-  body_text s o = elim o [ None ↦ [] | Some f ↦ elim f.choice [ Some k ↦ choice_text k | None ↦ plain_text s f ] ]
+  abbrev pub body_text : Bool → SymId → Option SymbolFacts → List (List ℕ)
+  body_text is_raw s o = elim o [ None ↦ [] | Some f ↦ elim f.choice [ Some k ↦ choice_text is_raw k | None ↦ plain_text is_raw s f ] ]
 
   -- ---- What holds a symbol down: the symbols of the parts below y of what it depends on and of its prompts; if its defaults decide, also those of
   -- their conditions and of the default that applied, and the bounds of the active range.
@@ -507,26 +509,26 @@ module _ (lines : List (Located Numbered)) (solution : Solution) where
     abbrev pub input_text : List ℕ → Option StreamLocation → List (List ℕ)
     input_text said at = map (λ l. codes "  " ++ l.stream ++ codes ":" ++ decimal l.number ++ codes ": " ++ said) (listed at)
 
-    abbrev pub user_text : SymId → List (List ℕ)
-    user_text s = flat_map (λ g. input_text (codes "user value " ++ value_text (type_in (facts solution.tree s)) g) (slice_index_or input.lines s.0 None))
+    abbrev pub user_text : Bool → SymId → List (List ℕ)
+    user_text is_raw s = flat_map (λ g. input_text (codes "user value " ++ value_text is_raw (type_in (facts solution.tree s)) g) (plain_line input input.lines s))
         (listed (place_at solution.places (SymbolPlace s.0)))
-        ++ input_text (codes "value not allowed") (slice_index_or input.refused s.0 None)
+        ++ input_text (codes "value not allowed") (plain_line input input.refused s)
 
     -- NAME=VALUE (TYPE): SOURCE
-    abbrev pub head_text : SymId → List ℕ
-    head_text s = let kind = type_in (facts solution.tree s) in
-        if same_type kind Undefined then name solution.tree s ++ codes ": not defined, or without a type"
-        else worth_of s ++ codes " (" ++ type_text kind ++ codes "): " ++ source_text (source solution s)
+    abbrev pub head_text : Bool → SymId → List ℕ
+    head_text is_raw s = let kind = type_in (facts solution.tree s) in
+        if same_type kind Undefined then name solution.tree s ++ untyped_text (definitions_of (statements lines) s)
+        else worth_of is_raw s ++ codes " (" ++ type_text kind ++ codes "): " ++ source_text (source solution s)
 
-    abbrev pub symbol_lines : SymId → List (List ℕ)
-    symbol_lines s = let entries = definitions_of (statements lines) s in
-        head_text s ∷ (flat_map definition_text entries ++ flat_map prompt_text (prompt_lines (statements lines) entries) ++ user_text s
-        ++ body_text s (facts solution.tree s))
+    abbrev pub symbol_lines : Bool → SymId → List (List ℕ)
+    symbol_lines is_raw s = let entries = definitions_of (statements lines) s in
+        head_text is_raw s ∷ (flat_map definition_text entries ++ flat_map prompt_text (prompt_lines (statements lines) entries) ++ user_text is_raw s
+        ++ body_text is_raw s (facts solution.tree s))
 
     -- The explanation of a symbol, with what holds it down in n steps. Each line begins with `lead`.
-    abbrev pub explanation_text : List ℕ → ℕ → SymId → List ℕ
-    explanation_text lead n s = flat_map (λ l. lead ++ l ++ codes "\n") (symbol_lines s)
-        ++ flat_map (λ t. flat_map (λ l. lead ++ codes "  " ++ l ++ codes "\n") (symbol_lines t)) (drop 1 (reached n (s ∷ []) (s ∷ [])))
+    abbrev pub explanation_text : Bool → List ℕ → ℕ → SymId → List ℕ
+    explanation_text is_raw lead n s = flat_map (λ l. lead ++ l ++ codes "\n") (symbol_lines is_raw s)
+        ++ flat_map (λ t. flat_map (λ l. lead ++ codes "  " ++ l ++ codes "\n") (symbol_lines is_raw t)) (drop 1 (reached n (s ∷ []) (s ∷ [])))
 
 -- ---- The definitions of a symbol as they are written, as comments
 -- Line n of these bytes, and the lines after it that are empty or begin with a blank, but none without text at the end.
@@ -544,16 +546,16 @@ excerpt bytes n = elim (drop (n - 1) (slice_split is_line_feed bytes)) [
 
 abbrev pub definition_comments : Files → List (Located Numbered) → SymId → List ℕ
 definition_comments files lines s = flat_map (λ i. flat_map (λ (l : Located Numbered). codes "# " ++ l.file ++ codes ":" ++ decimal l.line ++ codes "\n"
-    ++ flat_map (λ line. codes "# " ++ line ++ codes "\n") (flat_map (λ bytes. excerpt bytes l.line) (listed (files l.file)))) (listed (slice_get lines i)))
+    ++ flat_map (λ line. codes "# " ++ line ++ codes "\n") (flat_map (λ bytes. excerpt bytes l.line) (listed (files.bytes l.file)))) (listed (slice_get lines i)))
     (definitions_of (statements lines) s)
 
 -- The list of new symbols with them, and an empty line behind each symbol.
-abbrev pub new_text_with_help : Files → List (Located Numbered) → TreeFacts → List ℕ → SolutionView → List ℕ
-new_text_with_help files lines tree prefix view =
-    flat_map (λ s. if view.is_new s then definition_comments files lines s ++ symbol_config tree prefix view s ++ codes "\n" else []) tree.defined
+abbrev pub new_text_with_help : Files → List (Located Numbered) → TreeFacts → Notation → SolutionView → List ℕ
+new_text_with_help files lines tree notation view =
+    flat_map (λ s. if view.is_new s then definition_comments files lines s ++ symbol_new tree notation view s ++ codes "\n" else []) tree.defined
 
 -- ---- The names that are asked for
--- The symbol of a name, which may have the prefix in front.
+-- The number of a name that the tree mentions, which may have the prefix in front.
 abbrev pub asked_symbol : TreeFacts → List ℕ → List ℕ → Option SymId
 asked_symbol tree prefix asked = option_or (symbol_named tree asked) (option_and_then (symbol_named tree) (without_prefix prefix asked))
 

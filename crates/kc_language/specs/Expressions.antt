@@ -158,8 +158,7 @@ module _ (known : SymId → SymbolValue) (modules : Option SymId) where
     values (MoreForms f fs) = value f ∷ values fs
 
 -- ---- The grammar
---     or      = and { "||" and }
---     and     = not { "&&" not }
+--     or = and { "||" and }        and = not { "&&" not }
 --     not     = "!" not | "(" or ")" | operand [ ( "=" | "!=" | "<" | ">" | "<=" | ">=" ) operand ]
 --     operand = a word other than if | a quoted text
 -- A token as the grammar sees it: an operand, a relation, `!`, `&&` or `||`, a parenthesis, or the word `if`.

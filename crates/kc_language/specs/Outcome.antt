@@ -1,11 +1,11 @@
 -- Trusted: 13. Outcome: the texts, the diagnostics and the status that a run is to leave.
 -- Our own, except for the syntax of a dependency file, which is GNU make's. `IsOutcome` at the end is the rule.
 use Rattle.std.specs.{List.list_any, Option.option_map_or, Prelude.{Bool, Err, List, None, Ok, Option, Some, [], codes, decimal, false, find, flat_map, if◌then◌else◌, is_some, length, map, nat_le, not, option_map, slice_get, string_bytes, true, ℕ, ◌&&◌, ◌++◌, ◌-◌, ◌==◌, ◌||◌, ◌∷◌, ◌≡◌}}
-use Rattle.kc_language.specs.{ConfigFile.{Places, ReadResult, Stream, StreamLocation, UserInput, no_input, reading_of}, Expansion.{AreOpened, Expands, Files, Log, Refused, numbered_lines}, Explanations.{asked_symbol, explanation_text, near_names, new_text_with_help}, Expressions.{all_mentioned, same_name}, Needs.{IsAccepted, IsLoopText, loop_refused}, Statements.{Located, Numbered, cause_text, error_at, error_line}, Symbols.{IsTreeOf, TreeFacts, Warning, listed}, Text.{byte, longest_input_line}, Texts.{IsSolution, Solution, config_text, header_text, lost_at, lost_lines, minimal_text, new_text, solution_view, value_warnings, warnings}, declared.{diagnostics.{RunError.RunError, Warning.TheVariants.UserOutside}, outcome.{Options.Options as AnyOptions, Position.Position, Status.Status}}}
+use Rattle.kc_language.specs.{ConfigFile.{Notation, Places, ReadResult, Stream, StreamLocation, UserInput, no_input, reading_of}, Expansion.{AreOpened, Expands, Files, Log, Refused, numbered_lines}, Explanations.{asked_symbol, explanation_text, near_names, new_text_with_help}, Expressions.{all_mentioned, same_name}, Needs.{IsAccepted, IsLoopText, loop_refused}, Statements.{Located, Numbered, cause_text, error_at, error_line}, Symbols.{IsTreeOf, TreeFacts, Warning, listed}, Text.{byte, longest_input_line}, Texts.{IsSolution, Solution, config_text, header_text, lost_at, lost_lines, minimal_text, new_text, solution_view, value_warnings, warnings}, declared.{diagnostics.{RunError.RunError, Warning.TheVariants.UserOutside}, outcome.{Options.Options as AnyOptions, Position.Position, Status.Status}}}
 
 -- The options, the root file, the file of --out (the target in a dependency file), and the name that some diagnostics begin with under --each.
 abbrev pub Options : Type 0
-Options = AnyOptions (List ℕ)
+Options = AnyOptions Notation
 
 abbrev pub root_file : Options → List ℕ
 root_file options = string_bytes options.kconfig
@@ -105,8 +105,7 @@ abbrev pub is_read_by_make : List ℕ → Bool
 is_read_by_make name = not (list_any (λ b. b == 0 || nat_le 9 b && nat_le b 13 || list_any (λ c. c == b) (codes "=;*?[")) name)
     && not (ends_in (codes " &)") name) && is_plain (without_dots false name)
 
--- If a dependency file is wanted: each prerequisite once (the files that the tree opens, then the input files, but a `.config` only if it is not the
--- file of --out); and the first name of the rule that make cannot read.
+-- Each prerequisite once (the files that the tree opens, and the input files but a `.config` that --out is); the first name that make cannot read.
 abbrev pub names_listed : Options → List (List ℕ) → Option (List (List ℕ))
 names_listed options opened =
     let inputs = if same_name (string_bytes options.config) (target options) then map string_bytes options.fragments.items else input_files options in
@@ -133,7 +132,11 @@ streams (name ∷ names) (bytes ∷ all) = record { name = name; bytes = bytes }
 streams _ _ = []
 
 abbrev pub fresh_input : Options → TreeFacts → UserInput
-fresh_input options tree = record (no_input (options.warn_lost || is_some options.explanation) tree) { gone = option_map (λ name. ([], [])) options.list_gone }
+fresh_input options tree = record (no_input (options.warn_lost || is_some options.explanation) tree) {
+  gone = option_map (λ name. ([], [])) options.list_gone;
+  asks_unset = options.warn_lost;
+  lead = lead options;
+}
 
 abbrev pub read_of : Options → TreeFacts → List (List ℕ) → ReadResult
 read_of options tree all = reading_of tree options.prefix (fresh_input options tree) (streams (names_of options) all)
@@ -146,12 +149,12 @@ pub record IsSolutionFor (tree : TreeFacts) (places : Places) (solution : Soluti
 
 -- the warnings of values that were given and did not take effect (K14), if they are asked for, and of those outside their range (K12)
 abbrev pub lost_warnings : Options → UserInput → Solution → List (List ℕ)
-lost_warnings options input solution = if options.warn_lost then lost_lines input.lines solution else []
+lost_warnings options input solution = if options.warn_lost then lost_lines options.prefix.is_raw input.lines solution else []
 
 abbrev pub is_outside : Warning → Bool
 is_outside warning = elim warning [ UserOutside name value low high ↦ true | _ ↦ false ]
 
--- --strict refuses a line that was not taken as written (K7 to K9, or it changed what another gave), a value outside its range, and a lost one.
+-- --strict refuses a line that was not taken as written (K7 to K9 and K16, or it changed what another gave), a value outside its range, and a lost one.
 abbrev pub refuses_input : Options → UserInput → Solution → Bool
 refuses_input options input solution = options.strict
     && not (input.all_taken && (not (list_any is_outside (value_warnings solution)) && (length (lost_warnings options input solution) == 0)))
@@ -188,25 +191,25 @@ lines_text lines = flat_map (λ line. line ++ codes "\n") lines
 abbrev pub has_text : List ℕ → Bool
 has_text text = elim text [ [] ↦ false | _ ↦ true ]
 
--- What is asked to be explained: the first name that no symbol has, and the names that differ from it by one letter; the explanations, one by one.
+-- What is asked to be explained: the first name that the tree does not mention, and those that differ from it by one letter; the explanations.
 abbrev pub unknown_name : Options → TreeFacts → Option (List ℕ)
-unknown_name options tree = find (λ asked. not (is_some (asked_symbol tree options.prefix asked))) (map string_bytes options.explain.items)
+unknown_name options tree = find (λ asked. not (is_some (asked_symbol tree options.prefix.prefix asked))) (map string_bytes options.explain.items)
 
 abbrev pub near_text : TreeFacts → List ℕ → List ℕ
 near_text tree asked = elim (near_names tree asked) [ [] ↦ [] | called ∷ more ↦ codes "; one letter differs: " ++ called ++ flat_map (λ name. codes ", " ++ name) more ]
 
 abbrev pub explained_text : Options → List (Located Numbered) → UserInput → Solution → List ℕ
-explained_text options lines input solution = flat_map (λ asked. flat_map (explanation_text lines solution input [] options.explain_depth)
-    (listed (asked_symbol solution.tree options.prefix asked))) (map string_bytes options.explain.items)
+explained_text options lines input solution = flat_map (λ asked. flat_map (explanation_text lines solution input options.prefix.is_raw [] options.explain_depth)
+    (listed (asked_symbol solution.tree options.prefix.prefix asked))) (map string_bytes options.explain.items)
 
--- The lines of the values that are lost. With --explain-lost, each is followed by the explanation of its symbol, with what holds it down.
+-- The lines of lost values. With --explain-lost, after each the explanation of its symbol, whose lines begin like the warnings of values.
 abbrev pub lost_text : Options → List (Located Numbered) → UserInput → Solution → List ℕ
 lost_text options lines input solution = if options.explain_lost && options.warn_lost
-    then flat_map (λ s. flat_map (λ line. line ++ codes "\n" ++ explanation_text lines solution input (codes "  ") 1 s) (lost_at input.lines solution s)) solution.tree.defined
+    then flat_map (λ s. flat_map (λ line. line ++ codes "\n" ++ explanation_text lines solution input options.prefix.is_raw (lead options ++ codes "  ") 1 s)
+    (lost_at options.prefix.is_raw input.lines solution s)) solution.tree.defined
     else lines_text (lost_warnings options input solution)
 
--- The files of a solution for the user's input, where they are wanted. The values' warnings are reported before, and then the values that are lost.
--- `files` and `lines` are those of the tree.
+-- The files of a solution, where they are wanted. Before them the warnings of values and then the lost values. `files` and `lines` are the tree's.
 abbrev pub warned_files : Files → Options → TreeFacts → List (Located Numbered) → UserInput → Solution → Outcome
 warned_files files options tree lines input solution = record {
   config = option_map (λ file. config_text tree options.prefix (solution_view solution)) options.out;

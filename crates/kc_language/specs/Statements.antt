@@ -251,8 +251,7 @@ abbrev pub ReadsValue : (Disjunction → Option Disjunction → Named) → List 
 ReadsValue make ts (Ok x) = (f : Front) × (w : Option Disjunction) × StartsExpression ts f × IsCondition f.rest w × (x ≡ make f.tree w)
 ReadsValue make ts (Err c) = ExpressionFault ts c ⊎ ((f : Front) × StartsExpression ts f × ConditionFault f.rest c)
 
--- Parts of one token: a word; a text, quoted or a word; an operand; and the name after `select` or `imply`, which is no constant.
--- A bare `if` is a word, and none of the others.
+-- Parts of one token: a word (`if` too); a text, quoted or a word; an operand; and the name after `select` or `imply`, which is no constant.
 abbrev pub word_of : List Lexeme → Result (List ℕ) Cause
 word_of = elim [ AWord w ∷ ts ↦ Ok w | _ ↦ Err cause.Syntax ]
 

@@ -2,7 +2,7 @@
 -- The rules are those of the kernel's kconfig-language document ("Menu attributes", "Menu dependencies") and of kconfiglib. The texts are our own.
 use Rattle.std.specs.{List.list_any, Option.option_or, Prelude.{Bool, Err, List, None, Ok, Option, Result, Some, [], codes, count_by, decimal, false, filter, filter_map, flat_map, if◌then◌else◌, is_none, is_some, length, map, not, option_and_then, option_map, position, reverse, slice_get, slice_index_or, suc, take, take_while, true, unwrap_or, ℕ, ◌&&◌, ◌++◌, ◌==◌, ◌||◌, ◌∷◌, ◌≡◌}}
 pub use Rattle.std.specs.Option.{option_to_list as listed}
-use Rattle.kc_language.specs.{Expansion.{Expands, Files, Log, Refused, attributes, bracket_at, defined_name, definitions, enclosing, is_attribute, is_no_attribute, last_of, modules_of, names_of, numbered_lines, numbers, opened, refused}, Expressions.{Form, Leaf, Single, Symbol, same_name, same_symbol, symbol}, Statements.{Cause, ChoiceLine, CommentLine, ConfigLine, DefLine, DefaultLine, DependsLine, EndMenuLine, IfLine, ImplyLine, InputPrompt, Located, MainMenuLine, MenuLine, Numbered, PromptLine, RangeLine, SelectLine, TypeLine, VisibleLine, statements}, declared.{diagnostics.Cause.TheVariants.{BadDefault, ChoiceMember}, diagnostics.Warning.{TheVariants.{Changed, DefaultNotMember, DefaultOutside, Lost, MalformedLine, MemberTarget, NotAllowed, PromptRedefined, Selected, SetAgain, TextTarget, TypeRedefined, UnknownSymbol, UserOutside, WithoutType}, Warning as WarningAbout}, expressions.SymId.SymId, expressions.SymbolType.SymbolType, statements.Block.Block, symbols.LineWarning.LineWarning, symbols.MenuEntry.MenuEntry, symbols.SelectOrImply.SelectOrImply}}
+use Rattle.kc_language.specs.{Expansion.{Expands, Files, Log, Refused, attributes, bracket_at, defined_name, definitions, enclosing, is_attribute, is_no_attribute, last_of, modules_of, names_of, numbered_lines, numbers, opened, refused}, Expressions.{Form, Leaf, Single, Symbol, same_name, same_symbol, symbol}, Statements.{Cause, ChoiceLine, CommentLine, ConfigLine, DefLine, DefaultLine, DependsLine, EndMenuLine, IfLine, ImplyLine, InputPrompt, Located, MainMenuLine, MenuLine, Numbered, PromptLine, RangeLine, SelectLine, TypeLine, VisibleLine, statements}, declared.{diagnostics.Cause.TheVariants.{BadDefault, ChoiceMember}, diagnostics.Warning.{TheVariants.{Changed, DefaultNotMember, DefaultOutside, Lost, LostWithoutPrompt, MalformedLine, MemberTarget, NotAllowed, PromptRedefined, Selected, SetAgain, TextTarget, TextUnset, TypeRedefined, UnknownSymbol, UserOutside, WithoutType}, Warning as WarningAbout}, expressions.SymId.SymId, expressions.SymbolType.SymbolType, statements.Block.Block, symbols.LineWarning.LineWarning, symbols.MenuEntry.MenuEntry, symbols.SelectOrImply.SelectOrImply}}
 
 -- The least value of these expressions and, where there is one, of the mode of that choice.
 pub record Condition : Type 0 where
@@ -35,16 +35,15 @@ pub record ChoiceFacts : Type 0 where
   pub defaults : List (Guarded SymId)
   pub members : List SymId
 
--- An entry of the menu: a symbol at its first definition; a menu or a comment with its text and the condition under which it is shown;
--- the end of a menu, with that menu's index among the entries.
+-- An entry of the menu: a symbol, at its first definition; a menu or a comment, shown under a condition; the end of a menu of this index.
 pub data Shown : Type 0 where
   SymbolShown : SymId → Shown
   MenuShown : List ℕ → Condition → Shown
   EndShown : ℕ → Shown
   CommentShown : List ℕ → Condition → Shown
 
--- Symbol i has name i and facts i. A name that is mentioned and not defined is a symbol without a type.
--- `defined` has the defined ones, in the order of their first definition. `modules` is the modules symbol if it is defined.
+-- Name i has facts i. A symbol is a name that a `config` line defines, with a type or without one. A name that is only mentioned has no type.
+-- `defined` has the symbols, in the order of their first definition. `modules` is the modules symbol if it is defined.
 pub record TreeFacts : Type 0 where
   pub names : List (List ℕ)
   pub symbols : List SymbolFacts
@@ -292,8 +291,11 @@ warning_text (UserOutside name value low high) = codes "K12: user value " ++ val
 warning_text (DefaultOutside name value low high used) =
     codes "K13: default " ++ value ++ codes " of " ++ name ++ codes " is outside " ++ low ++ codes " to " ++ high ++ codes ", " ++ used ++ codes " is used"
 warning_text (Lost name given value) = codes "K14: " ++ name ++ codes " was given " ++ given ++ codes " and is " ++ value
+warning_text (LostWithoutPrompt name given value) =
+    codes "K14: " ++ name ++ codes " has no prompt; it was given " ++ given ++ codes " and is " ++ value
 warning_text (Changed name old file line new) =
     codes "K15: " ++ name ++ codes " was " ++ old ++ codes " (" ++ file ++ codes ":" ++ decimal line ++ codes ") and is now " ++ new
+warning_text (TextUnset name) = codes "K16: " ++ name ++ codes " is not bool or tristate, the line has no effect"
 
 -- `warning TEXT`; `FILE:LINE: warning TEXT`; both without the line feed
 abbrev pub warning_line : Warning → List ℕ

@@ -1,26 +1,33 @@
 -- Trusted: 11. Texts: what a run writes: the `.config`, the header, the minimal file, and the warnings K11 to K14 about values.
 -- Source: our own, in the manner of the kernel's `conf` and kconfiglib (docs/language.md, "Texts"). At the end: what reading a written file again gives.
-use Rattle.std.specs.{List.{enumerate_from, last_or}, Option.option_map_or, Str.Lines.strip_carriage_return, Prelude.{All, Bool, List, None, Option, Some, [], codes, false, filter, flat_map, if◌then◌else◌, is_some, length, map, not, option_map, slice_get, slice_index_or, take, true, ℕ, ◌++◌, ◌<◌, ◌==◌, ◌||◌, ◌↔◌, ◌∷◌, ◌≡◌}}
-use Rattle.kc_language.specs.{ConfigFile.{ArePlacesOf, Places, ReadResult, StreamLocation, Unset, is_within, lines_from, meaning_of, no_input, place_at, reading_of, text_in_config, value_text}, Expressions.{SymbolValue, TextValue, Truth, tri_text}, Lines.is_line_feed, Symbols.{CommentShown, Condition, EndShown, MenuShown, Shown, SymbolFacts, SymbolShown, TreeFacts, Warning, located_warning, warning_line}, Text.{byte, escape, has_hex_prefix}, Tokens.is_blank, Values.{GivenValue, IsOnlySolution, Solves, SymbolPlace, UserPlace, above, active_range, changes_on_reread, clamped, condition, differs, direct, equations, facts, first_met, given_of, if_within_range, is_n, is_new, is_within_range, known_from, name, name_count, number_text, same_given, selected_to, single_text, visibility, visible_text, written}, declared.{diagnostics.Warning.TheVariants.{DefaultOutside, Lost, Selected, UserOutside}, expressions.{SymId.SymId, SymbolType.{SymbolType, TheVariants.{Bool as IsBool, Hex, Int, Str, Tristate, Undefined}}, Tri.{TheVariants.{M, N, Y}, Tri}}, values.Interval.Interval}}
+use Rattle.kc_language.specs.{ConfigFile.{ArePlacesOf, Notation, Places, ReadResult, StreamLocation, Unset, UserInput, is_within, lines_from, meaning_of, no_input, place_at, reading_of, string_text, text_in_config, value_text}, Expressions.{SymbolValue, TextValue, Truth, tri_text}, Lines.{is_line_feed}, Symbols.{CommentShown, Condition, EndShown, MenuShown, Shown, SymbolFacts, SymbolShown, TreeFacts, Warning, located_warning, warning_line}, Text.{byte, has_hex_prefix, hex_of, int_of, longest_value}, Tokens.{is_blank}, Values.{GivenValue, IsOnlySolution, Solves, SymbolPlace, UserPlace, above, active_range, changes_on_reread, clamped, condition, differs, direct, equations, facts, first_met, given_of, if_within_range, is_n, is_new, is_within_range, known_from, name, name_count, number_text, same_given, selected_to, single_text, visibility, visible_text, written}, declared.{diagnostics.{Warning.{TheVariants.{DefaultOutside, Lost, LostWithoutPrompt, Selected, UserOutside}}}, expressions.{SymId.{SymId}, SymbolType.{SymbolType, TheVariants.{Bool as IsBool, Hex, Int, Str, Tristate, Undefined}}, Tri.{TheVariants.{M, N, Y}, Tri}}, values.{Interval.{Interval}}}}
+use Rattle.std.specs.{List.{enumerate_from, last_or}, Option.{option_map_or}, Prelude.{All, Bool, List, None, Option, Some, [], codes, false, filter, flat_map, if◌then◌else◌, is_some, length, map, not, option_map, slice_get, slice_index_or, take, true, ℕ, ◌++◌, ◌<◌, ◌==◌, ◌||◌, ◌↔◌, ◌∷◌, ◌≡◌, ◌≤◌}, Str.{Lines.{strip_carriage_return}}}
 
 -- The line of a `.config`. `called` is the prefix with the symbol's name: `CONFIG_NAME`.
-abbrev pub config_file_line : List ℕ → SymbolValue → List ℕ
-config_file_line called (Truth N) = codes "# " ++ called ++ codes " is not set\n"
-config_file_line called (Truth M) = called ++ codes "=m\n"
-config_file_line called (Truth Y) = called ++ codes "=y\n"
-config_file_line called (TextValue Undefined text) = []
-config_file_line called (TextValue IsBool text) = []
-config_file_line called (TextValue Tristate text) = []
-config_file_line called (TextValue kind text) = called ++ codes "=" ++ text_in_config kind text ++ codes "\n"
+abbrev pub config_file_line : Bool → List ℕ → SymbolValue → List ℕ
+config_file_line is_raw called (Truth N) = codes "# " ++ called ++ codes " is not set\n"
+config_file_line is_raw called (Truth M) = called ++ codes "=m\n"
+config_file_line is_raw called (Truth Y) = called ++ codes "=y\n"
+config_file_line is_raw called (TextValue Undefined text) = []
+config_file_line is_raw called (TextValue IsBool text) = []
+config_file_line is_raw called (TextValue Tristate text) = []
+config_file_line is_raw called (TextValue kind text) = called ++ codes "=" ++ text_in_config is_raw kind text ++ codes "\n"
+
+-- The line of a new symbol. An int or hex whose value is no number has a comment, since no line can give it that value.
+abbrev pub has_value : SymbolValue → Bool
+has_value v = elim v [ TextValue Int text ↦ is_some (int_of text) | TextValue Hex text ↦ is_some (hex_of text) | _ ↦ true ]
+
+abbrev pub new_line : Bool → List ℕ → SymbolValue → List ℕ
+new_line is_raw called v = if has_value v then config_file_line is_raw called v else codes "# " ++ called ++ codes " has no value\n"
 
 -- The line of a header. A hex begins with `0x` there; n has no line.
-abbrev pub header_line : List ℕ → SymbolValue → List ℕ
-header_line called (Truth M) = codes "#define " ++ called ++ codes "_MODULE 1\n"
-header_line called (Truth Y) = codes "#define " ++ called ++ codes " 1\n"
-header_line called (TextValue Str text) = codes "#define " ++ called ++ codes " \"" ++ escape text ++ codes "\"\n"
-header_line called (TextValue Int text) = codes "#define " ++ called ++ codes " " ++ text ++ codes "\n"
-header_line called (TextValue Hex text) = codes "#define " ++ called ++ codes " " ++ (if has_hex_prefix text then text else codes "0x" ++ text) ++ codes "\n"
-header_line called _ = []
+abbrev pub header_line : Bool → List ℕ → SymbolValue → List ℕ
+header_line is_raw called (Truth M) = codes "#define " ++ called ++ codes "_MODULE 1\n"
+header_line is_raw called (Truth Y) = codes "#define " ++ called ++ codes " 1\n"
+header_line is_raw called (TextValue Str text) = codes "#define " ++ called ++ codes " " ++ string_text is_raw text ++ codes "\n"
+header_line is_raw called (TextValue Int text) = codes "#define " ++ called ++ codes " " ++ text ++ codes "\n"
+header_line is_raw called (TextValue Hex text) = codes "#define " ++ called ++ codes " " ++ (if has_hex_prefix text then text else codes "0x" ++ text) ++ codes "\n"
+header_line is_raw called _ = []
 
 -- What the files need of a solution: the value of a symbol, whether it is written, whether it differs, whether it is new, and the value of a condition.
 pub record SolutionView : Type 0 where
@@ -50,10 +57,10 @@ has_lines tree solution (CommentShown text when) = is_shown (solution.truth when
 abbrev pub end_is_last : TreeFacts → SolutionView → List Shown → Bool
 end_is_last tree view es = option_map_or (λ e. elim e [ EndShown k ↦ true | _ ↦ false ]) (last_or None (filter (has_lines tree view) es)) false
 
-module _ (tree : TreeFacts) (prefix : List ℕ) (solution : SolutionView) where
+module _ (tree : TreeFacts) (notation : Notation) (solution : SolutionView) where
   -- The `.config` lines of a symbol and of an entry. An empty line stands between an end line and a symbol's line directly after it.
   abbrev pub symbol_config : SymId → List ℕ
-  symbol_config s = config_file_line (prefix ++ name tree s) (solution.value s)
+  symbol_config s = config_file_line notation.is_raw (notation.prefix ++ name tree s) (solution.value s)
 
   abbrev pub entry_text : Bool → Shown → List ℕ
   entry_text after_end (SymbolShown s) = if solution.written s then (if after_end then codes "\n" else []) ++ symbol_config s else []
@@ -70,15 +77,18 @@ module _ (tree : TreeFacts) (prefix : List ℕ) (solution : SolutionView) where
   -- The header: a heading, and the header lines of the written symbols in order of first definition.
   unfoldable pub header_text : List ℕ
   header_text = (codes "/*\n * Automatically generated file; DO NOT EDIT.\n * " ++ tree.main_menu ++ codes "\n */\n")
-      ++ flat_map (λ s. if solution.written s then header_line (prefix ++ name tree s) (solution.value s) else []) tree.defined
+      ++ flat_map (λ s. if solution.written s then header_line notation.is_raw (notation.prefix ++ name tree s) (solution.value s) else []) tree.defined
 
   -- The minimal file: the `.config` lines of the symbols that differ, in the same order.
   unfoldable pub minimal_text : List ℕ
   minimal_text = flat_map (λ s. if solution.differs s then symbol_config s else []) tree.defined
 
-  -- The list of new symbols: their `.config` lines, in the same order.
+  -- The list of new symbols: their lines, in the same order.
+  abbrev pub symbol_new : SymId → List ℕ
+  symbol_new s = new_line notation.is_raw (notation.prefix ++ name tree s) (solution.value s)
+
   unfoldable pub new_text : List ℕ
-  new_text = flat_map (λ s. if solution.is_new s then symbol_config s else []) tree.defined
+  new_text = flat_map (λ s. if solution.is_new s then symbol_new s else []) tree.defined
 
 -- ---- Warnings about values
 -- K12: a visible user value is outside the active range. K13: so is a default that counts, since no user value is `used`.
@@ -156,31 +166,36 @@ value_warnings s = flat_map (λ i. warnings_of s.tree (known s) (name s.tree i) 
 abbrev pub warnings : Solution → List (List ℕ)
 warnings s = map warning_line (value_warnings s)
 
--- K14: the last line for the symbol, `at`, gave a value that the symbol does not have. Only symbols with a prompt have it, members of a choice too.
-abbrev pub lost_by : List ℕ → SymbolType → Option StreamLocation → Option GivenValue → GivenValue → List (List ℕ)
-lost_by called kind at None value = []
-lost_by called kind (Some at) (Some given) value =
-    if same_given given value then []
-    else located_warning at.stream at.number (Lost called (value_text kind given) (value_text kind value)) ∷ []
-lost_by called kind _ _ value = []
-
+-- K14: the last line for the symbol, `at`, gave a value that the symbol does not have. The warning says so if the symbol has no prompt.
 abbrev pub has_prompt : List Condition → Bool
 has_prompt cs = elim cs [ [] ↦ false | _ ↦ true ]
 
-abbrev pub lost_of : List ℕ → Option SymbolFacts → Option StreamLocation → Option GivenValue → GivenValue → List (List ℕ)
-lost_of called None at given value = []
-lost_of called (Some f) at given value = if has_prompt f.prompts then lost_by called f.symbol_type at given value else []
+abbrev pub lost_warning : Bool → Bool → List ℕ → SymbolType → GivenValue → GivenValue → Warning
+lost_warning is_raw prompted called kind given value =
+    if prompted then Lost called (value_text is_raw kind given) (value_text is_raw kind value)
+    else LostWithoutPrompt called (value_text is_raw kind given) (value_text is_raw kind value)
 
-abbrev pub lost_at : List (Option StreamLocation) → Solution → SymId → List (List ℕ)
-lost_at lines s i = lost_of (name s.tree i) (facts s.tree i) (slice_index_or lines i.0 None) (place_at s.places (SymbolPlace i.0)) (given_of (known s i))
+abbrev pub lost_by : Bool → Bool → List ℕ → SymbolType → Option StreamLocation → Option GivenValue → GivenValue → List (List ℕ)
+lost_by is_raw prompted called kind at None value = []
+lost_by is_raw prompted called kind (Some at) (Some given) value =
+    if same_given given value then [] else located_warning at.stream at.number (lost_warning is_raw prompted called kind given value) ∷ []
+lost_by is_raw prompted called kind _ _ value = []
 
-abbrev pub lost_lines : List (Option StreamLocation) → Solution → List (List ℕ)
-lost_lines lines s = flat_map (lost_at lines s) s.tree.defined
+abbrev pub lost_of : Bool → List ℕ → Option SymbolFacts → Option StreamLocation → Option GivenValue → GivenValue → List (List ℕ)
+lost_of is_raw called None at given value = []
+lost_of is_raw called (Some f) at given value = lost_by is_raw (has_prompt f.prompts) called f.symbol_type at given value
+
+abbrev pub lost_at : Bool → List (Option StreamLocation) → Solution → SymId → List (List ℕ)
+lost_at is_raw lines s i =
+    lost_of is_raw (name s.tree i) (facts s.tree i) (slice_index_or lines i.0 None) (place_at s.places (SymbolPlace i.0)) (given_of (known s i))
+
+abbrev pub lost_lines : Bool → List (Option StreamLocation) → Solution → List (List ℕ)
+lost_lines is_raw lines s = flat_map (lost_at is_raw lines s) s.tree.defined
 
 -- ---- Reading a written file again
 -- What reading this text alone gives, under this name.
-abbrev pub read_alone : TreeFacts → List ℕ → List ℕ → List ℕ → ReadResult
-read_alone tree prefix stream text = reading_of tree prefix (no_input false tree) (record { name = stream; bytes = text } ∷ [])
+abbrev pub read_alone : TreeFacts → Notation → List ℕ → List ℕ → ReadResult
+read_alone tree notation stream text = reading_of tree notation (no_input false tree) (record { name = stream; bytes = text } ∷ [])
 
 -- V is the only solution for these user values.
 pub record IsOneSolution (tree : TreeFacts) (places : Places) (V : ℕ → SymbolValue) : Type 0 where
@@ -188,20 +203,20 @@ pub record IsOneSolution (tree : TreeFacts) (places : Places) (V : ℕ → Symbo
   pub only : IsOnlySolution (name_count tree) (equations tree (place_at places)) V
 
 -- Reading the minimal file of a solution gives the same solution.
-abbrev pub MinimalGivesBack : TreeFacts → List ℕ → Places → (ℕ → SymbolValue) → Type 0
-MinimalGivesBack tree prefix places V =
-    (stream : List ℕ) → let read = read_alone tree prefix stream (minimal_text tree prefix (valuation_view tree (place_at places) V)) in
+abbrev pub MinimalGivesBack : TreeFacts → Notation → Places → (ℕ → SymbolValue) → Type 0
+MinimalGivesBack tree notation places V =
+    (stream : List ℕ) → let read = read_alone tree notation stream (minimal_text tree notation (valuation_view tree (place_at places) V)) in
     (read.stopped ≡ None) × IsOneSolution tree read.input.places V
 
 -- The minimal file needs each of its lines: each is one line, and if any are left out, no solution for the user values that are read is this one.
-abbrev pub MinimalNeedsEach : TreeFacts → List ℕ → Places → (ℕ → SymbolValue) → Type 0
-MinimalNeedsEach tree prefix places V =
+abbrev pub MinimalNeedsEach : TreeFacts → Notation → Places → (ℕ → SymbolValue) → Type 0
+MinimalNeedsEach tree notation places V =
     (stream : List ℕ) (keep : SymId → Bool) (s : SymId) →
     s.0 < name_count tree → differs tree (place_at places) V s.0 ≡ true → keep s ≡ false →
     let view = valuation_view tree (place_at places) V in
-    let kept = flat_map (λ t. if keep t then (if view.differs t then symbol_config tree prefix view t else []) else []) tree.defined in
-    let read = read_alone tree prefix stream kept in
-    ((body : List ℕ) × (symbol_config tree prefix view s ≡ body ++ codes "\n") × All (λ b. is_line_feed b ≡ false) body)
+    let kept = flat_map (λ t. if keep t then (if view.differs t then symbol_config tree notation view t else []) else []) tree.defined in
+    let read = read_alone tree notation stream kept in
+    ((body : List ℕ) × (symbol_config tree notation view s ≡ body ++ codes "\n") × All (λ b. is_line_feed b ≡ false) body)
     × (read.stopped ≡ None)
     × ((W : ℕ → SymbolValue) → Solves (name_count tree) (equations tree (place_at read.input.places)) W → ((i : ℕ) → i < name_count tree → W i ≡ V i) → ⊥)
 
@@ -228,11 +243,26 @@ pub record HasPlainTitles (tree : TreeFacts) (prefix : List ℕ) (solution : Sol
 
 -- With plain numbers and titles, reading the `.config` gives the solution back if and only if no symbol changes on rereading: no visible tristate
 -- outside a choice is above both its visibility and what it is selected to.
-abbrev pub ConfigGivesBack : TreeFacts → List ℕ → Places → (ℕ → SymbolValue) → Type 0
-ConfigGivesBack tree prefix places V =
-    HasPlainNumbers tree V → HasPlainTitles tree prefix (valuation_view tree (place_at places) V) → (stream : List ℕ) →
-    let read = read_alone tree prefix stream (config_text tree prefix (valuation_view tree (place_at places) V)) in
+abbrev pub ConfigGivesBack : TreeFacts → Notation → Places → (ℕ → SymbolValue) → Type 0
+ConfigGivesBack tree notation places V =
+    HasPlainNumbers tree V → HasPlainTitles tree notation.prefix (valuation_view tree (place_at places) V) → (stream : List ℕ) →
+    let read = read_alone tree notation stream (config_text tree notation (valuation_view tree (place_at places) V)) in
     (read.stopped ≡ None) × (IsOneSolution tree read.input.places V ↔ ((i : ℕ) → i < name_count tree → changes_on_reread tree V i ≡ false))
+
+-- No new string is too long for a line, where it stands in quotes with its escapes.
+abbrev pub HasShortStrings : TreeFacts → SolutionView → (ℕ → SymbolValue) → Type 0
+HasShortStrings tree view V = (s : SymId) (text : List ℕ) → s.0 < name_count tree → view.is_new s ≡ true → V s.0 ≡ TextValue Str text →
+    length (text_in_config false Str text) ≤ longest_value
+
+-- Reading the list of new symbols after the input files that gave these user values. With short strings nothing is warned of. The values stay, if and
+-- only if no new symbol changes on rereading. And under them a symbol is still new only if it has a comment.
+abbrev pub NewGivesBack : TreeFacts → Notation → UserInput → (ℕ → SymbolValue) → Type 0
+NewGivesBack tree notation input V =
+    HasShortStrings tree (valuation_view tree (place_at input.places) V) V → (stream : List ℕ) → let view = valuation_view tree (place_at input.places) V in
+    let read = reading_of tree notation input (record { name = stream; bytes = new_text tree notation view } ∷ []) in
+    (read.stopped ≡ None) × (read.warned ≡ [])
+    × (IsOneSolution tree read.input.places V ↔ ((s : SymId) → s.0 < name_count tree → view.is_new s ≡ true → changes_on_reread tree V s.0 ≡ false))
+    × ((s : SymId) → s.0 < name_count tree → is_new tree (known_from tree V) (place_at read.input.places) s ≡ true → (view.is_new s ≡ true) × (has_value (V s.0) ≡ false))
 
 -- No line of a written text is too long to be read again.
 abbrev pub HasShortLines : List ℕ → Type 0

@@ -1,6 +1,6 @@
 -- Trusted: 3. Tokens: how a logical line is cut into words, quoted texts and operators, and where it cannot be cut.
--- Our own; the operators are those of the kernel's kconfig-language document ("Menu dependencies"). `IsCut` at the end is the rule.
-use Rattle.std.specs.{Char.{is_ascii_alphanumeric}, Prelude.{All, Bool, IsTrue, List, None, Option, Some, [], codes, drop, length, slice_index, take, ℕ, ◌++◌, ◌<◌, ◌==◌, ◌||◌, ◌∷◌, ◌≡◌, ◌≢◌, ◌≤◌, ◌⊎◌}}
+-- Our own; the operators are those of the kernel's kconfig-language document ("Menu dependencies"). `IsCutIn` at the end is the rule.
+use Rattle.std.specs.{Char.{is_ascii_alphanumeric}, List.{list_any}, Prelude.{All, Bool, IsTrue, List, None, Option, Some, [], codes, drop, false, if◌then◌else◌, length, not, slice_index, take, true, ℕ, ◌&&◌, ◌++◌, ◌<◌, ◌==◌, ◌||◌, ◌∷◌, ◌≡◌, ◌≢◌, ◌≤◌, ◌⊎◌}}
 use Rattle.kc_language.specs.{Text.{byte}, declared.{tokens.Op.{Op, TheVariants.{And, Eq, Ge, Gt, LParen, Le, Lt, Ne, Not, Or, RParen}}, tokens.TextFault.TextFault}}
 
 -- The blanks are space and tab. The bytes of words are the ASCII letters and digits and four others. The operators are six relations and five others.
@@ -27,10 +27,10 @@ pub data Lexeme : Type 0 where
   AWord AQuoted : List ℕ → Lexeme
   AnOp : Op → Lexeme
 
--- The text, all of it, spells the token. No text with a `$` does.
+-- The text, all of it, spells the token.
 abbrev pub Spells : List ℕ → Lexeme → Type 0
 Spells text (AWord w) = (text ≡ w) × (0 < length w) × All (λ b. IsTrue (is_word_byte b)) w
-Spells text (AQuoted t) = (q : ℕ) × ((q ≡ byte "\"") ⊎ (q ≡ byte "'")) × IsQuotedBody q t × All (λ b. b ≢ byte "$") t × (text ≡ q ∷ t ++ q ∷ [])
+Spells text (AQuoted t) = (q : ℕ) × ((q ≡ byte "\"") ⊎ (q ≡ byte "'")) × IsQuotedBody q t × (text ≡ q ∷ t ++ q ∷ [])
 Spells text (AnOp o) = text ≡ op_text o
 
 -- The first n bytes spell the token, and no larger number of them spells one.
@@ -39,14 +39,12 @@ pub record IsLongest (rest : List ℕ) (n : ℕ) (x : Lexeme) : Type 0 where
   pub spelled : Spells (take n rest) x
   pub longest : (m : ℕ) (y : Lexeme) → m ≤ length rest → Spells (take m rest) y → m ≤ n
 
--- After a quote q there is a `$` in the quoted text, or anywhere if no quote ends that text.
-abbrev pub HoldsDollar : ℕ → List ℕ → Type 0
-HoldsDollar q body = (k : ℕ) × (k < length body) × (slice_index body k ≡ byte "$")
-    × ((inside : List ℕ) → IsQuotedBody q inside × ((more : List ℕ) × (body ≡ inside ++ q ∷ more)) → k < length inside)
+-- A macro is a `$`, or a quoted text that has no end and holds one. It has an error of its own. Everything else that begins no token is a bad token.
+abbrev pub holds_dollar : List ℕ → Bool
+holds_dollar = list_any (λ b. b == byte "$")
 
--- A macro is a `$`, or a quoted text that holds one. It has an error of its own. Everything else that begins no token is a bad token.
 abbrev pub IsMacro : List ℕ → Type 0
-IsMacro rest = let q : ℕ = slice_index rest 0 in (q ≡ byte "$") ⊎ (((q ≡ byte "\"") ⊎ (q ≡ byte "'")) × HoldsDollar q (drop 1 rest))
+IsMacro rest = let q : ℕ = slice_index rest 0 in (q ≡ byte "$") ⊎ (((q ≡ byte "\"") ⊎ (q ≡ byte "'")) × (holds_dollar (drop 1 rest) ≡ true))
 
 -- Neither the end (where nothing is left, or only a comment) nor a blank nor a token stands here, for this reason.
 pub record CannotBeCut (rest : List ℕ) (fault : TextFault) : Type 0 where
@@ -61,3 +59,12 @@ pub data IsCut : List ℕ → List Lexeme → Option TextFault → Type 0 where
   stuck : {rest : List ℕ} {fault : TextFault} → CannotBeCut rest fault → IsCut rest [] (Some fault)
   skipped : {rest : List ℕ} {ts : List Lexeme} {out : Option TextFault} → IsTrue (is_blank (slice_index rest 0)) → IsCut (drop 1 rest) ts out → IsCut rest ts out
   taken : {rest : List ℕ} {n : ℕ} {x : Lexeme} {ts : List Lexeme} {out : Option TextFault} → IsLongest rest n x → IsCut (drop n rest) ts out → IsCut rest (x ∷ ts) out
+
+-- In a flat file a `$` between quotes is a byte like any other. In any other file it is a macro, and stands before each place that cannot be cut.
+abbrev pub is_macro : Lexeme → Bool
+is_macro x = elim x [ AQuoted t ↦ holds_dollar t | _ ↦ false ]
+
+pub record IsCutIn (flat : Bool) (line : List ℕ) (ts : List Lexeme) (out : Option TextFault) : Type 0 where
+  pub stop : Option TextFault
+  pub cut : IsCut line ts stop
+  pub out_is : out ≡ (if not flat && list_any is_macro ts then Some TextFault.Macro else stop)

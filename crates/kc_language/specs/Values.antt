@@ -66,7 +66,7 @@ abbrev pub clamped : SymbolType → Option Interval → List ℕ → List ℕ
 clamped k None t = t
 clamped k (Some r) t = if int_lt (number_or_zero k t) r.low then number_text k r.low else (if int_lt r.high (number_or_zero k t) then number_text k r.high else t)
 
--- Symbols and choices of a tree by number; each name that the tree mentions is a symbol.
+-- Symbols and choices of a tree by number. Each name that the tree mentions has a number.
 abbrev pub name_count : TreeFacts → ℕ
 name_count tree = length tree.symbols
 
@@ -81,6 +81,10 @@ name tree s = name_by tree.names s
 
 abbrev pub choice_at : TreeFacts → ℕ → Option ChoiceFacts
 choice_at tree c = slice_get tree.choices c
+
+-- Whether a line chose the member that is selected. Where the chosen member is not visible, another one is selected.
+abbrev pub is_chosen : Option SymId → Option GivenValue → Bool
+is_chosen selection user = elim user [ Some (Member m) ↦ is_symbol_of m selection | _ ↦ false ]
 
 -- The value of the modules symbol, n if there is none. The text of an expression that is one operand (else empty), and of a default.
 abbrev pub modules_value : (SymId → SymbolValue) → Option SymId → Tri
@@ -202,10 +206,11 @@ module _ (tree : TreeFacts) (known : SymId → SymbolValue) where
   has_other c = elim (selected (Some c) None) [ None ↦ false | Some s ↦ list_any (λ m. not (same_symbol s m) && visible m) c.members ]
 
   -- A symbol is new if no line answered its question (our own): none gave it a value, and an answer would change its value. A member: none gave it a
-  -- value or chose a member of its choice, it is visible, and another member could be selected in place of the selection.
+  -- value, none chose the selection of its choice, it is visible, and another member could be selected in place of the selection.
   abbrev pub is_new_by : (UserPlace → Option GivenValue) → SymId → SymbolFacts → Option ℕ → Bool
   is_new_by user s f None = can_change s f f.symbol_type
-  is_new_by user s f (Some c) = is_visible f && (not (is_some (user (ChoicePlace c))) && option_map_or has_other (choice_at tree c) false)
+  is_new_by user s f (Some c) = let given = user (ChoicePlace c) in
+      is_visible f && (not (is_chosen (selected (choice_at tree c) given) given) && option_map_or has_other (choice_at tree c) false)
 
   abbrev pub is_new : (UserPlace → Option GivenValue) → SymId → Bool
   is_new user s = not (is_some (user (SymbolPlace s.0))) && elim (facts tree s) [ None ↦ false | Some f ↦ is_new_by user s f f.choice ]

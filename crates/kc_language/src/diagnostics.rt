@@ -132,8 +132,14 @@ pub enum Warning<N> {
         high: N,
         used: N,
     },
-    /// K14: the value that was given is not the symbol's value.
+    /// K14: the value that was given is not the symbol's value, and the symbol has a prompt.
     Lost {
+        name: N,
+        given: N,
+        value: N,
+    },
+    /// K14: the value that was given is not the symbol's value, and the symbol has no prompt.
+    LostWithoutPrompt {
         name: N,
         given: N,
         value: N,
@@ -146,4 +152,6 @@ pub enum Warning<N> {
         line: u64,
         new: N,
     },
+    /// K16: an unset line names a string, int or hex symbol and has no effect.
+    TextUnset(N),
 }

@@ -22,6 +22,8 @@ pub struct Options<P> {
     pub out: Option<String>,
     /// The Kconfig file to begin with.
     pub kconfig: String,
+    /// Whether that is a flat file: line markers give its lines their locations, and a `$` in quotes is a byte.
+    pub is_flat: bool,
     /// The header to write.
     pub header: Option<String>,
     /// The minimal `.config` to write.
@@ -44,6 +46,8 @@ pub struct Options<P> {
     pub explain_lost: bool,
     /// The files to read after the `.config`, in this order.
     pub fragments: Vec<String>,
+    /// The folder of the files that `#include` lines of input files name, if such lines stand for these files.
+    pub include: Option<String>,
     /// What stands before each symbol's name.
     pub prefix: P,
     /// Whether the `.config` to read has to exist, as a fragment has to.
@@ -55,8 +59,14 @@ pub struct Options<P> {
     pub strict_tree: bool,
     /// Whether a value that was given and is not the symbol's is warned of (K14), and a line that changes a value (K15).
     pub warn_lost: bool,
+    /// Whether the warnings about the tree (K1 to K6) are left out.
+    pub quiet_tree: bool,
+    /// Whether each warning and error is followed by a line that says what to do.
+    pub hints: bool,
     /// What is done with the texts.
     pub delivery: Delivery,
+    /// Whether the difference of each file that is not up to date is reported, with `Delivery::Check`.
+    pub shows_difference: bool,
     /// Whether each diagnostic that is not about a line of the `.config` begins with the name of the `.config`, as where many are run.
     pub names_config: bool,
 }

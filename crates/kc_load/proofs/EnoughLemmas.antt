@@ -1,7 +1,7 @@
 -- What was loaded is enough: the expansion over it is the expansion over the folder's files.
 use Rattle.std.proofs.Common.{◌≡◌, ℕ, Bool, true, false, cond, nat_le, List, [], ◌∷◌, ◌++◌, length, Option, Some, None, MatchOption, Result, Ok, Err, Contains, IsUtf8, arith, refl, sym, ap, ◌∙◌, subst}
 use Rattle.std.proofs.lemmas.Bool.{false≢true}
-use Rattle.std.specs.Prelude.{All, IfOk}
+use Rattle.std.specs.Prelude.{All, IfOk, ◌&&◌}
 use Rattle.std.proofs.lemmas.List.Elements.{All-append, All-cons, All-nil, Contains-append_left, Contains-append_right}
 use Rattle.std.proofs.lemmas.Str.{IsUtf8-from_is_utf8, is_utf8-from_IsUtf8}
 use Rattle.std.specs.List.{list_any}
@@ -9,12 +9,13 @@ use Rattle.std.specs.Str.{is_utf8}
 use Rattle.kc_language.specs.Lines.{UnreadLines, unread_lines}
 use Rattle.kc_language.specs.Expressions.{same_name}
 use Rattle.kc_language.specs.declared.diagnostics.Cause.TheVariants as cause
-use Rattle.kc_language.specs.Expansion.{FileContext, Expands, Log, Refused, Rest, bytes_cause, with_file, refused, sourcing_cause, at_end, unclosed, too_long, no_tokens, blank, bad_line, over_limit, statement, bad_source, refused_inside, source, Files}
-use Rattle.kc_read.specs.PartsOfExpansion.{nothing_read, root_context}
+use Rattle.kc_language.specs.Expansion.{FileContext, Expands, Log, Refused, Rest, bytes_cause, first_log, refused, sourcing_cause, at_end, unclosed, too_long, no_tokens, blank, renumbered, moved, bad_line, over_limit, statement, bad_source, refused_inside, source}
+use Rattle.kc_read.specs.PartsOfExpansion.{root_context}
 use Rattle.kc_language.specs.Statements.{Cause, Located, Named}
 use Rattle.kc_read.specs.OpenedFiles.{sourced_files}
 use Rattle.kc_read.proofs.ExpansionThere.{has_one_expansion}
 use Rattle.kc_read.proofs.OneExpansion.{one_expansion_law}
+use Rattle.kc_load.specs.Asking.{FileBytes, tree_of}
 use Rattle.kc_load.specs.Loading.{ExpandsAlike, Suffices}
 use Rattle.kc_load.specs.PartsOfFolder.{named}
 use Rattle.kc_load.specs.Folder.{FolderFiles, files_found}
@@ -30,19 +31,21 @@ use Rattle.kc_load.proofs.Walks.{IsMetIn, Walks, first_is_met}
 here : (x : List ℕ) (xs : List (List ℕ)) → Contains (x ∷ xs) x
 here x xs = (0, omega arith, refl)
 
-module _ (files others : Files) where
-  same_cause : (opens : List (List ℕ)) (n : ℕ) (name : List ℕ) (o : Option Cause) → others name ≡ files name → sourcing_cause files opens n name ≡ o → sourcing_cause others opens n name ≡ o
+module _ (files others : FileBytes) where
+  same_cause : (opens : List (List ℕ)) (n : ℕ) (name : List ℕ) (o : Option Cause) → others name ≡ files name → sourcing_cause (tree_of files) opens n name ≡ o → sourcing_cause (tree_of others) opens n name ≡ o
   same_cause opens n name o e h =
       ap (λ f. cond (list_any (same_name name) opens) (Some (cause.InclusionLoop name)) (cond (nat_le 64 (length opens)) (Some cause.TooDeep) (bytes_cause name n f))) e ∙ h
 
   -- the expansion over the one is one over the other
-  pub over : {a : FileContext} {l : UnreadLines} {own : List (Located Named)} {log : Log} {r : Result Log Refused} (d : Rest files a l own log r) →
-      ((y : List ℕ) → Contains (sourced_files d) y → others y ≡ files y) → Rest others a l own log r
+  pub over : {a : FileContext} {l : UnreadLines} {own : List (Located Named)} {log : Log} {r : Result Log Refused} (d : Rest (tree_of files) a l own log r) →
+      ((y : List ℕ) → Contains (sourced_files d) y → others y ≡ files y) → Rest (tree_of others) a l own log r
   over (at_end a l own log none closed) h = at_end a l own log none closed
   over (unclosed a l own log line none unmatched) h = unclosed a l own log line none unmatched
   over (too_long a l own log long) h = too_long a l own log long
   over (no_tokens a l m own log ts why next) h = no_tokens a l m own log ts why next
   over (blank a l m own log r next d) h = blank a l m own log r next (over d h)
+  over (renumbered a l m own log n r marks d) h = absurd (false≢true marks.1)
+  over (moved a l m own log n name r marks differs d) h = absurd (false≢true marks.1)
   over (bad_line a l m own log c n) h = bad_line a l m own log c n
   over (over_limit a l m own log s c n f) h = over_limit a l m own log s c n f
   over (statement a l m own log s r n plain f d) h = statement a l m own log s r n plain f (over d h)
@@ -57,17 +60,19 @@ module _ (files others : Files) where
       (over g (λ y c. h y (Contains-append_right (name ∷ []) (sourced_files d ++ sourced_files g) y (Contains-append_right (sourced_files d) (sourced_files g) y c))))
 
 -- What holds of the file that is read and of those that are sourced holds of the file of each line.
-module _ (files : Files) (P : List ℕ → Type 0) where
+module _ (files : FileBytes) (P : List ℕ → Type 0) where
   abbrev OfLines : List (Located Named) → Type 0
   OfLines ls = All (λ (l : Located Named). P l.file) ls
 
-  pub of_lines : {a : FileContext} {l : UnreadLines} {own : List (Located Named)} {log : Log} {r : Result Log Refused} (d : Rest files a l own log r) →
+  pub of_lines : {a : FileContext} {l : UnreadLines} {own : List (Located Named)} {log : Log} {r : Result Log Refused} (d : Rest (tree_of files) a l own log r) →
       P a.file → ((y : List ℕ) → Contains (sourced_files d) y → P y) → OfLines log.lines → IfOk r (λ more. OfLines more.lines)
   of_lines (at_end a l own log none closed) p h all = all
   of_lines (unclosed a l own log line none unmatched) p h all = tt
   of_lines (too_long a l own log long) p h all = tt
   of_lines (no_tokens a l m own log ts why next) p h all = tt
   of_lines (blank a l m own log r next d) p h all = of_lines d p h all
+  of_lines (renumbered a l m own log n r marks d) p h all = absurd (false≢true marks.1)
+  of_lines (moved a l m own log n name r marks differs d) p h all = absurd (false≢true marks.1)
   of_lines (bad_line a l m own log c n) p h all = tt
   of_lines (over_limit a l m own log s c n f) p h all = tt
   of_lines (statement a l m own log s r n plain f d) p h all =
@@ -84,37 +89,37 @@ module _ (files : Files) (P : List ℕ → Type 0) where
 
 -- ---- From the root file on
 
-abbrev RootGives : Files → List ℕ → Result Log Refused → Type 0
-RootGives files root r = (bytes : List ℕ) × (files root ≡ Some bytes) × Rest files (root_context root) (unread_lines bytes 1) [] (with_file nothing_read root bytes) r
+abbrev RootGives : FileBytes → List ℕ → Result Log Refused → Type 0
+RootGives files root r = (bytes : List ℕ) × (files root ≡ Some bytes) × Rest (tree_of files) (root_context root) (unread_lines bytes 1) [] (first_log (tree_of files) root bytes) r
 
-module _ (folder_files : List ℕ → Option (List ℕ)) (dir first : List ℕ) (loaded : Files) (w : List (List ℕ)) (m : ℕ) (b : Bool)
+module _ (folder_files : List ℕ → Option (List ℕ)) (dir first : List ℕ) (loaded : FileBytes) (w : List (List ℕ)) (m : ℕ) (b : Bool)
     (walk : Walks (Some folder_files) dir [] 0 (first ∷ []) w m b) (agree : (y : List ℕ) → IsMetIn w y → loaded y ≡ named folder_files dir y) where
   same_root : loaded first ≡ named folder_files dir first
   same_root = agree first (first_is_met (omega arith) walk)
 
   -- what the root file asks for was loaded
   requested_agree : (bytes : List ℕ) (r : Result Log Refused) → bytes_cause first 0 (named folder_files dir first) ≡ None → named folder_files dir first ≡ Some bytes →
-      (d : Rest (named folder_files dir) (root_context first) (unread_lines bytes 1) [] (with_file nothing_read first bytes) r) → (y : List ℕ) → Contains (sourced_files d) y → loaded y ≡ named folder_files dir y
+      (d : Rest (tree_of (named folder_files dir)) (root_context first) (unread_lines bytes 1) [] (first_log (tree_of (named folder_files dir)) first bytes) r) → (y : List ℕ) → Contains (sourced_files d) y → loaded y ≡ named folder_files dir y
   requested_agree bytes r free there d y c =
       let few = few_lines first bytes 0 (named folder_files dir first) free there in
       let free : list_any (same_name first) [] ≡ false = refl in
       let shut : IsClosed folder_files dir [] [] = λ x c now. absurd (false≢true now) in
       let en = enter folder_files dir {opens = []} bytes 0 there free (omega arith) (omega arith) shut walk in
-      let f = follow folder_files dir d en.names en.sources en.walk en.closed en.fewer few in
+      let f = follow folder_files dir d en.names en.sources en.walk en.closed (omega (arith, en.fewer)) (omega (arith, few)) in
       agree y (en.grown y (f.asks y c))
 
   opened_alike : (r : Result Log Refused) → bytes_cause first 0 (named folder_files dir first) ≡ None → RootGives (named folder_files dir) first r → RootGives loaded first r
   opened_alike r free (bytes, there, d) = (bytes, same_root ∙ there, over (named folder_files dir) loaded d (requested_agree bytes r free there d))
 
-  pub forward : (r : Result Log Refused) → Expands (named folder_files dir) first r → Expands loaded first r
+  pub forward : (r : Result Log Refused) → Expands (tree_of (named folder_files dir)) first r → Expands (tree_of loaded) first r
   forward r d = by (bytes_cause first 0 (named folder_files dir first)) refl d
     where
-      by : (o : Option Cause) → bytes_cause first 0 (named folder_files dir first) ≡ o → MatchOption o (RootGives (named folder_files dir) first r) (λ c. r ≡ Err (refused c first 0)) → Expands loaded first r
+      by : (o : Option Cause) → bytes_cause first 0 (named folder_files dir first) ≡ o → MatchOption o (RootGives (named folder_files dir) first r) (λ c. r ≡ Err (refused c first 0)) → Expands (tree_of loaded) first r
       by None e x = subst (λ (k : Option Cause). MatchOption k (RootGives loaded first r) (λ c. r ≡ Err (refused c first 0))) (sym (ap (bytes_cause first 0) same_root ∙ e)) (opened_alike r e x)
       by (Some c) e x = subst (λ (k : Option Cause). MatchOption k (RootGives loaded first r) (λ c. r ≡ Err (refused c first 0))) (sym (ap (bytes_cause first 0) same_root ∙ e)) x
 
   -- the files of the lines
-  lines_alike : (log : Log) → Expands (named folder_files dir) first (Ok log) → All (λ (l : Located Named). loaded l.file ≡ named folder_files dir l.file) log.lines
+  lines_alike : (log : Log) → Expands (tree_of (named folder_files dir)) first (Ok log) → All (λ (l : Located Named). loaded l.file ≡ named folder_files dir l.file) log.lines
   lines_alike log d = by (bytes_cause first 0 (named folder_files dir first)) refl d
     where
       by : (o : Option Cause) → bytes_cause first 0 (named folder_files dir first) ≡ o →
@@ -125,15 +130,19 @@ module _ (folder_files : List ℕ → Option (List ℕ)) (dir first : List ℕ) 
           (All-nil (λ (l : Located Named). loaded l.file ≡ named folder_files dir l.file))
       by (Some c) e x = absurd (let clash : Ok log ≡ Err (refused c first 0) = x in cc)
 
-  pub alike : ExpandsAlike first (named folder_files dir) loaded
+  pub alike : ExpandsAlike first (tree_of (named folder_files dir)) (tree_of loaded)
   alike = record { gives = λ r. (forward r, back r); holds = lines_alike }
     where
-      back : (r : Result Log Refused) → Expands loaded first r → Expands (named folder_files dir) first r
+      back : (r : Result Log Refused) → Expands (tree_of loaded) first r → Expands (tree_of (named folder_files dir)) first r
       back r h =
-          let x = has_one_expansion (named folder_files dir) first in
-          subst (Expands (named folder_files dir) first) (one_expansion_law loaded first x.0 r (forward x.0 x.1) h) x.1
+          let x = has_one_expansion (tree_of (named folder_files dir)) first in
+          subst (Expands (tree_of (named folder_files dir)) first) (one_expansion_law (tree_of loaded) first x.0 r (forward x.0 x.1) h) x.1
 
 -- ---- The end of the loading
+
+and_true : (a : Bool) → (a && true) ≡ a
+and_true true = refl
+and_true false = refl
 
 module _ (folder_files : List ℕ → Option (List ℕ)) (dir first : List ℕ) (s : State) (h : Ongoing (Some folder_files) dir first s) where
   -- each name that was asked for has the folder's file
@@ -151,14 +160,14 @@ module _ (folder_files : List ℕ → Option (List ℕ)) (dir first : List ℕ) 
       by true u = sym (at_name (λ x o. folder_files (path_of dir x) ≡ o) h.asked h.answers y (there (IsUtf8-from_is_utf8 y u)))
       by false u = found_absent h.asked y (not_requested u (was_requested (names_of h.asked) y) refl)
 
-  pub enough_told : (b : Bool) → Walks (Some folder_files) dir [] 0 (first ∷ []) s.requested s.lines b → Suffices (Some folder_files) dir first s.files
+  pub enough_told : (b : Bool) → Walks (Some folder_files) dir [] 0 (first ∷ []) s.requested s.lines b → Suffices (Some folder_files) dir first false (tree_of s.files)
   enough_told b walk = (
-    named folder_files dir,
-    refl,
+    tree_of (named folder_files dir),
+    record { flat_is = refl; bytes_are = λ j name. cond (sym (and_true (is_utf8 name)) j) (folder_files (path_of dir name)) None },
     alike folder_files dir first s.files s.requested s.lines b walk requested_are_whole,
   )
 
-pub enough : (folder_files : FolderFiles) (dir first : List ℕ) (s : State) → Ongoing folder_files dir first s → (b : Bool) → Walks folder_files dir [] 0 (first ∷ []) s.requested s.lines b → Suffices folder_files dir first s.files
+pub enough : (folder_files : FolderFiles) (dir first : List ℕ) (s : State) → Ongoing folder_files dir first s → (b : Bool) → Walks folder_files dir [] 0 (first ∷ []) s.requested s.lines b → Suffices folder_files dir first false (tree_of s.files)
 enough None dir first s h b walk =
-    (s.files, tt, record { gives = λ r. (λ x. x, λ x. x); holds = λ log d i l within. refl })
+    (tree_of s.files, record { flat_is = refl; bytes_are = tt }, record { gives = λ r. (λ x. x, λ x. x); holds = λ log d i l within. refl })
 enough (Some folder_files) dir first s h b walk = enough_told folder_files dir first s h b walk

@@ -12,7 +12,7 @@ use Rattle.kc_language.specs.Lines.{UnreadLines}
 use Rattle.kc_language.specs.Expressions.{same_name, mention}
 use Rattle.kc_expr.proofs.NamesLemmas.{same_name-refl}
 use Rattle.kc_language.specs.declared.diagnostics.Cause.TheVariants as cause
-use Rattle.kc_language.specs.Expansion.{FileContext, Log, Refused, Rest, NextStatement, bytes_cause, sourcing_cause, at_end, unclosed, too_long, no_tokens, blank, bad_line, over_limit, statement, bad_source, refused_inside, source, Files, SourceNames}
+use Rattle.kc_language.specs.Expansion.{FileContext, Log, Refused, Rest, NextStatement, bytes_cause, sourcing_cause, at_end, unclosed, too_long, no_tokens, blank, renumbered, moved, bad_line, over_limit, statement, bad_source, refused_inside, source, SourceNames}
 use Rattle.kc_read.specs.PartsOfExpansion.{is_source, lines_of}
 use Rattle.kc_language.specs.Statements.{Cause, LineContext, After, ReadsSource, begins_with, finish, plain_text, text_of, Located, Named, SourceLine}
 use Rattle.kc_read.specs.OpenedFiles.{sourced_files}
@@ -22,7 +22,7 @@ use Rattle.kc_read.proofs.SourceLines as lines
 use Rattle.kc_read.proofs.SourceWord.{source_begins, begins_source}
 use Rattle.kc_load.specs.PartsOfFolder.{named}
 use Rattle.kc_language.specs.Outcome.{path_of}
-use Rattle.kc_load.specs.Asking.{AreSources}
+use Rattle.kc_load.specs.Asking.{AreSources, FileBytes, tree_of}
 use Rattle.kc_language.specs.Text.{most_lines}
 use Rattle.kc_text.specs.PartsOfText.{last_count}
 use Rattle.kc_load.specs.Steps.{was_requested}
@@ -49,14 +49,14 @@ reads_source ts s h =
     ap is_source is
 
 -- behind a statement that is no `source` line the names are those before it
-names_plain : (l m : UnreadLines) (c : LineContext) (s : Named) (ns : List (List ℕ)) → NextStatement l m c (Ok s) → is_source s ≡ false → SourceNames l ns → SourceNames m ns
+names_plain : (l m : UnreadLines) (c : LineContext) (s : Named) (ns : List (List ℕ)) → NextStatement false l m c (Ok s) → is_source s ≡ false → SourceNames l ns → SourceNames m ns
 names_plain l m c s ns n plain d = elim (cases_Bool (begins_with (codes "source") n.tokens)) [
   | inl b ↦ absurd (both_ways (is_source s) plain (reads_source (drop 1 n.tokens) s (begins_source c n.tokens (Ok s) b n.reads)))
   | inr b ↦ lines.after_other l m ns (n.tokens, n.next, b) d
 ]
 
 -- a `source` line names its file first
-names_source : (l m : UnreadLines) (c : LineContext) (name : List ℕ) (ns : List (List ℕ)) → NextStatement l m c (Ok (SourceLine name)) → SourceNames l ns →
+names_source : (l m : UnreadLines) (c : LineContext) (name : List ℕ) (ns : List (List ℕ)) → NextStatement false l m c (Ok (SourceLine name)) → SourceNames l ns →
     (more : List (List ℕ)) × (ns ≡ name ∷ more) × SourceNames m more
 names_source l m c name ns n d =
     let b = source_begins c n.tokens name n.reads in
@@ -76,7 +76,7 @@ few_lines name bytes n (Some c) e f =
     by false g h = grind (arith, nat_tests)
 
 -- and it is not open
-may_open : (files : Files) (opens : List (List ℕ)) (n : ℕ) (name bytes : List ℕ) → sourcing_cause files opens n name ≡ None → files name ≡ Some bytes →
+may_open : (files : FileBytes) (opens : List (List ℕ)) (n : ℕ) (name bytes : List ℕ) → sourcing_cause (tree_of files) opens n name ≡ None → files name ≡ Some bytes →
     (list_any (same_name name) opens ≡ false) × (n + lines_of bytes ≤ most_lines)
 may_open files opens n name bytes h there = by (list_any (same_name name) opens) (nat_le 64 (length opens)) refl h
   where
@@ -90,7 +90,7 @@ may_open files opens n name bytes h there = by (list_any (same_name name) opens)
 -- ---- The folder
 
 module _ (folder_files : List ℕ → Option (List ℕ)) (dir : List ℕ) where
-  abbrev pub all : Files
+  abbrev pub all : FileBytes
   all = named folder_files dir
 
   -- a name that has a file is text, and the folder tells that file
@@ -241,7 +241,7 @@ module _ (folder_files : List ℕ → Option (List ℕ)) (dir : List ℕ) where
   none_requested : (a : FileContext) (e : Refused) (w : List (List ℕ)) (m : ℕ) (b : Bool) → Follows a (Err e) [] w m b
   none_requested a e w m b = record { asks = λ y c. absurd (no_name y c); ends = tt }
 
-  pub follow : {a : FileContext} {l : UnreadLines} {own : List (Located Named)} {log : Log} {r : Result Log Refused} (d : Rest all a l own log r)
+  pub follow : {a : FileContext} {l : UnreadLines} {own : List (Located Named)} {log : Log} {r : Result Log Refused} (d : Rest (tree_of all) a l own log r)
       {v w : List (List ℕ)} {n m : ℕ} {b : Bool} (ns : List (List ℕ)) → SourceNames l ns → Walks (Some folder_files) dir v n ns w m b → IsClosed a.open_files v →
       n ≤ log.total_lines → log.total_lines ≤ most_lines → Follows a r (sourced_files d) w m b
   follow (at_end a l own log none closed) ns names walk shut le lim =
@@ -250,7 +250,9 @@ module _ (folder_files : List ℕ → Option (List ℕ)) (dir : List ℕ) where
   follow (unclosed a l own log line none unmatched) ns names walk shut le lim = none_requested a _ _ _ _
   follow (too_long a l own log long) ns names walk shut le lim = none_requested a _ _ _ _
   follow (no_tokens a l m own log ts why next) ns names walk shut le lim = none_requested a _ _ _ _
-  follow (blank a l m own log r next d) ns names walk shut le lim = follow d ns (lines.after_other l m ns ([], next, refl) names) walk shut le lim
+  follow (blank a l m own log r next d) ns names walk shut le lim = follow d ns (lines.after_other l m ns ([], next.0, refl) names) walk shut le lim
+  follow (renumbered a l m own log n r marks d) ns names walk shut le lim = absurd (false≢true marks.1)
+  follow (moved a l m own log n name r marks differs d) ns names walk shut le lim = absurd (false≢true marks.1)
   follow (bad_line a l m own log c n) ns names walk shut le lim = none_requested a _ _ _ _
   follow (over_limit a l m own log s c n f) ns names walk shut le lim = none_requested a _ _ _ _
   follow (statement a l m own log s r n plain f d) ns names walk shut le lim = follow d ns (names_plain l m _ s ns n plain names) walk shut le lim

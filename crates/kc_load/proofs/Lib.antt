@@ -9,6 +9,7 @@ pub mod EndLemmas
 pub mod Walks
 pub mod FollowLemmas
 pub mod EnoughLemmas
+pub mod FlatLemmas
 pub mod FolderLemmas
 pub mod SoFar
 pub mod OneOrder

@@ -8,7 +8,7 @@ use Rattle.kc_text.specs.PartsOfText.{last_count}
 use Rattle.kc_language.specs.Text.{most_lines}
 use Rattle.kc_language.specs.Expressions.{same_name, mention}
 use Rattle.kc_read.proofs.OpenedFileLemmas.{has_one_list_of_names}
-use Rattle.kc_language.specs.Expansion.{Files}
+use Rattle.kc_load.specs.Asking.{FileBytes}
 use Rattle.kc_read.specs.PartsOfExpansion.{lines_of}
 use Rattle.kc_language.specs.Outcome.{path_of}
 use Rattle.kc_load.specs.Asking.{AreSources}
@@ -87,7 +87,7 @@ IsLess n s = (lines_left n < lines_left s) ⊎ ((lines_left n ≡ lines_left s) 
 module _ (folder_files : List ℕ → Option (List ℕ)) (dir first : List ℕ) where
   -- there is a map that loading gives
   abbrev There : Type 0
-  There = (files : Files) × Loads (Some folder_files) dir first files
+  There = (files : FileBytes) × Loads (Some folder_files) dir first files
 
   -- the loading has come to this state
   abbrev IsOn : State → Type 0

@@ -4,7 +4,7 @@ use Rattle.std.proofs.lemmas.List.{take_all}
 use Rattle.std.proofs.lemmas.List.Elements.{Contains-append_left, Contains-append_right, Contains-append_cases}
 use Rattle.kc_language.specs.Lines.{unread_lines}
 use Rattle.kc_read.proofs.SourceLines.{one_list}
-use Rattle.kc_language.specs.Expansion.{Files}
+use Rattle.kc_load.specs.Asking.{FileBytes}
 use Rattle.kc_load.specs.Asking.{AreSourcesOf, AskedAlong, IsNew, ended, passed, asked}
 use Rattle.kc_load.specs.Loading.{OneOrder}
 
@@ -45,7 +45,7 @@ module _ {X : Type 0} where
 
 -- ---- What is asked for, taken apart
 
-pub record AsksFirst (files : Files) (before : List (List ℕ)) (name : List ℕ) (names all : List (List ℕ)) : Type 0 where
+pub record AsksFirst (files : FileBytes) (before : List (List ℕ)) (name : List ℕ) (names all : List (List ℕ)) : Type 0 where
   pub sources : List (List ℕ)
   pub inside : List (List ℕ)
   pub behind : List (List ℕ)
@@ -55,11 +55,11 @@ pub record AsksFirst (files : Files) (before : List (List ℕ)) (name : List ℕ
   pub others : AskedAlong files (before ++ name ∷ inside) names behind
   pub all_are : all ≡ name ∷ inside ++ behind
 
-abbrev pub Parts : Files → List (List ℕ) → List (List ℕ) → List (List ℕ) → Type 0
+abbrev pub Parts : FileBytes → List (List ℕ) → List (List ℕ) → List (List ℕ) → Type 0
 Parts files before [] all = all ≡ []
 Parts files before (name ∷ names) all = ((IsNew before name → ⊥) × AskedAlong files before names all) ⊎ AsksFirst files before name names all
 
-pub parts : {files : Files} {before names all : List (List ℕ)} → AskedAlong files before names all → Parts files before names all
+pub parts : {files : FileBytes} {before names all : List (List ℕ)} → AskedAlong files before names all → Parts files before names all
 parts (ended before) = refl
 parts (passed before names all name known d) = inl (known, d)
 parts (asked before names sources inside behind name new are own others) = inr (record {
@@ -79,7 +79,7 @@ one_sources (Some bytes) names others e f = one_list (unread_lines bytes 1) name
 
 -- ---- Over two maps of files
 
-module _ (files others : Files) where
+module _ (files others : FileBytes) where
   pub same_front : {before names all : List (List ℕ)} (d : AskedAlong files before names all) (more : List (List ℕ)) → AskedAlong others before names more → (n : ℕ) →
       ((x : List ℕ) → Contains (take n all) x → files x ≡ others x) → take (suc n) all ≡ take (suc n) more
   same_front (ended before) more e n agree = ap (take (suc n)) (sym (parts e))

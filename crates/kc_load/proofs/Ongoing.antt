@@ -1,7 +1,7 @@
 -- What holds while files are loaded.
 use Rattle.std.proofs.Common.{◌≡◌, ℕ, List, ◌++◌, reverse, min, true, All, IsUtf8}
 use Rattle.kc_text.specs.PartsOfText.{last_count}
-use Rattle.kc_language.specs.Expansion.{Files}
+use Rattle.kc_load.specs.Asking.{FileBytes}
 use Rattle.kc_load.specs.Folder.{FolderFiles, AnswersAs, Answer, files_found, line_total}
 use Rattle.kc_language.specs.Outcome.{path_of}
 use Rattle.kc_load.specs.Asking.{AskedAlong, AskedInOrder}
@@ -10,12 +10,12 @@ use Rattle.kc_load.specs.Steps.{State, was_requested}
 use Rattle.kc_load.proofs.FoundLemmas.{names_of}
 
 -- each name that was asked for has the file that was found
-abbrev pub Agree : List Answer → Files → Type 0
+abbrev pub Agree : List Answer → FileBytes → Type 0
 Agree asked files = (name : List ℕ) → was_requested (names_of asked) name ≡ true → files name ≡ files_found asked name
 
 -- whatever is asked for along the names that wait, behind what was asked for it is in order
 abbrev pub IsInOrder : List ℕ → List Answer → List (List ℕ) → Type 0
-IsInOrder first asked waiting = (files : Files) (more : List (List ℕ)) → Agree asked files → AskedAlong files (names_of asked) waiting more → AskedInOrder files first (names_of asked ++ more)
+IsInOrder first asked waiting = (files : FileBytes) (more : List (List ℕ)) → Agree asked files → AskedAlong files (names_of asked) waiting more → AskedInOrder files first (names_of asked ++ more)
 
 pub record Ongoing (folder_files : FolderFiles) (dir first : List ℕ) (s : State) : Type 0 where
   pub asked : List Answer

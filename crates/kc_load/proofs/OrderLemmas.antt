@@ -4,7 +4,7 @@ use Rattle.std.proofs.lemmas.Bool.{both_ways}
 use Rattle.std.proofs.lemmas.List.Elements.{Contains-append_left}
 use Rattle.std.proofs.lemmas.Str.{IsUtf8-from_is_utf8, is_utf8-from_IsUtf8}
 use Rattle.std.specs.Str.{is_utf8}
-use Rattle.kc_language.specs.Expansion.{Files}
+use Rattle.kc_load.specs.Asking.{FileBytes}
 use Rattle.kc_load.specs.Asking.{AreSourcesOf, AskedAlong, IsNew, ended, passed, asked}
 use Rattle.kc_load.specs.Steps.{was_requested}
 use Rattle.kc_load.proofs.RequestedLemmas.{in_requested, not_in}
@@ -19,7 +19,7 @@ new_or_not before name = by (is_utf8 name) (was_requested before name) refl refl
     by true false t e = inl (IsUtf8-from_is_utf8 name t, not_in before name e)
 
 -- along two lists of names
-pub split : {files : Files} {before zs all : List (List ℕ)} (d : AskedAlong files before zs all) (xs ys : List (List ℕ)) → zs ≡ xs ++ ys →
+pub split : {files : FileBytes} {before zs all : List (List ℕ)} (d : AskedAlong files before zs all) (xs ys : List (List ℕ)) → zs ≡ xs ++ ys →
     (inside : List (List ℕ)) × (behind : List (List ℕ)) × (all ≡ inside ++ behind) × AskedAlong files before xs inside × AskedAlong files (before ++ inside) ys behind
 split {files} {before} {zs} {all} d [] ys e =
     ([], all, refl, ended before, subst (λ (l : List (List ℕ)). AskedAlong files l ys all) (sym (append-nil before)) (subst (λ (l : List (List ℕ)). AskedAlong files before l all) e d))
@@ -41,7 +41,7 @@ split {files} (asked before zs sources within more z new are d f) (x ∷ xs) ys 
     )
 
 -- where each name that was not asked for has no file, what is asked for along any names
-pub flat : (files : Files) (names before : List (List ℕ)) → ((x : List ℕ) → (Contains before x → ⊥) → files x ≡ None) → (all : List (List ℕ)) × AskedAlong files before names all
+pub flat : (files : FileBytes) (names before : List (List ℕ)) → ((x : List ℕ) → (Contains before x → ⊥) → files x ≡ None) → (all : List (List ℕ)) × AskedAlong files before names all
 flat files [] before none = ([], ended before)
 flat files (name ∷ names) before none = elim (new_or_not before name) [
   | inr known ↦ let (all, d) = flat files names before none in (all, passed before names all name known d)

@@ -9,7 +9,7 @@ use Rattle.kc_language.specs.Expressions.{same_name}
 use Rattle.kc_expr.proofs.NamesLemmas.{same_name-refl}
 use Rattle.kc_read.proofs.FileLemmas.{same_name_eq}
 use Rattle.kc_read.proofs.OpenedFileLemmas.{has_one_list_of_names}
-use Rattle.kc_language.specs.Expansion.{Files}
+use Rattle.kc_load.specs.Asking.{FileBytes}
 use Rattle.kc_load.specs.Folder.{Answer, files_found}
 use Rattle.kc_load.specs.Asking.{AreSources, AreSourcesOf, AskedAlong, IsNew, ended, passed, asked}
 use Rattle.kc_load.specs.Loading.{HasOrder, OrderIsReached, Reached, itself, sourced}
@@ -167,7 +167,7 @@ known_there before name known text = by (was_requested before name) refl
     by true e = in_requested before name e
     by false e = absurd (known (text, not_in before name e))
 
-module _ (files : Files) where
+module _ (files : FileBytes) where
   -- no name is asked for that was asked for before
   asked_are_new : {before names all : List (List ℕ)} (d : AskedAlong files before names all) (x : List ℕ) → Contains all x → Contains before x → ⊥
   asked_are_new (ended before) x c b = no_name x c

@@ -1,6 +1,7 @@
 -- What holds while files are loaded from a folder that may stop telling.
 use Rattle.std.proofs.Common.{◌≡◌, ℕ, ◌<◌, ◌≤◌, true, false, List, [], ◌∷◌, ◌++◌, Option}
 use Rattle.kc_language.specs.Text.{most_lines}
+use Rattle.kc_load.specs.Asking.{tree_of}
 use Rattle.kc_load.specs.Loading.{Suffices, Loads}
 use Rattle.kc_load.specs.Folder.{IsLoadFault, FolderFiles, FolderState, Leads, files_told}
 use Rattle.kc_load.specs.Steps.{FailsAt, State, Visits, initial_state}
@@ -39,7 +40,7 @@ module _ (told : Option FolderState) (dir first : List ℕ) (s : State) (so_far 
   pub loaded_at_end : s.waiting ≡ [] → Loads (files_told told) dir first s.files
   loaded_at_end none = let (ongoing, on_way) = so_far (files_told told) (are_told told) in ends.at_end (files_told told) dir first s ongoing none
 
-  pub enough_at_end : s.waiting ≡ [] → Suffices (files_told told) dir first s.files
+  pub enough_at_end : s.waiting ≡ [] → Suffices (files_told told) dir first false (tree_of s.files)
   enough_at_end none =
       let (ongoing, on_way) = so_far (files_told told) (are_told told) in
       enough (files_told told) dir first s ongoing false (ended_walk (files_told told) dir first s on_way none)
@@ -48,7 +49,7 @@ module _ (told : Option FolderState) (dir first : List ℕ) (s : State) (so_far 
   pub loaded_over : most_lines < s.lines → Loads (files_told told) dir first s.files
   loaded_over over = let (ongoing, on_way) = so_far (files_told told) (are_told told) in ends.when_over (files_told told) dir first s ongoing over
 
-  pub enough_over : most_lines < s.lines → Suffices (files_told told) dir first s.files
+  pub enough_over : most_lines < s.lines → Suffices (files_told told) dir first false (tree_of s.files)
   enough_over over =
       let (ongoing, on_way) = so_far (files_told told) (are_told told) in
       enough (files_told told) dir first s ongoing true (over_walk (files_told told) dir first s on_way over)

@@ -6,7 +6,7 @@ use Rattle.kc_language.specs.Expressions.{same_name, mention}
 use Rattle.kc_text.specs.PartsOfText.{last_count}
 use Rattle.kc_language.specs.Text.{most_lines}
 use Rattle.kc_read.proofs.FileLemmas.{same_name_eq}
-use Rattle.kc_language.specs.Expansion.{Files}
+use Rattle.kc_load.specs.Asking.{FileBytes}
 use Rattle.kc_load.specs.Folder.{FolderFiles, AnswersAs, Answer, files_found, line_total}
 use Rattle.kc_language.specs.Outcome.{path_of}
 use Rattle.kc_load.specs.Asking.{AreSourcesOf, AskedAlong, AskedInOrder, IsNew, passed, asked}
@@ -62,14 +62,14 @@ module _ (folder_files : FolderFiles) (dir first : List ℕ) (s : State) (h : On
       abbrev asked_now : List Answer
       asked_now = h.asked ++ now ∷ []
 
-      agreed : (files : Files) → Agree asked_now files → Agree h.asked files
+      agreed : (files : FileBytes) → Agree asked_now files → Agree h.asked files
       agreed files agree x there =
           let still : was_requested (names_of asked_now) x ≡ true =
           ap (λ (l : List (List ℕ)). was_requested l x) (names_push h.asked now)
           ∙ requested_in (names_of h.asked ++ name ∷ []) x (Contains-append_left (names_of h.asked) (name ∷ []) x (in_requested (names_of h.asked) x there)) in
           agree x still ∙ found_still h.asked now not_asked x there
 
-      agreed_here : (files : Files) → Agree asked_now files → files name ≡ o
+      agreed_here : (files : FileBytes) → Agree asked_now files → files name ≡ o
       agreed_here files agree =
           let there : was_requested (names_of asked_now) name ≡ true =
           ap (λ (l : List (List ℕ)). was_requested l name) (names_push h.asked now)

@@ -1,8 +1,8 @@
 -- Trusted: What a folder records of its files, in which order the files of a tree are loaded, and why loading ends early (our own).
 -- A folder in memory records all, until it runs out of memory; a folder on a disk records nothing.
-use Rattle.std.specs.{Prelude.{◌≡◌, ℕ, ◌+◌, ◌≤◌, List, [], ◌∷◌, ◌++◌, length, map, All, Option, Some, None, Result, Err, IfOk, Vec, option_map, if◌then◌else◌}, Str.is_utf8, declared.alloc.Global.Global}
+use Rattle.std.specs.{Prelude.{◌≡◌, ℕ, ◌+◌, ◌≤◌, List, [], ◌∷◌, ◌++◌, length, map, All, Bool, true, ◌&&◌, Option, Some, None, MatchOption, Result, Err, IfOk, Vec, option_map, if◌then◌else◌}, Str.is_utf8, declared.alloc.Global.Global}
 use Rattle.kc_language.specs.{Text.most_lines, Expressions.same_name, Expansion.Files, Lines.physical_lines, Outcome.path_of}
-use Rattle.kc_load.specs.Asking.{AskedInOrder}
+use Rattle.kc_load.specs.Asking.{AskedInOrder, FileBytes}
 use Rattle.kc_load.specs.declared.{folder.FolderFault.{FolderFault, TheVariants.Device}, fault.LoadFault.{LoadFault, TheVariants.CannotRead}}
 
 -- ---- Reading a file
@@ -40,10 +40,14 @@ pub record ReadsAt (path : List ℕ) (old new : Option FolderState) (result : Re
 
 -- ---- Loading the files of a tree
 
--- The folder's files by their names in `source` lines, if they are recorded: a name is that of the file at `path_of dir name`. It must be UTF-8.
-abbrev pub AreFilesOf : FolderFiles → List ℕ → Files → Type 0
-AreFilesOf None dir files = Unit {0}
-AreFilesOf (Some held) dir files = files ≡ (λ name. if is_utf8 name then held (path_of dir name) else None)
+-- The folder's files by their names in `source` lines, if they are recorded: a name is that of the file at `path_of dir name`. It must be UTF-8. A flat
+-- tree is the first file alone.
+abbrev pub is_read : List ℕ → Bool → List ℕ → Bool
+is_read first flat name = is_utf8 name && (if flat then same_name name first else true)
+
+pub record AreFilesOf (folder_files : FolderFiles) (dir first : List ℕ) (flat : Bool) (files : Files) : Type 0 where
+  pub flat_is : files.flat ≡ flat
+  pub bytes_are : MatchOption folder_files (Unit {0}) (λ held. files.bytes ≡ (λ name. if is_read first flat name then held (path_of dir name) else None))
 
 -- A name that was asked for, with the bytes of its file, or none if there is no file.
 pub record Answer : Type 0 where
@@ -51,7 +55,7 @@ pub record Answer : Type 0 where
   pub bytes : Option (List ℕ)
 
 -- The files that were found; and the number of their lines.
-abbrev pub files_found : List Answer → Files
+abbrev pub files_found : List Answer → FileBytes
 files_found [] name = None
 files_found (a ∷ more) name = if same_name name a.name then a.bytes else files_found more name
 

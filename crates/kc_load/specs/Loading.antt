@@ -1,16 +1,16 @@
 -- Trusted: What loading gives: the files that were found, asked for in order, and that they are enough.
-use Rattle.std.specs.{Prelude.{◌≡◌, ℕ, ◌≤◌, List, [], ◌∷◌, ◌++◌, All, Contains, Option, Some, Result, Ok}, Str.IsUtf8}
+use Rattle.std.specs.{Prelude.{◌≡◌, ℕ, ◌≤◌, List, [], ◌∷◌, ◌++◌, All, Bool, true, if◌then◌else◌, Contains, Option, Some, None, Result, Ok}, Str.IsUtf8}
 use Rattle.kc_expr.specs.Names.{AreDistinct}
-use Rattle.kc_language.specs.{Text.most_lines, Expansion.{Expands, Files, Log, Refused}, Statements.{Located, Named}}
-use Rattle.kc_load.specs.Asking.{AreSources, AskedInOrder}
-use Rattle.kc_load.specs.Folder.{Answer, AreAsked, AreFilesOf, FolderFiles, files_found, line_total}
+use Rattle.kc_language.specs.{Text.most_lines, Expansion.{Expands, Files, Log, Refused}, Expressions.same_name, Outcome.path_of, Statements.{Located, Named}}
+use Rattle.kc_load.specs.Asking.{AreSources, AskedInOrder, FileBytes}
+use Rattle.kc_load.specs.Folder.{Answer, AnswersAs, AreAsked, AreFilesOf, FolderFiles, files_found, line_total}
 
 -- as each was asked for, there were no more lines than the limit
 abbrev pub WereWithin : List Answer → Type 0
 WereWithin asked = (before after : List Answer) (a : Answer) → asked ≡ before ++ a ∷ after → line_total before ≤ most_lines
 
 -- The files of a map are those that were found, and no name comes next, unless the lines are over the limit.
-pub record Loads (folder_files : FolderFiles) (dir first : List ℕ) (files : Files) : Type 0 where
+pub record Loads (folder_files : FolderFiles) (dir first : List ℕ) (files : FileBytes) : Type 0 where
   pub asked : List Answer
   pub next : List (List ℕ)
   pub are_asked : AreAsked folder_files dir first asked next
@@ -18,24 +18,31 @@ pub record Loads (folder_files : FolderFiles) (dir first : List ℕ) (files : Fi
   pub are_all : line_total asked ≤ most_lines → next ≡ []
   pub held : (name : List ℕ) → files name ≡ files_found asked name
 
+-- Of a flat tree only the first file is read. This was found, and the map holds it alone.
+pub record LoadsFlat (folder_files : FolderFiles) (dir first : List ℕ) (files : Files) : Type 0 where
+  pub flat_is : files.flat ≡ true
+  pub found : Option (List ℕ)
+  pub answer : AnswersAs folder_files (path_of dir first) found
+  pub held : (name : List ℕ) → files.bytes name ≡ (if same_name name first then found else None)
+
 -- over a folder that tells its files there is at most one such map
 abbrev pub OneMap : Type 0
 OneMap =
-    (folder_files : List ℕ → Option (List ℕ)) (dir first : List ℕ) (files others : Files) → Loads (Some folder_files) dir first files →
+    (folder_files : List ℕ → Option (List ℕ)) (dir first : List ℕ) (files others : FileBytes) → Loads (Some folder_files) dir first files →
     Loads (Some folder_files) dir first others → (name : List ℕ) → files name ≡ others name
 
 -- over a folder that tells its files there is such a map
 abbrev pub MapExists : Type 0
-MapExists = (folder_files : List ℕ → Option (List ℕ)) (dir first : List ℕ) → (files : Files) × Loads (Some folder_files) dir first files
+MapExists = (folder_files : List ℕ → Option (List ℕ)) (dir first : List ℕ) → (files : FileBytes) × Loads (Some folder_files) dir first files
 
 -- ---- the order
 
 -- over any files there is at most one such order
 abbrev pub OneOrder : Type 0
-OneOrder = (files : Files) (first : List ℕ) (names others : List (List ℕ)) → AskedInOrder files first names → AskedInOrder files first others → names ≡ others
+OneOrder = (files : FileBytes) (first : List ℕ) (names others : List (List ℕ)) → AskedInOrder files first names → AskedInOrder files first others → names ≡ others
 
 -- The names that a first one reaches: itself, and each UTF-8 name that a file of such a name sources.
-pub data Reached (files : Files) (first : List ℕ) : List ℕ → Type 0 where
+pub data Reached (files : FileBytes) (first : List ℕ) : List ℕ → Type 0 where
   itself : Reached files first first
   sourced : (file bytes name : List ℕ) (names : List (List ℕ)) → Reached files first file → files file ≡ Some bytes → AreSources bytes names →
       Contains names name → IsUtf8 name → Reached files first name
@@ -47,7 +54,7 @@ HasOrder = (asked : List Answer) (first : List ℕ) → (names : List (List ℕ)
 -- What is asked for is what the first name reaches, each name once.
 abbrev pub OrderIsReached : Type 0
 OrderIsReached =
-    (files : Files) (first : List ℕ) (names : List (List ℕ)) → IsUtf8 first → AskedInOrder files first names →
+    (files : FileBytes) (first : List ℕ) (names : List (List ℕ)) → IsUtf8 first → AskedInOrder files first names →
     AreDistinct names × ((name : List ℕ) → Contains names name → Reached files first name) × ((name : List ℕ) → Reached files first name → Contains names name)
 
 -- ---- it is enough
@@ -55,9 +62,9 @@ OrderIsReached =
 -- The root file gives the same list, with the files that it opens, or the same refusal over both; and the files of the list's lines hold the same.
 pub record ExpandsAlike (root : List ℕ) (files others : Files) : Type 0 where
   pub gives : (r : Result Log Refused) → (Expands files root r → Expands others root r) × (Expands others root r → Expands files root r)
-  pub holds : (log : Log) → Expands files root (Ok log) → All (λ (l : Located Named). others l.file ≡ files l.file) log.lines
+  pub holds : (log : Log) → Expands files root (Ok log) → All (λ (l : Located Named). others.bytes l.file ≡ files.bytes l.file) log.lines
 
 -- What was loaded is enough: over it the first file gives what it gives over all the files of the folder, with the files that it opens. And the files
 -- of the lines are there as they are in the folder.
-abbrev pub Suffices : FolderFiles → List ℕ → List ℕ → Files → Type 0
-Suffices folder_files dir first loaded = (files : Files) × AreFilesOf folder_files dir files × ExpandsAlike first files loaded
+abbrev pub Suffices : FolderFiles → List ℕ → List ℕ → Bool → Files → Type 0
+Suffices folder_files dir first flat loaded = (files : Files) × AreFilesOf folder_files dir first flat files × ExpandsAlike first files loaded

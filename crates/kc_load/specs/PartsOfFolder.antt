@@ -1,11 +1,11 @@
 -- For proofs: Parts of the definitions of Folder, by names of their own.
-use Rattle.kc_language.specs.Expansion.{Files}
+use Rattle.kc_load.specs.Asking.{FileBytes}
 use Rattle.kc_read.specs.PartsOfExpansion.{lines_of}
 use Rattle.kc_language.specs.Outcome.{path_of}
 use Rattle.std.specs.Prelude.{ℕ, List, Option, None, if◌then◌else◌, Some}
 use Rattle.std.specs.Str.{is_utf8}
 
-abbrev pub named : (List ℕ → Option (List ℕ)) → List ℕ → Files
+abbrev pub named : (List ℕ → Option (List ℕ)) → List ℕ → FileBytes
 named files dir name = if is_utf8 name then files (path_of dir name) else None
 
 abbrev pub lines_found : Option (List ℕ) → ℕ

@@ -1,31 +1,30 @@
 -- For proofs: How far the loading is, and the turn of one name.
-use Rattle.std.specs.Prelude.{◌≡◌, ◌+◌, ℕ, List, [], ◌∷◌, ◌++◌, map, reverse, min, Bool, true, false, None, Some}
+use Rattle.std.specs.Prelude.{◌≡◌, ◌+◌, ℕ, List, [], ◌∷◌, ◌++◌, map, reverse, min, Bool, true, false, None, Some, if◌then◌else◌}
 use Rattle.std.specs.List.{list_any}
 use Rattle.std.specs.Str.{IsUtf8}
 use Rattle.kc_text.specs.PartsOfText.{last_count}
+use Rattle.kc_language.specs.Expansion.{bytes_in}
 use Rattle.kc_language.specs.Expressions.{same_name, mention}
-use Rattle.kc_language.specs.Expansion.{Files, bytes_in}
 use Rattle.kc_read.specs.PartsOfExpansion.{lines_of}
-use Rattle.kc_read.specs.Files.{Puts}
 use Rattle.kc_load.specs.Folder.{FolderFiles, AnswersAs}
 use Rattle.kc_language.specs.Outcome.{path_of}
-use Rattle.kc_load.specs.Asking.{AreSources}
+use Rattle.kc_load.specs.Asking.{AreSources, FileBytes}
 use Rattle.kc_load.specs.declared.fault.LoadFault.{LoadFault}
 use Rattle.kc_load.specs.declared.fault.LoadFault.TheVariants.{CannotRead, Memory}
 use Rattle.kc_load.specs.declared.loading.Loading.{Loading}
 
 -- what is held, which names were asked for, which wait (the next one last), and how many lines there are
 pub record State : Type 0 where
-  pub files : Files
+  pub files : FileBytes
   pub requested : List (List ℕ)
   pub waiting : List (List ℕ)
   pub lines : ℕ
 
 abbrev pub state_of : Loading → State
-state_of l = record { files = bytes_in l.files; requested = l.requested; waiting = map (λ n. n.items) l.waiting.items; lines = l.lines }
+state_of l = record { files = bytes_in l.files.entries; requested = l.requested; waiting = map (λ n. n.items) l.waiting.items; lines = l.lines }
 
 abbrev pub initial_state : List ℕ → State
-initial_state first = record { files = bytes_in []; requested = []; waiting = first ∷ []; lines = 0 }
+initial_state first = record { files = λ name. None; requested = []; waiting = first ∷ []; lines = 0 }
 
 abbrev pub was_requested : List (List ℕ) → List ℕ → Bool
 was_requested requested name = list_any (same_name name) requested
@@ -44,7 +43,7 @@ pub record AddsFile (name bytes : List ℕ) (old new : State) : Type 0 where
   pub names : List (List ℕ)
   pub sources : AreSources bytes names
   pub waiting_is : new.waiting ≡ old.waiting ++ reverse names
-  pub puts : Puts old.files new.files name bytes
+  pub puts : (other : List ℕ) → new.files other ≡ (if same_name other name then Some bytes else old.files other)
   pub requested_are : new.requested ≡ old.requested
   pub lines_are : new.lines ≡ min (old.lines + lines_of bytes) last_count
 

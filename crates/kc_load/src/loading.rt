@@ -1,10 +1,11 @@
 //! Loading: all the files that a first one reaches, name by name.
 
-ghost use Rattle.std.specs.Prelude.{◌≡◌, ◌+◌, IfOk, IfErr, OnOk, min, nat_lt};
-ghost use Rattle.kc_load.specs.Loading.{Suffices, Loads};
+ghost use Rattle.std.specs.Prelude.{◌≡◌, ◌+◌, IfOk, IfErr, OnOk, false, true, min, nat_lt};
+ghost use Rattle.kc_load.specs.Asking.{tree_of};
+ghost use Rattle.kc_load.specs.Loading.{Suffices, Loads, LoadsFlat};
 ghost use Rattle.kc_load.specs.Folder.{Leads, ReadsAt, files_told, IsLoadFault, failed_load};
 ghost use Rattle.kc_language.specs.Outcome.{path_of};
-ghost use Rattle.kc_language.specs.Expansion.{bytes_in};
+ghost use Rattle.kc_read.specs.Files.{files_in};
 ghost use Rattle.kc_read.specs.PartsOfExpansion.{lines_of};
 ghost use Rattle.kc_language.specs.Text.{most_lines};
 ghost use Rattle.kc_text.specs.PartsOfText.{last_count};
@@ -50,13 +51,14 @@ fn read_named<F: Folder>(
 impl Loading {
     /// The first name waits. The tables of names have this key.
     pub(crate) fn new(alloc: Global, first: &str, key: HashKey) -> Result<Loading, AllocError>
-        ensures { IfOk result (λ loading. state_of loading ≡ initial_state first.now) }
+        ensures state { IfOk result (λ loading. state_of loading ≡ initial_state first.now) }
+        ensures tree { IfOk result (λ loading. loading.files.flat ≡ false) }
     {
         let mut waiting = Vec::new(alloc);
         waiting.push(Vec::from_slice(alloc, first.as_bytes())?)?;
         Ok(Loading {
             alloc,
-            files: FileMap::keyed(alloc, key),
+            files: FileMap::keyed(alloc, false, key),
             requested: Names::keyed(alloc, key),
             waiting,
             lines: 0,
@@ -86,7 +88,8 @@ impl Loading {
 
     // The names that the file sources wait, the first one last.
     fn push_sources(&mut self, file: &[u8]) -> Result<(), AllocError>
-        ensures { OnOk result (PushesSources file.now (state_of self.old) (state_of self.new)) }
+        ensures pushes { OnOk result (PushesSources file.now (state_of self.old) (state_of self.new)) }
+        ensures tree { OnOk result (self.new.files ≡ self.old.files) }
     {
         let mut names = sources_of(self.alloc, file)?;
         names.reverse();
@@ -96,7 +99,8 @@ impl Loading {
 
     // Adds the file of the name: its bytes, its lines, and the names that it sources.
     fn take(&mut self, name: Vec<u8>, bytes: Vec<u8>) -> Result<(), AllocError>
-        ensures { OnOk result (AddsFile name.items bytes.items (state_of self.old) (state_of self.new)) }
+        ensures adds { OnOk result (AddsFile name.items bytes.items (state_of self.old) (state_of self.new)) }
+        ensures tree { OnOk result (self.new.files.flat ≡ self.old.files.flat) }
     {
         let lines = self.lines_with(&bytes);
         self.push_sources(&bytes)?;
@@ -113,6 +117,7 @@ impl Loading {
         name: Vec<u8>,
     ) -> Result<(), LoadFault>
         ensures ok { OnOk result (Visits (files_told (F.state folder.new)) dir.now name.items (state_of self.old) (state_of self.new)) }
+        ensures tree { OnOk result (self.new.files.flat ≡ self.old.files.flat) }
         ensures err { IfErr result (FailsAt (state_of self.old) name.items) }
         ensures leads { Leads (failed_load dir.now result) (F.state folder.old) (F.state folder.new) }
     {
@@ -132,6 +137,53 @@ impl Loading {
     }
 }
 
+// Reads the first file and all that it reaches.
+fn load_tree<F: Folder>(
+    alloc: Global,
+    folder: &mut F,
+    dir: &str,
+    kconfig: &str,
+) -> Result<FileMap, LoadFault>
+    ensures tree { IfOk result (λ map. map.flat ≡ false) }
+    ensures loaded { IfOk result (λ map. Loads (files_told (F.state folder.new)) dir.now kconfig.now (files_in map).bytes) }
+    ensures enough { IfOk result (λ map. Suffices (files_told (F.state folder.new)) dir.now kconfig.now false (tree_of (files_in map).bytes)) }
+    ensures fault { IfErr result (IsLoadFault (files_told (F.state folder.new)) dir.now kconfig.now) }
+    ensures leads { Leads (failed_load dir.now result) (F.state folder.old) (F.state folder.new) }
+{
+    let mut loading = Loading::new(alloc, kconfig, folder.key())?;
+    while let Some(name) = loading.waiting.pop() {
+        loading.visit(folder, dir, name)?;
+        if loading.is_over() {
+            return Ok(loading.files);
+        }
+    }
+    Ok(loading.files)
+}
+
+// Reads the first file alone.
+fn load_flat<F: Folder>(
+    alloc: Global,
+    folder: &mut F,
+    dir: &str,
+    kconfig: &str,
+) -> Result<FileMap, LoadFault>
+    ensures loaded { IfOk result (λ map. LoadsFlat (files_told (F.state folder.new)) dir.now kconfig.now (files_in map)) }
+    ensures fault { IfErr result (IsLoadFault (files_told (F.state folder.new)) dir.now kconfig.now) }
+    ensures leads { Leads (failed_load dir.now result) (F.state folder.old) (F.state folder.new) }
+{
+    let name = Vec::from_slice(alloc, kconfig.as_bytes())?;
+    let mut map = FileMap::keyed(alloc, true, folder.key());
+    match read_named(alloc, folder, dir, kconfig) {
+        Ok(Some(bytes)) => {
+            map.insert(name, bytes)?;
+            Ok(map)
+        }
+        Ok(None) => Ok(map),
+        Err(FolderFault::Device) => Err(LoadFault::CannotRead(name)),
+        Err(FolderFault::Memory) => Err(LoadFault::Memory),
+    }
+}
+
 /// Reads the file `kconfig` and every file that a `source` line of a file so read names (our own; the statement is of
 /// the kernel's kconfig-language document).
 ///
@@ -143,6 +195,8 @@ impl Loading {
 /// physical lines; otherwise all is. What was found is always enough: over it the root file gives the list, or the refusal,
 /// that it gives over all the files of the folder, and where it gives a list it opens the same files.
 ///
+/// Of a flat tree only the first file is read, since it sources no other.
+///
 /// E18, with the name whose turn it was, where the folder's device failed at that name's path; E20 where memory was
 /// refused, and the device did not fail. Nothing of the map is left then.
 pub fn load<F: Folder>(
@@ -150,22 +204,20 @@ pub fn load<F: Folder>(
     folder: &mut F,
     dir: &str,
     kconfig: &str,
+    is_flat: bool,
 ) -> Result<FileMap, LoadFault>
     // The map holds the files that were found, asked for in order, with the folder's bytes.
-    ensures loaded { IfOk result (λ map. Loads (files_told (F.state folder.new)) dir.now kconfig.now (bytes_in map)) }
+    ensures loaded { is_flat ≡ false → IfOk result (λ map. Loads (files_told (F.state folder.new)) dir.now kconfig.now (files_in map).bytes) }
+    ensures loaded_flat { is_flat ≡ true → IfOk result (λ map. LoadsFlat (files_told (F.state folder.new)) dir.now kconfig.now (files_in map)) }
     // They are enough: over them the first file gives what it gives over all the folder's files.
-    ensures enough { IfOk result (λ map. Suffices (files_told (F.state folder.new)) dir.now kconfig.now (bytes_in map)) }
+    ensures enough { IfOk result (λ map. Suffices (files_told (F.state folder.new)) dir.now kconfig.now is_flat (files_in map)) }
     // The name of a file that could not be read is the next one in that order.
     ensures fault { IfErr result (IsLoadFault (files_told (F.state folder.new)) dir.now kconfig.now) }
     // The folder's files stay, and its device failed at the path of the name that E18 tells, just now, and nowhere else.
     ensures leads { Leads (failed_load dir.now result) (F.state folder.old) (F.state folder.new) }
 {
-    let mut loading = Loading::new(alloc, kconfig, folder.key())?;
-    while let Some(name) = loading.waiting.pop() {
-        loading.visit(folder, dir, name)?;
-        if loading.is_over() {
-            return Ok(loading.files);
-        }
+    if is_flat {
+        return load_flat(alloc, folder, dir, kconfig);
     }
-    Ok(loading.files)
+    load_tree(alloc, folder, dir, kconfig)
 }

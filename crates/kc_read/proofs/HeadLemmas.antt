@@ -1,5 +1,5 @@
 -- What the lines that begin entries have in common, and what attributes have.
-use Rattle.std.proofs.Common.{◌≡◌, ◌+◌, length, Bool, true, false, List, [], Option, None, refl, ap}
+use Rattle.std.proofs.Common.{◌≡◌, ◌+◌, length, Bool, true, false, Option, None, refl, ap}
 use Rattle.std.specs.Option.{option_or}
 use Rattle.kc_language.specs.declared.expressions.SymId.{SymId}
 use Rattle.kc_read.specs.declared.frame.Frame.{Frame}

@@ -1,60 +1,73 @@
 -- A file has at most one list.
-use Rattle.std.proofs.Common.{◌≡◌, ◌≢◌, ◌⊎◌, inl, inr, ℕ, false, List, [], ◌∷◌, ◌++◌, Some, None, Ok, refl, sym, ap, subst, ◌∙◌}
+use Rattle.std.proofs.Common.{◌≡◌, ◌≢◌, ◌⊎◌, inl, inr, ℕ, Bool, false, List, [], ◌∷◌, ◌++◌, Some, None, Ok, refl, sym, ap, subst, ◌∙◌}
 use Rattle.std.proofs.lemmas.Bool.{both_ways}
 use Rattle.kc_language.specs.Lines.{UnreadLines, unread_lines}
 use Rattle.kc_language.specs.Tokens.{Lexeme}
-use Rattle.kc_language.specs.Expansion.{NextStatement, Files}
+use Rattle.kc_language.specs.Expansion.{NextLine, NextStatement, Files, sourced}
 use Rattle.kc_read.specs.PartsOfExpansion.{is_source}
 use Rattle.kc_language.specs.Statements.{LineContext, ReadsLine, Located, Named, SourceLine}
-use Rattle.kc_read.specs.Replaced.{Owns, Replaces, OneListOf, located, no_line, no_tokens, one_more, nothing, kept, replaced}
-use Rattle.kc_read.proofs.OneExpansion.{Turn, Ends, Long, Line, IsTurn, one_turn, one_some, same_source}
+use Rattle.kc_read.specs.Replaced.{Owns, Replaces, OneListOf, located, no_line, no_tokens, same_file, other_file, one_more, nothing, kept, replaced}
+use Rattle.kc_read.proofs.OneExpansion.{IsMark, Mark, NoMark, Number, Place, Turn, Ends, Long, Line, IsTurn, one_mark, one_turn, one_some, same_source}
 use Rattle.kc_read.proofs.OneLine.{same_statement}
 
 -- ---- The statements of a file, by its next line
 
 -- the next line has tokens, which are a statement
-record Begins (file : List ℕ) (l m : UnreadLines) (ts : List Lexeme) (own : List (Located Named)) : Type 0 where
+record Begins (flat : Bool) (file : List ℕ) (l m : UnreadLines) (ts : List Lexeme) (own : List (Located Named)) : Type 0 where
   pub some : ts ≢ []
   pub context : LineContext
   pub first : Named
   pub more : List (Located Named)
   pub reads : ReadsLine context ts (Ok first)
-  pub owns : Owns file m more
+  pub owns : Owns flat file m more
   pub is : own ≡ located file l.number first ∷ more
 
-abbrev Gives : List ℕ → UnreadLines → Turn → List (Located Named) → Type 0
-Gives file l Ends own = own ≡ []
-Gives file l Long own = ⊥
-Gives file l (Line m ts (Some why)) own = ⊥
-Gives file l (Line m ts None) own = ((ts ≡ []) × Owns file m own) ⊎ Begins file l m ts own
+-- behind a line without tokens
+abbrev Behind : Bool → List ℕ → UnreadLines → Mark → List (Located Named) → Type 0
+Behind flat file m NoMark own = Owns flat file m own
+Behind flat file m (Number n) own = Owns flat file (record m { number = n }) own
+Behind flat file m (Place n name) own = Owns flat name (record m { number = n }) own
 
-goes : {file : List ℕ} {l : UnreadLines} {own : List (Located Named)} → Owns file l own → (t : Turn) × IsTurn l t × Gives file l t own
-goes (no_line l none) = (Ends, none, refl)
-goes (no_tokens l m own next d) = (Line m [] None, next, inl (refl, d))
-goes (one_more l m c s own n d) = (Line m n.tokens None, n.next, inr (record { some = n.some; context = c; first = s; more = own; reads = n.reads; owns = d; is = refl }))
+abbrev Gives : Bool → List ℕ → UnreadLines → Turn → List (Located Named) → Type 0
+Gives flat file l Ends own = own ≡ []
+Gives flat file l Long own = ⊥
+Gives flat file l (Line m ts (Some why)) own = ⊥
+Gives flat file l (Line m ts None) own = ((ts ≡ []) × ((x : Mark) × IsMark flat file l m x × Behind flat file m x own)) ⊎ Begins flat file l m ts own
+
+goes : {flat : Bool} {file : List ℕ} {l : UnreadLines} {own : List (Located Named)} → Owns flat file l own → (t : Turn) × IsTurn flat l t × Gives flat file l t own
+goes (no_line file l none) = (Ends, none, refl)
+goes (no_tokens file l m own next d) = (Line m [] None, next.0, inl (refl, (NoMark, next, d)))
+goes (same_file file l m n own marks d) = (Line m [] None, marks.0, inl (refl, (Number n, marks, d)))
+goes (other_file file l m n name own marks differs d) = (Line m [] None, marks.0, inl (refl, (Place n name, (marks, differs), d)))
+goes (one_more file l m c s own n d) = (Line m n.tokens None, n.next, inr (record { some = n.some; context = c; first = s; more = own; reads = n.reads; owns = d; is = refl }))
 
 -- what the next line gives
-gives : (file : List ℕ) (l : UnreadLines) (own : List (Located Named)) (t : Turn) → IsTurn l t → Owns file l own → Gives file l t own
-gives file l own t is d =
+gives : (flat : Bool) (file : List ℕ) (l : UnreadLines) (own : List (Located Named)) (t : Turn) → IsTurn flat l t → Owns flat file l own → Gives flat file l t own
+gives flat file l own t is d =
     let (u, is', h) = goes d in
-    subst (λ v. Gives file l v own) (one_turn l u t is' is) h
+    subst (λ v. Gives flat file l v own) (one_turn flat l u t is' is) h
 
-same_after_blank : (file : List ℕ) (l m : UnreadLines) (own other : List (Located Named)) → ((more : List (Located Named)) → Owns file m more → own ≡ more) →
-    Gives file l (Line m [] None) other → own ≡ other
-same_after_blank file l m own other same (inl x) = same other x.1
-same_after_blank file l m own other same (inr x) = absurd (x.some refl)
+behind : (flat : Bool) (file : List ℕ) (l m : UnreadLines) (own : List (Located Named)) (x : Mark) → NextLine flat l m [] None → IsMark flat file l m x →
+    Owns flat file l own → Behind flat file m x own
+behind flat file l m own x n is d = by (gives flat file l own (Line m [] None) n d)
+  where
+    by : Gives flat file l (Line m [] None) own → Behind flat file m x own
+    by (inl (e, (y, is_y, h))) = subst (λ z. Behind flat file m z own) (one_mark flat file l m y x is_y is) h
+    by (inr h) = absurd (h.some refl)
 
-same_after_statement : (file : List ℕ) (l m : UnreadLines) (c : LineContext) (s : Named) (n : NextStatement l m c (Ok s)) (own other : List (Located Named)) →
-    ((more : List (Located Named)) → Owns file m more → own ≡ more) → Gives file l (Line m n.tokens None) other → located file l.number s ∷ own ≡ other
+same_after_statement : {flat : Bool} (file : List ℕ) (l m : UnreadLines) (c : LineContext) (s : Named) (n : NextStatement flat l m c (Ok s)) (own other : List (Located Named)) →
+    ((more : List (Located Named)) → Owns flat file m more → own ≡ more) → Gives flat file l (Line m n.tokens None) other → located file l.number s ∷ own ≡ other
 same_after_statement file l m c s n own other same (inl x) = absurd (n.some x.0)
 same_after_statement file l m c s n own other same (inr x) =
     ap (λ t. located file l.number t ∷ own) (same_statement c x.context n.tokens s x.first n.reads x.reads)
     ∙ ap (λ ls. located file l.number x.first ∷ ls) (same x.more x.owns) ∙ sym x.is
 
-one_own : {file : List ℕ} {l : UnreadLines} {own : List (Located Named)} → Owns file l own → (other : List (Located Named)) → Owns file l other → own ≡ other
-one_own {file} (no_line l none) other e = sym (gives file l other Ends none e)
-one_own {file} (no_tokens l m own next d) other e = same_after_blank file l m own other (λ more f. one_own d more f) (gives file l other (Line m [] None) next e)
-one_own {file} (one_more l m c s own n d) other e = same_after_statement file l m c s n own other (λ more f. one_own d more f) (gives file l other (Line m n.tokens None) n.next e)
+one_own : {flat : Bool} {file : List ℕ} {l : UnreadLines} {own : List (Located Named)} → Owns flat file l own → (other : List (Located Named)) → Owns flat file l other → own ≡ other
+one_own {flat} (no_line file l none) other e = sym (gives flat file l other Ends none e)
+one_own {flat} (no_tokens file l m own next d) other e = one_own d other (behind flat file l m other NoMark next.0 next e)
+one_own {flat} (same_file file l m n own marks d) other e = one_own d other (behind flat file l m other (Number n) marks.0 marks e)
+one_own {flat} (other_file file l m n name own marks differs d) other e = one_own d other (behind flat file l m other (Place n name) marks.0 (marks, differs) e)
+one_own {flat} (one_more file l m c s own n d) other e = same_after_statement file l m c s n own other (λ more f. one_own d more f) (gives flat file l other (Line m n.tokens None) n.next e)
 
 -- ---- The list, by the first statement
 
@@ -65,8 +78,8 @@ record Inside (files : Files) (s : Located Named) (own list : List (Located Name
   pub inside : List (Located Named)
   pub more : List (Located Named)
   pub names : s.statement ≡ SourceLine name
-  pub there : files name ≡ Some bytes
-  pub owns : Owns name (unread_lines bytes 1) inner
+  pub there : sourced files name ≡ Some bytes
+  pub owns : Owns files.flat name (unread_lines bytes 1) inner
   pub replaces : Replaces files inner inside
   pub behind : Replaces files own more
   pub is : list ≡ inside ++ more
@@ -107,14 +120,14 @@ same_kept files s own list other plain same (inl x) = ap (λ ls. s ∷ ls) (same
 same_kept files s own list other plain same (inr x) = plain_or_source s x.name plain x.names
 
 same_replaced : (files : Files) (s : Located Named) (name bytes : List ℕ) (own inner inside list other : List (Located Named)) → s.statement ≡ SourceLine name →
-    files name ≡ Some bytes → Owns name (unread_lines bytes 1) inner → ((more : List (Located Named)) → Replaces files inner more → inside ≡ more) →
+    sourced files name ≡ Some bytes → Owns files.flat name (unread_lines bytes 1) inner → ((more : List (Located Named)) → Replaces files inner more → inside ≡ more) →
     ((more : List (Located Named)) → Replaces files own more → list ≡ more) → ByFirst files (s ∷ own) other → inside ++ list ≡ other
 same_replaced files s name bytes own inner inside list other names there owns same_inside same (inl x) = plain_or_source s name x.plain names
 same_replaced files s name bytes own inner inside list other names there owns same_inside same (inr x) =
     let named : x.name ≡ name = same_source s.statement x.name name x.names names in
-    let held : files name ≡ Some x.bytes = subst (λ w. files w ≡ Some x.bytes) named x.there in
-    let read : x.bytes ≡ bytes = one_some (files name) x.bytes bytes held there in
-    let owned : Owns name (unread_lines bytes 1) x.inner = subst (λ b. Owns name (unread_lines b 1) x.inner) read (subst (λ w. Owns w (unread_lines x.bytes 1) x.inner) named x.owns) in
+    let held : sourced files name ≡ Some x.bytes = subst (λ w. sourced files w ≡ Some x.bytes) named x.there in
+    let read : x.bytes ≡ bytes = one_some (sourced files name) x.bytes bytes held there in
+    let owned : Owns files.flat name (unread_lines bytes 1) x.inner = subst (λ b. Owns files.flat name (unread_lines b 1) x.inner) read (subst (λ w. Owns files.flat w (unread_lines x.bytes 1) x.inner) named x.owns) in
     let own_is : x.inner ≡ inner = one_own owned inner owns in
     let first : inside ≡ x.inside = same_inside x.inside (subst (λ ls. Replaces files ls x.inside) own_is x.replaces) in
     ap (λ ls. ls ++ list) first ∙ ap (λ ls. x.inside ++ ls) (same x.more x.behind) ∙ sym x.is
@@ -127,6 +140,6 @@ one_replaced {files} (replaced s name bytes own inner inside list names there ow
 
 pub one_list_of : OneListOf
 one_list_of files name list other x y =
-    let read : x.bytes ≡ y.bytes = one_some (files name) x.bytes y.bytes x.there y.there in
-    let own_is : x.own ≡ y.own = one_own (subst (λ b. Owns name (unread_lines b 1) x.own) read x.owns) y.own y.owns in
+    let read : x.bytes ≡ y.bytes = one_some (files.bytes name) x.bytes y.bytes x.there y.there in
+    let own_is : x.own ≡ y.own = one_own (subst (λ b. Owns files.flat name (unread_lines b 1) x.own) read x.owns) y.own y.owns in
     one_replaced (subst (λ ls. Replaces files ls list) own_is x.replaces) other y.replaces

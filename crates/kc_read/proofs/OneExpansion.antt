@@ -1,13 +1,18 @@
 -- A root file has one expansion.
-use Rattle.std.proofs.Common.{◌≡◌, ◌≢◌, ◌⊎◌, inl, inr, ℕ, true, false, cond, List, [], ◌∷◌, length, map, option_map, slice_get, Option, Some, None, MatchOption, Result, Ok, Err, refl, sym, ap, ◌∙◌, subst, arith}
+use Rattle.std.proofs.Common.{◌≡◌, ◌≢◌, ◌⊎◌, inl, inr, ℕ, Bool, true, false, cond, List, [], ◌∷◌, length, map, slice_get, Option, Some, None, MatchOption, Result, Ok, Err, refl, sym, ap, ◌∙◌, subst, arith}
 use Rattle.kc_language.specs.declared.tokens.TextFault.{TextFault}
 use Rattle.kc_language.specs.Lines.{UnreadLines, IsTooLong, unread_lines}
-use Rattle.kc_language.specs.Tokens.{Lexeme, IsCut}
+use Rattle.kc_language.specs.Tokens.{Lexeme, IsCutIn}
 use Rattle.kc_text.proofs.Joins.{takes_one, takes_less, taken_is_short, too_long_some}
-use Rattle.kc_text.proofs.Once.{same_cutting}
+use Rattle.kc_text.proofs.Once.{same_cutting_in}
+use Rattle.kc_text.proofs.MarkerLemmas.{marked_or_not, one_marker}
+use Rattle.kc_language.specs.Expressions.{mention, same_name}
+use Rattle.kc_read.proofs.FileLemmas.{same_name_eq}
+use Rattle.kc_expr.proofs.NamesLemmas.{same_name-refl}
+use Rattle.std.proofs.lemmas.Bool.{both_ways, cases_Bool, false≢true}
 use Rattle.kc_language.specs.declared.diagnostics.Cause.TheVariants as cause
-use Rattle.kc_language.specs.Expansion.{last_of, open_blocks, FileContext, Log, Refused, Rest, IsUnclosed, NextLine, NextStatement, refused, bytes_cause, context_of, limit_cause, inside, with_file, text_cause, with_line, without_help, at_end, unclosed, too_long, no_tokens, blank, bad_line, over_limit, statement, bad_source, refused_inside, source, Files}
-use Rattle.kc_read.specs.PartsOfExpansion.{is_help, is_source, logged, nothing_read, root_context}
+use Rattle.kc_language.specs.Expansion.{last_of, open_blocks, FileContext, Log, Refused, Rest, IsBlankNext, IsMarker, IsUnclosed, MarksNext, NextLine, NextStatement, first_log, sourced, refused, bytes_cause, context_of, limit_cause, inside, with_file, text_cause, with_line, without_help, at_end, unclosed, too_long, no_tokens, blank, renumbered, moved, bad_line, over_limit, statement, bad_source, refused_inside, source, Files}
+use Rattle.kc_read.specs.PartsOfExpansion.{is_help, is_source, logged, root_context}
 use Rattle.kc_read.specs.PartsOfExpansion.{innermost, source_cause}
 use Rattle.kc_read.specs.Expansion.{OneExpansion}
 use Rattle.kc_language.specs.Statements.{Cause, ReadsLine, Located, Named, SourceLine, statements}
@@ -23,39 +28,88 @@ pub data Turn : Type 0 where
   Line : UnreadLines → List Lexeme → Option TextFault → Turn
 
 -- how the rest of a file goes on
-abbrev pub IsTurn : UnreadLines → Turn → Type 0
-IsTurn l Ends = l.lines ≡ []
-IsTurn l Long = IsTooLong l
-IsTurn l (Line m ts out) = NextLine l m ts out
+abbrev pub IsTurn : Bool → UnreadLines → Turn → Type 0
+IsTurn flat l Ends = l.lines ≡ []
+IsTurn flat l Long = IsTooLong l
+IsTurn flat l (Line m ts out) = NextLine flat l m ts out
 
-pub one_next : (l m n : UnreadLines) (ts us : List Lexeme) (out other : Option TextFault) → NextLine l m ts out → NextLine l n us other → (m ≡ n) × (ts ≡ us) × (out ≡ other)
-one_next l m n ts us out other a b =
+pub one_next : {flat : Bool} (l m n : UnreadLines) (ts us : List Lexeme) (out other : Option TextFault) → NextLine flat l m ts out → NextLine flat l n us other → (m ≡ n) × (ts ≡ us) × (out ≡ other)
+one_next {flat} l m n ts us out other a b =
     let (middle, text) = takes_one l a.middle b.middle a.text b.text a.taken b.taken in
-    let (tokens, fault) = same_cutting (subst (λ t. IsCut t ts out) text a.cut) b.cut in
+    let (tokens, fault) = same_cutting_in (subst (λ t. IsCutIn flat t ts out) text a.cut) b.cut in
     (a.left_after ∙ ap (λ t. cond (is_help t) (without_help a.middle) a.middle) tokens ∙ ap (λ k. cond (is_help us) (without_help k) k) middle ∙ sym b.left_after, tokens, fault)
 
-ended_or_next : (l m : UnreadLines) (ts : List Lexeme) (out : Option TextFault) → l.lines ≡ [] → NextLine l m ts out → ⊥
+ended_or_next : {flat : Bool} (l m : UnreadLines) (ts : List Lexeme) (out : Option TextFault) → l.lines ≡ [] → NextLine flat l m ts out → ⊥
 ended_or_next l m ts out e n = let less = takes_less l n.middle n.text n.taken in omega (arith, less, ap length e)
 
 ended_or_long : (l : UnreadLines) → l.lines ≡ [] → IsTooLong l → ⊥
 ended_or_long l e t = let some = too_long_some l t in omega (arith, some, ap length e)
 
-pub one_turn : (l : UnreadLines) (t u : Turn) → IsTurn l t → IsTurn l u → t ≡ u
-one_turn l Ends Ends a b = refl
-one_turn l Ends Long a b = absurd (ended_or_long l a b)
-one_turn l Ends (Line m ts out) a b = absurd (ended_or_next l m ts out a b)
-one_turn l Long Ends a b = absurd (ended_or_long l b a)
-one_turn l Long Long a b = refl
-one_turn l Long (Line m ts out) a b = absurd (taken_is_short l b.middle b.text b.taken a)
-one_turn l (Line m ts out) Ends a b = absurd (ended_or_next l m ts out b a)
-one_turn l (Line m ts out) Long a b = absurd (taken_is_short l a.middle a.text a.taken b)
-one_turn l (Line m ts out) (Line n us other) a b =
+pub one_turn : (flat : Bool) (l : UnreadLines) (t u : Turn) → IsTurn flat l t → IsTurn flat l u → t ≡ u
+one_turn flat l Ends Ends a b = refl
+one_turn flat l Ends Long a b = absurd (ended_or_long l a b)
+one_turn flat l Ends (Line m ts out) a b = absurd (ended_or_next l m ts out a b)
+one_turn flat l Long Ends a b = absurd (ended_or_long l b a)
+one_turn flat l Long Long a b = refl
+one_turn flat l Long (Line m ts out) a b = absurd (taken_is_short l b.middle b.text b.taken a)
+one_turn flat l (Line m ts out) Ends a b = absurd (ended_or_next l m ts out b a)
+one_turn flat l (Line m ts out) Long a b = absurd (taken_is_short l a.middle a.text a.taken b)
+one_turn flat l (Line m ts out) (Line n us other) a b =
     let (e, f, g) = one_next l m n ts us out other a b in λ i. Line (e i) (f i) (g i)
+
+-- ---- Markers
+
+-- what a line without tokens says: no more, another number, or another file too
+pub data Mark : Type 0 where
+  NoMark : Mark
+  Number : ℕ → Mark
+  Place : ℕ → List ℕ → Mark
+
+abbrev pub IsMark : Bool → List ℕ → UnreadLines → UnreadLines → Mark → Type 0
+IsMark flat file l m NoMark = IsBlankNext flat l m
+IsMark flat file l m (Number n) = MarksNext flat l m n file
+IsMark flat file l m (Place n name) = MarksNext flat l m n name × (same_name name file ≡ false)
+
+-- it says one thing
+marks_one : {flat : Bool} (l m : UnreadLines) (n k : ℕ) (name other : List ℕ) → MarksNext flat l m n name → MarksNext flat l m k other → (n ≡ k) × (name ≡ other)
+marks_one l m n k name other (x, f, a) (y, g, b) =
+    let text = (takes_one l x.middle y.middle x.text y.text x.taken y.taken).1 in
+    one_marker y.text n k name other (subst (λ t. IsMarker t n name) text a) b
+
+marks_or_not : {B : Type 0} (flat : Bool) (l m : UnreadLines) (n : ℕ) (name : List ℕ) → IsBlankNext flat l m → MarksNext flat l m n name → B
+marks_or_not flat l m n name (x, none) (y, f, a) =
+    let text = (takes_one l y.middle x.middle y.text x.text y.taken x.taken).1 in
+    absurd (none f n name (subst (λ t. IsMarker t n name) text a))
+
+same_or_not : {B : Type 0} (file name : List ℕ) → same_name name file ≡ false → file ≡ name → B
+same_or_not file name differs e = absurd (both_ways (same_name file file) (ap (λ f. same_name f file) e ∙ differs) (same_name-refl file))
+
+pub one_mark : (flat : Bool) (file : List ℕ) (l m : UnreadLines) (x y : Mark) → IsMark flat file l m x → IsMark flat file l m y → x ≡ y
+one_mark flat file l m NoMark NoMark a b = refl
+one_mark flat file l m NoMark (Number k) a b = marks_or_not flat l m k file a b
+one_mark flat file l m NoMark (Place k other) a b = marks_or_not flat l m k other a b.0
+one_mark flat file l m (Number n) NoMark a b = marks_or_not flat l m n file b a
+one_mark flat file l m (Number n) (Number k) a b = ap Number (marks_one l m n k file file a b).0
+one_mark flat file l m (Number n) (Place k other) a b = same_or_not file other b.1 (marks_one l m n k file other a b.0).1
+one_mark flat file l m (Place n name) NoMark a b = marks_or_not flat l m n name b a.0
+one_mark flat file l m (Place n name) (Number k) a b = same_or_not file name a.1 (sym (marks_one l m n k name file a.0 b).1)
+one_mark flat file l m (Place n name) (Place k other) a b = let (e, f) = marks_one l m n k name other a.0 b.0 in λ i. Place (e i) (f i)
+
+-- and it says something
+pub mark_there : (flat : Bool) (file : List ℕ) (l m : UnreadLines) → NextLine flat l m [] None → (x : Mark) × IsMark flat file l m x
+mark_there false file l m x = (NoMark, (x, λ e. absurd (false≢true e)))
+mark_there true file l m x = elim (marked_or_not x.text) [
+  | inr none ↦ (NoMark, (x, λ e. none))
+  | inl (n, name, is) ↦ elim (cases_Bool (same_name name file)) [
+    | inl same ↦ (Number n, (x, refl, subst (IsMarker x.text n) (same_name_eq name file same) is))
+    | inr differs ↦ (Place n name, ((x, refl, is), differs))
+  ]
+]
 
 -- ---- The blocks of a file
 
 -- where none is open, none is the innermost
-closed_or_not : (own : List (Located Named)) (line : ℕ) → open_blocks (statements own) ≡ [] → IsUnclosed own line → ⊥
+closed_or_not : (own : List (Located Named)) (line : Located Named) → open_blocks (statements own) ≡ [] → IsUnclosed own line → ⊥
 closed_or_not own line e u =
     let none : opens own ≡ [] = sym (located_blocks-opens own) ∙ nothing (λ o. o.block) (located_blocks own) (blocks_of_located own ∙ e) in
     let last : innermost own ≡ None = ap last_of (no_places own none) in
@@ -66,11 +120,11 @@ closed_or_not own line e u =
     nothing f [] e = refl
     nothing f (x ∷ xs) e = absurd cc
 
-one_unclosed : (own : List (Located Named)) (line other : ℕ) → IsUnclosed own line → IsUnclosed own other → line ≡ other
+one_unclosed : (own : List (Located Named)) (line other : Located Named) → IsUnclosed own line → IsUnclosed own other → line ≡ other
 one_unclosed own line other u v =
     let place : Some u.0 ≡ Some v.0 = sym u.1 ∙ v.1 in
     let same : u.0 ≡ v.0 = cc in
-    let found : Some line ≡ Some other = sym u.2 ∙ ap (λ j. option_map (λ (l : Located Named). l.line) (slice_get own j)) same ∙ v.2 in
+    let found : Some line ≡ Some other = sym u.2 ∙ ap (slice_get own) same ∙ v.2 in
     cc
 
 -- ---- What the rest of a file gives, by its next line
@@ -81,9 +135,9 @@ module _ (files : Files) (a : FileContext) (l : UnreadLines) (own : List (Locate
     said_effect : (c : Cause) → limit_cause a own log s ≡ Some c → r ≡ Err (refused c a.file l.number) → Said m s r
     said_plain : is_source s ≡ false → limit_cause a own log s ≡ None → Rest files a m (with_line own a l.number s) (logged log a l.number s) r → Said m s r
     said_bad_source : (name : List ℕ) (c : Cause) → s ≡ SourceLine name → source_cause files a log.total_lines name ≡ Some c → r ≡ Err (refused c a.file l.number) → Said m s r
-    said_inside : (name bytes : List ℕ) (e : Refused) → s ≡ SourceLine name → source_cause files a log.total_lines name ≡ None → files name ≡ Some bytes →
+    said_inside : (name bytes : List ℕ) (e : Refused) → s ≡ SourceLine name → source_cause files a log.total_lines name ≡ None → sourced files name ≡ Some bytes →
         Rest files (inside a own name) (unread_lines bytes 1) [] (with_file log name bytes) (Err e) → r ≡ Err e → Said m s r
-    said_source : (name bytes : List ℕ) (more : Log) → s ≡ SourceLine name → source_cause files a log.total_lines name ≡ None → files name ≡ Some bytes →
+    said_source : (name bytes : List ℕ) (more : Log) → s ≡ SourceLine name → source_cause files a log.total_lines name ≡ None → sourced files name ≡ Some bytes →
         Rest files (inside a own name) (unread_lines bytes 1) [] (with_file log name bytes) (Ok more) →
         Rest files a m (with_line own a l.number (SourceLine name)) more r → Said m s r
 
@@ -91,17 +145,24 @@ module _ (files : Files) (a : FileContext) (l : UnreadLines) (own : List (Locate
   Says m (Ok s) r = Said m s r
   Says m (Err c) r = r ≡ Err (refused c a.file l.number)
 
+  -- behind a line without tokens
+  abbrev Behind : UnreadLines → Mark → Result Log Refused → Type 0
+  Behind m NoMark r = Rest files a m own log r
+  Behind m (Number n) r = Rest files a (record m { number = n }) own log r
+  Behind m (Place n name) r =
+      Rest files (record a { file = name }) (record m { number = n }) (with_line own a l.number (SourceLine name)) (record log { opened = mention log.opened name }) r
+
   abbrev Gives : Turn → Result Log Refused → Type 0
-  Gives Ends r = ((open_blocks (statements own) ≡ []) × (r ≡ Ok log)) ⊎ ((line : ℕ) × IsUnclosed own line × (r ≡ Err (refused cause.Block a.file line)))
+  Gives Ends r = ((open_blocks (statements own) ≡ []) × (r ≡ Ok log)) ⊎ ((line : Located Named) × IsUnclosed own line × (r ≡ Err (refused cause.Block line.file line.line)))
   Gives Long r = r ≡ Err (refused cause.LineTooLong a.file l.number)
   Gives (Line m ts (Some why)) r = r ≡ Err (refused (text_cause why) a.file l.number)
-  Gives (Line m ts None) r = ((ts ≡ []) × Rest files a m own log r) ⊎ ((ts ≢ []) × ((s : Result Named Cause) × ReadsLine (context_of a own log) ts s × Says m s r))
+  Gives (Line m ts None) r = ((ts ≡ []) × ((x : Mark) × IsMark files.flat a.file l m x × Behind m x r)) ⊎ ((ts ≢ []) × ((s : Result Named Cause) × ReadsLine (context_of a own log) ts s × Says m s r))
 
   -- how the file goes on, and what that gives
   abbrev Goes : Result Log Refused → Type 0
-  Goes r = (t : Turn) × IsTurn l t × Gives t r
+  Goes r = (t : Turn) × IsTurn files.flat l t × Gives t r
 
-  goes_statement : (m : UnreadLines) (s : Result Named Cause) (r : Result Log Refused) → NextStatement l m (context_of a own log) s → Says m s r → Goes r
+  goes_statement : (m : UnreadLines) (s : Result Named Cause) (r : Result Log Refused) → NextStatement files.flat l m (context_of a own log) s → Says m s r → Goes r
   goes_statement m s r n h = (Line m n.tokens None, n.next, inr (n.some, (s, n.reads, h)))
 
 goes : {files : Files} {a : FileContext} {l : UnreadLines} {own : List (Located Named)} {log : Log} {r : Result Log Refused} → Rest files a l own log r → Goes files a l own log r
@@ -109,7 +170,9 @@ goes (at_end a l own log none closed) = (Ends, none, inl (closed, refl))
 goes (unclosed a l own log line none unmatched) = (Ends, none, inr (line, unmatched, refl))
 goes (too_long a l own log long) = (Long, long, refl)
 goes (no_tokens a l m own log ts why next) = (Line m ts (Some why), next, refl)
-goes (blank a l m own log r next d) = (Line m [] None, next, inl (refl, d))
+goes (blank a l m own log r next d) = (Line m [] None, next.0, inl (refl, (NoMark, next, d)))
+goes (renumbered a l m own log n r marks d) = (Line m [] None, marks.0, inl (refl, (Number n, marks, d)))
+goes (moved a l m own log n name r marks differs d) = (Line m [] None, marks.0, inl (refl, (Place n name, (marks, differs), d)))
 goes {files} (bad_line a l m own log c n) = goes_statement files a l own log m (Err c) _ n refl
 goes {files} (over_limit a l m own log s c n e) = goes_statement files a l own log m (Ok s) _ n (said_effect c e refl)
 goes {files} (statement a l m own log s r n plain e d) = goes_statement files a l own log m (Ok s) r n (said_plain plain e d)
@@ -118,18 +181,27 @@ goes {files} (refused_inside a l m own log name bytes e n free there d) = goes_s
 goes {files} (source a l m own log more name bytes r n free there d f) = goes_statement files a l own log m (Ok (SourceLine name)) r n (said_source name bytes more refl free there d f)
 
 -- what the next line gives
-gives : (files : Files) (a : FileContext) (l : UnreadLines) (own : List (Located Named)) (log : Log) (r : Result Log Refused) (t : Turn) → IsTurn l t →
+gives : (files : Files) (a : FileContext) (l : UnreadLines) (own : List (Located Named)) (log : Log) (r : Result Log Refused) (t : Turn) → IsTurn files.flat l t →
     Rest files a l own log r → Gives files a l own log t r
 gives files a l own log r t is d =
     let (u, is', h) = goes d in
-    subst (λ v. Gives files a l own log v r) (one_turn l u t is' is) h
+    subst (λ v. Gives files a l own log v r) (one_turn files.flat l u t is' is) h
+
+-- what a line without tokens gives
+behind : (files : Files) (a : FileContext) (l m : UnreadLines) (own : List (Located Named)) (log : Log) (x : Mark) (r : Result Log Refused) →
+    NextLine files.flat l m [] None → IsMark files.flat a.file l m x → Rest files a l own log r → Behind files a l own log m x r
+behind files a l m own log x r n is d = by (gives files a l own log r (Line m [] None) n d)
+  where
+    by : Gives files a l own log (Line m [] None) r → Behind files a l own log m x r
+    by (inl (e, (y, is_y, h))) = subst (λ z. Behind files a l own log m z r) (one_mark files.flat a.file l m y x is_y is) h
+    by (inr h) = absurd (h.0 refl)
 
 -- what the next statement gives
 says : (files : Files) (a : FileContext) (l m : UnreadLines) (own : List (Located Named)) (log : Log) (s : Result Named Cause) (r : Result Log Refused) →
-    NextStatement l m (context_of a own log) s → Rest files a l own log r → Says files a l own log m s r
+    NextStatement files.flat l m (context_of a own log) s → Rest files a l own log r → Says files a l own log m s r
 says files a l m own log s r n d = by (gives files a l own log r (Line m n.tokens None) n.next d)
   where
-    by : ((n.tokens ≡ []) × Rest files a m own log r) ⊎ ((n.tokens ≢ [])
+    by : ((n.tokens ≡ []) × ((x : Mark) × IsMark files.flat a.file l m x × Behind files a l own log m x r)) ⊎ ((n.tokens ≢ [])
         × ((t : Result Named Cause) × ReadsLine (context_of a own log) n.tokens t × Says files a l own log m t r)) → Says files a l own log m s r
     by (inl x) = absurd (n.some x.0)
     by (inr x) = subst (λ t. Says files a l own log m t r) (one_line (context_of a own log) n.tokens x.1.0 s x.1.1 n.reads) x.1.2
@@ -187,15 +259,15 @@ module _ (files : Files) (a : FileContext) (l m : UnreadLines) (own : List (Loca
     same_bad_source c f (said_source n bytes more e g h i j) =
         none_or_some (source_cause files a log.total_lines n) c g (subst (λ k. source_cause files a log.total_lines k ≡ Some c) (one_name name n e) f)
 
-    module _ (bytes : List ℕ) (free : source_cause files a log.total_lines name ≡ None) (there : files name ≡ Some bytes) where
+    module _ (bytes : List ℕ) (free : source_cause files a log.total_lines name ≡ None) (there : sourced files name ≡ Some bytes) where
       -- the same file is opened
       abbrev Inner : Result Log Refused → Type 0
       Inner r = Rest files (inside a own name) (unread_lines bytes 1) [] (with_file log name bytes) r
 
-      inner : (n b : List ℕ) (r : Result Log Refused) → source_line name ≡ source_line n → files n ≡ Some b → Rest files (inside a own n) (unread_lines b 1) [] (with_file log n b) r → Inner r
+      inner : (n b : List ℕ) (r : Result Log Refused) → source_line name ≡ source_line n → sourced files n ≡ Some b → Rest files (inside a own n) (unread_lines b 1) [] (with_file log n b) r → Inner r
       inner n b r e f d =
           let g : n ≡ name = sym (one_name name n e) in
-          let h : b ≡ bytes = one_some (files name) b bytes (subst (λ k. files k ≡ Some b) g f) there in
+          let h : b ≡ bytes = one_some (sourced files name) b bytes (subst (λ k. sourced files k ≡ Some b) g f) there in
           subst (λ x. Rest files (inside a own name) (unread_lines x 1) [] (with_file log name x) r) h (subst (λ k. Rest files (inside a own k) (unread_lines b 1) [] (with_file log k b) r) g d)
 
       -- what the file gives, and what follows it
@@ -223,21 +295,20 @@ pub one_rest : {files : Files} {a : FileContext} {l : UnreadLines} {own : List (
     Rest files a l own log r → (other : Result Log Refused) → Rest files a l own log other → r ≡ other
 one_rest {files} (at_end a l own log none closed) other e = by (gives files a l own log other Ends none e)
   where
-    by : ((open_blocks (statements own) ≡ []) × (other ≡ Ok log)) ⊎ ((line : ℕ) × IsUnclosed own line × (other ≡ Err (refused cause.Block a.file line))) → Ok log ≡ other
+    by : ((open_blocks (statements own) ≡ []) × (other ≡ Ok log)) ⊎ ((line : Located Named) × IsUnclosed own line × (other ≡ Err (refused cause.Block line.file line.line))) → Ok log ≡ other
     by (inl x) = sym x.1
     by (inr x) = absurd (closed_or_not own x.0 closed x.1)
 one_rest {files} (unclosed a l own log line none unmatched) other e = by (gives files a l own log other Ends none e)
   where
-    by : ((open_blocks (statements own) ≡ []) × (other ≡ Ok log)) ⊎ ((n : ℕ) × IsUnclosed own n × (other ≡ Err (refused cause.Block a.file n))) →
-        Err (refused cause.Block a.file line) ≡ other
+    by : ((open_blocks (statements own) ≡ []) × (other ≡ Ok log)) ⊎ ((n : Located Named) × IsUnclosed own n × (other ≡ Err (refused cause.Block n.file n.line))) →
+        Err (refused cause.Block line.file line.line) ≡ other
     by (inl x) = absurd (closed_or_not own line x.0 unmatched)
-    by (inr x) = ap (λ n. Err (refused cause.Block a.file n)) (one_unclosed own line x.0 unmatched x.1) ∙ sym x.2
+    by (inr x) = ap (λ n. Err (refused cause.Block n.file n.line)) (one_unclosed own line x.0 unmatched x.1) ∙ sym x.2
 one_rest {files} (too_long a l own log long) other e = sym (gives files a l own log other Long long e)
 one_rest {files} (no_tokens a l m own log ts why next) other e = sym (gives files a l own log other (Line m ts (Some why)) next e)
-one_rest {files} (blank a l m own log r next d) other e = elim (gives files a l own log other (Line m [] None) next e) [
-  | inl x ↦ one_rest d other x.1
-  | inr x ↦ absurd (x.0 refl)
-]
+one_rest {files} (blank a l m own log r next d) other e = one_rest d other (behind files a l m own log NoMark other next.0 next e)
+one_rest {files} (renumbered a l m own log n r marks d) other e = one_rest d other (behind files a l m own log (Number n) other marks.0 marks e)
+one_rest {files} (moved a l m own log n name r marks differs d) other e = one_rest d other (behind files a l m own log (Place n name) other marks.0 (marks, differs) e)
 one_rest {files} (bad_line a l m own log c n) other e = sym (says files a l m own log (Err c) other n e)
 one_rest {files} (over_limit a l m own log s c n f) other e = same_effect files a l m own log other s c f (says files a l m own log (Ok s) other n e)
 one_rest {files} (statement a l m own log s r n plain f d) other e = one_rest d other (same_plain files a l m own log other s plain f (says files a l m own log (Ok s) other n e))
@@ -257,13 +328,13 @@ one_rest {files} (source a l m own log more name bytes r n free there d f) other
     one_log g h i = cc
 
 abbrev RootGives : Files → List ℕ → Result Log Refused → Type 0
-RootGives files root r = (bytes : List ℕ) × (files root ≡ Some bytes) × Rest files (root_context root) (unread_lines bytes 1) [] (with_file nothing_read root bytes) r
+RootGives files root r = (bytes : List ℕ) × (files.bytes root ≡ Some bytes) × Rest files (root_context root) (unread_lines bytes 1) [] (first_log files root bytes) r
 
 pub one_expansion_law : OneExpansion
-one_expansion_law files root r other d e = by (bytes_cause root 0 (files root)) d e
+one_expansion_law files root r other d e = by (bytes_cause root 0 (files.bytes root)) d e
   where
     by : (o : Option Cause) → MatchOption o (RootGives files root r) (λ c. r ≡ Err (refused c root 0)) → MatchOption o (RootGives files root other) (λ c. other ≡ Err (refused c root 0)) → r ≡ other
     by (Some c) x y = x ∙ sym y
     by None x y =
-        let b : y.0 ≡ x.0 = one_some (files root) y.0 x.0 y.1 x.1 in
-        one_rest x.2 other (subst (λ b. Rest files (root_context root) (unread_lines b 1) [] (with_file nothing_read root b) other) b y.2)
+        let b : y.0 ≡ x.0 = one_some (files.bytes root) y.0 x.0 y.1 x.1 in
+        one_rest x.2 other (subst (λ b. Rest files (root_context root) (unread_lines b 1) [] (first_log files root b) other) b y.2)

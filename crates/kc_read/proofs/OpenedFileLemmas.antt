@@ -1,5 +1,5 @@
 -- The files that an expansion asks for are named in those that it opened before.
-use Rattle.std.proofs.Common.{◌≡◌, ◌⊎◌, inl, inr, ℕ, zero, suc, ◌<◌, ◌≤◌, Bool, true, cond, List, [], ◌∷◌, ◌++◌, length, drop, codes, Option, Some, None, Result, Ok, Err, refl, sym, ap, ◌∙◌, subst, arith}
+use Rattle.std.proofs.Common.{◌≡◌, ◌⊎◌, inl, inr, ℕ, zero, suc, ◌<◌, ◌≤◌, Bool, true, false, true≢false, cond, List, [], ◌∷◌, ◌++◌, length, drop, codes, Option, Some, None, Result, Ok, Err, refl, sym, ap, ◌∙◌, subst, arith}
 use Rattle.std.specs.List.{Contains}
 use Rattle.std.proofs.lemmas.Bool.{cases_Bool}
 use Rattle.kc_language.specs.declared.tokens.TextFault.{TextFault}
@@ -8,7 +8,7 @@ use Rattle.kc_language.specs.Lines.{UnreadLines, TakesLine, unread_lines}
 use Rattle.kc_text.specs.Lines.{Next, Ended, Taken, TooLong, IsNextLine}
 use Rattle.kc_text.proofs.Joins.{one_next_line_law}
 use Rattle.kc_text.proofs.There.{one_cutting_law}
-use Rattle.kc_language.specs.Expansion.{FileContext, Log, Refused, Rest, NextLine, NextStatement, context_of, without_help, at_end, unclosed, too_long, no_tokens, blank, bad_line, over_limit, statement, bad_source, refused_inside, source, Files, SourceNames}
+use Rattle.kc_language.specs.Expansion.{FileContext, Log, Refused, Rest, NextLine, NextStatement, context_of, without_help, at_end, unclosed, too_long, no_tokens, blank, renumbered, moved, bad_line, over_limit, statement, bad_source, refused_inside, source, sourced, Files, SourceNames}
 use Rattle.kc_read.specs.PartsOfExpansion.{is_help}
 use Rattle.kc_language.specs.Statements.{Cause, LineContext, After, ReadsSource, begins_with, finish, plain_text, text_of, Located, Named, SourceLine}
 use Rattle.kc_read.specs.OpenedFiles.{sourced_files, IsNamedIn, IsNamedByOne, SourcedFilesAreNamed, HasOneListOfNames}
@@ -44,14 +44,14 @@ abbrev NamesThere : UnreadLines → Type 0
 NamesThere l = (names : List (List ℕ)) × SourceNames l names
 
 module _ (l : UnreadLines) (on : (m : UnreadLines) → length m.lines < length l.lines → NamesThere m) where
-  source_names : (m : UnreadLines) (ts : List Lexeme) → NextLine l m ts None → begins ts ≡ true → (r : Result Named Cause) → ReadsSource (drop 1 ts) r → NamesThere l
+  source_names : (m : UnreadLines) (ts : List Lexeme) → NextLine false l m ts None → begins ts ≡ true → (r : Result Named Cause) → ReadsSource (drop 1 ts) r → NamesThere l
   source_names m ts next b (Err c) reads = ([], lines.bad_source l m ts c next b reads)
   source_names m ts next b (Ok s) reads =
       let (name, e) = reads_source (drop 1 ts) s reads in
       let (names, d) = on m (next_less l m ts None next) in
       (name ∷ names, before_source l m name names (ts, next, b, subst (λ x. ReadsSource (drop 1 ts) (Ok x)) e reads) d)
 
-  cut_names : (m : UnreadLines) (ts : List Lexeme) (out : Option TextFault) → NextLine l m ts out → NamesThere l
+  cut_names : (m : UnreadLines) (ts : List Lexeme) (out : Option TextFault) → NextLine false l m ts out → NamesThere l
   cut_names m ts (Some why) next = ([], lines.no_tokens l m ts why next)
   cut_names m ts None next = elim (cases_Bool (begins ts)) [
     | inl b ↦ let r = source_line (drop 1 ts) in source_names m ts next b r.0 r.1
@@ -60,7 +60,7 @@ module _ (l : UnreadLines) (on : (m : UnreadLines) → length m.lines < length l
 
   taken_names : (m : UnreadLines) (text : List ℕ) → TakesLine l m text → NamesThere l
   taken_names m text taken =
-      let c = one_cutting_law text in
+      let c = one_cutting_law false text in
       cut_names (cond (is_help c.0) (without_help m) m) c.0 c.1.0 (record { middle = m; text = text; taken = taken; cut = c.1.1; left_after = refl })
 
   next_names : (next : Next) → IsNextLine l next → NamesThere l
@@ -104,7 +104,7 @@ split_append (y ∷ xs) ys (z ∷ before) after x e =
 -- ---- The law
 
 -- what the next line's file names after it, it names
-named_later : (l m : UnreadLines) (ts : List Lexeme) (name : List ℕ) → NextLine l m ts None →
+named_later : (l m : UnreadLines) (ts : List Lexeme) (name : List ℕ) → NextLine false l m ts None →
     (begins ts ≡ true → (s : Named) × ReadsSource (drop 1 ts) (Ok s)) → IsNamedIn m name → IsNamedIn l name
 named_later l m ts name next reads (names, d, has) = elim (cases_Bool (begins ts)) [
   | inl b ↦
@@ -115,11 +115,11 @@ named_later l m ts name next reads (names, d, has) = elim (cases_Bool (begins ts
 ]
 
 -- also after a statement
-named_after : (l m : UnreadLines) (c : LineContext) (s : Named) (name : List ℕ) → NextStatement l m c (Ok s) → IsNamedIn m name → IsNamedIn l name
+named_after : (l m : UnreadLines) (c : LineContext) (s : Named) (name : List ℕ) → NextStatement false l m c (Ok s) → IsNamedIn m name → IsNamedIn l name
 named_after l m c s name n h = named_later l m n.tokens name n.next (λ b. (s, begins_source c n.tokens (Ok s) b n.reads)) h
 
 -- a `source` line's file is named
-named_here : (l m : UnreadLines) (c : LineContext) (name : List ℕ) → NextStatement l m c (Ok (SourceLine name)) → IsNamedIn l name
+named_here : (l m : UnreadLines) (c : LineContext) (name : List ℕ) → NextStatement false l m c (Ok (SourceLine name)) → IsNamedIn l name
 named_here l m c name n =
     let b = source_begins c n.tokens name n.reads in
     let (names, d) = names_there m in
@@ -138,50 +138,59 @@ no_split [] after x e = absurd cc
 no_split (y ∷ before) after x e = absurd cc
 
 -- along a file that is opened
-within : (files : Files) (bytes : List ℕ) (before : List (List ℕ)) (name k : List ℕ) → files k ≡ Some bytes → IsNamed files (unread_lines bytes 1) before name → IsNamedByOne files (k ∷ before) name
+within : (files : Files) (bytes : List ℕ) (before : List (List ℕ)) (name k : List ℕ) → files.bytes k ≡ Some bytes → IsNamed files (unread_lines bytes 1) before name → IsNamedByOne files (k ∷ before) name
 within files bytes before name k there (inl h) = (k, bytes, here k before, there, h)
 within files bytes before name k there (inr h) = one_more files before name k h
 
-pub named : {files : Files} {a : FileContext} {l : UnreadLines} {own : List (Located Named)} {log : Log} {r : Result Log Refused} (d : Rest files a l own log r)
+-- the tree is not flat
+in_tree : {flat : Bool} {l m : UnreadLines} {c : LineContext} {s : Result Named Cause} → flat ≡ false → NextStatement flat l m c s → NextStatement false l m c s
+in_tree {l = l} {m = m} {c = c} {s = s} f n = subst (λ b. NextStatement b l m c s) f n
+
+held_in_tree : (files : Files) (name bytes : List ℕ) → files.flat ≡ false → sourced files name ≡ Some bytes → files.bytes name ≡ Some bytes
+held_in_tree files name bytes f h = sym (ap (λ b. cond b None (files.bytes name)) f) ∙ h
+
+pub named : {files : Files} (g : files.flat ≡ false) {a : FileContext} {l : UnreadLines} {own : List (Located Named)} {log : Log} {r : Result Log Refused} (d : Rest files a l own log r)
     (before after : List (List ℕ)) (name : List ℕ) → sourced_files d ≡ before ++ name ∷ after → IsNamed files l before name
-named (at_end a l own log none closed) before after name e = no_split before after name e
-named (unclosed a l own log line none unmatched) before after name e = no_split before after name e
-named (too_long a l own log long) before after name e = no_split before after name e
-named (no_tokens a l m own log ts why next) before after name e = no_split before after name e
-named (blank a l m own log r next d) before after name e = elim (named d before after name e) [
-  | inl h ↦ inl (named_later l m [] name next (λ b. absurd cc) h)
+named g (at_end a l own log none closed) before after name e = no_split before after name e
+named g (unclosed a l own log line none unmatched) before after name e = no_split before after name e
+named g (too_long a l own log long) before after name e = no_split before after name e
+named g (no_tokens a l m own log ts why next) before after name e = no_split before after name e
+named g (blank a l m own log r next d) before after name e = elim (named g d before after name e) [
+  | inl h ↦ inl (named_later l m [] name (subst (λ b. NextLine b l m [] None) g next.0) (λ b. absurd cc) h)
   | inr h ↦ inr h
 ]
-named (bad_line a l m own log c n) before after name e = no_split before after name e
-named (over_limit a l m own log s c n f) before after name e = no_split before after name e
-named (statement a l m own log s r n plain f d) before after name e = elim (named d before after name e) [
-  | inl h ↦ inl (named_after l m (context_of a own log) s name n h)
+named g (renumbered a l m own log n r marks d) before after name e = absurd (true≢false (sym marks.1 ∙ g))
+named g (moved a l m own log n k r marks differs d) before after name e = absurd (true≢false (sym marks.1 ∙ g))
+named g (bad_line a l m own log c n) before after name e = no_split before after name e
+named g (over_limit a l m own log s c n f) before after name e = no_split before after name e
+named g (statement a l m own log s r n plain f d) before after name e = elim (named g d before after name e) [
+  | inl h ↦ inl (named_after l m (context_of a own log) s name (in_tree g n) h)
   | inr h ↦ inr h
 ]
-named (bad_source a l m own log k c n f) [] after name e =
-    let h : k ≡ name = cc in inl (subst (IsNamedIn l) h (named_here l m (context_of a own log) k n))
-named (bad_source a l m own log k c n f) (b ∷ before) after name e = no_split before after name (let h : [] ≡ before ++ name ∷ after = cc in h)
-named (refused_inside a l m own log k bytes c n free there d) [] after name e =
-    let h : k ≡ name = cc in inl (subst (IsNamedIn l) h (named_here l m (context_of a own log) k n))
-named {files} (refused_inside a l m own log k bytes c n free there d) (b ∷ before) after name e =
+named g (bad_source a l m own log k c n f) [] after name e =
+    let h : k ≡ name = cc in inl (subst (IsNamedIn l) h (named_here l m (context_of a own log) k (in_tree g n)))
+named g (bad_source a l m own log k c n f) (b ∷ before) after name e = no_split before after name (let h : [] ≡ before ++ name ∷ after = cc in h)
+named g (refused_inside a l m own log k bytes c n free there d) [] after name e =
+    let h : k ≡ name = cc in inl (subst (IsNamedIn l) h (named_here l m (context_of a own log) k (in_tree g n)))
+named {files} g (refused_inside a l m own log k bytes c n free there d) (b ∷ before) after name e =
     let h : k ≡ b = cc in
     let t : sourced_files d ≡ before ++ name ∷ after = cc in
-    inr (subst (λ x. IsNamedByOne files (x ∷ before) name) h (within files bytes before name k there (named d before after name t)))
-named (source a l m own log more k bytes r n free there d f) [] after name e =
-    let h : k ≡ name = cc in inl (subst (IsNamedIn l) h (named_here l m (context_of a own log) k n))
-named {files} (source a l m own log more k bytes r n free there d f) (b ∷ before) after name e =
+    inr (subst (λ x. IsNamedByOne files (x ∷ before) name) h (within files bytes before name k (held_in_tree files k bytes g there) (named g d before after name t)))
+named g (source a l m own log more k bytes r n free there d f) [] after name e =
+    let h : k ≡ name = cc in inl (subst (IsNamedIn l) h (named_here l m (context_of a own log) k (in_tree g n)))
+named {files} g (source a l m own log more k bytes r n free there d f) (b ∷ before) after name e =
     let h : k ≡ b = cc in
     let t : sourced_files d ++ sourced_files f ≡ before ++ name ∷ after = cc in
     elim (split_append (sourced_files d) (sourced_files f) before after name t) [
-      | inl x ↦ inr (subst (λ y. IsNamedByOne files (y ∷ before) name) h (within files bytes before name k there (named d before x.0 name x.1)))
-      | inr x ↦ elim (named f x.0 after name x.2) [
-        | inl y ↦ inl (named_after l m (context_of a own log) (SourceLine k) name n y)
+      | inl x ↦ inr (subst (λ y. IsNamedByOne files (y ∷ before) name) h (within files bytes before name k (held_in_tree files k bytes g there) (named g d before x.0 name x.1)))
+      | inr x ↦ elim (named g f x.0 after name x.2) [
+        | inl y ↦ inl (named_after l m (context_of a own log) (SourceLine k) name (in_tree g n) y)
         | inr y ↦ let (by, text, has, there, names) = y in inr (by, text, subst (λ z. Contains (b ∷ z) by) (sym x.1) (later by b (sourced_files d ++ x.0) (later_all by (sourced_files d) x.0 has)), there, names)
       ]
     ]
 
 pub sourced_are_named : SourcedFilesAreNamed
-sourced_are_named files root bytes r there d before after name e = within files bytes before name root there (named d before after name e)
+sourced_are_named files root bytes r g there d before after name e = within files bytes before name root there (named g d before after name e)
 
 pub has_one_list_of_names : HasOneListOfNames
 has_one_list_of_names l =

@@ -187,7 +187,7 @@ no_source_word q (stuck s) b = absurd cc
 no_source_word {text} q (skipped blank c) b = no_source_word (after_blank text blank q) c b
 no_source_word {text} q (taken {n = n} {x = x} {ts = ts} h c) b = word_first text n x ts q h.spelled b
 
-quiet_after : (l m : UnreadLines) (ts : List Lexeme) → AreQuiet l.lines → NextLine l m ts None → AreQuiet m.lines
+quiet_after : (l m : UnreadLines) (ts : List Lexeme) → AreQuiet l.lines → NextLine false l m ts None → AreQuiet m.lines
 quiet_after l m ts s n =
     let after = (first_quiet l.lines n.taken.0 n.middle.lines s n.taken.1).1 in
     subst (λ (k : UnreadLines). AreQuiet k.lines) (sym n.left_after) (help_quiet (is_help ts) n.middle after)
@@ -196,7 +196,7 @@ no_source_line : (l m : UnreadLines) (name : List ℕ) → AreQuiet l.lines → 
 no_source_line l m name s line =
     let (ts, next, begins, reads) = line in
     let text = (first_quiet l.lines next.taken.0 next.middle.lines s next.taken.1).0 in
-    no_source_word (subst NoSourceFirst (sym next.taken.2) text) next.cut begins
+    no_source_word (subst NoSourceFirst (sym next.taken.2) text) next.cut.cut begins
 
 nothing_passed : (l m n : UnreadLines) (name : List ℕ) → AreQuiet l.lines → spec.Passes l m → IsSource m n name → ⊥
 nothing_passed l m n name s (here k) line = no_source_line l n name s line

@@ -1,6 +1,6 @@
 -- The rest of a file, one line after another.
 use Rattle.std.specs.Bool.{⊤}
-use Rattle.std.proofs.Common.{IfErr, IsErrAnd, take, ◌≡◌, ◌≢◌, ℕ, ◌-◌, ◌<◌, Bool, true, false, cond, List, [], ◌∷◌, ◌++◌, length, Option, Some, None, Result, Ok, Err, refl, sym, ap, ◌∙◌, subst, map, arith, append-nil}
+use Rattle.std.proofs.Common.{IfErr, IsErrAnd, take, ◌≡◌, ◌≢◌, ℕ, ◌-◌, ◌<◌, Bool, true, false, cond, List, [], ◌∷◌, ◌++◌, length, Option, Some, None, Result, Ok, Err, refl, sym, ap, ◌∙◌, subst, map, option_map, arith, append-nil}
 use Rattle.std.proofs.lemmas.Result.{err_from_is_err_and}
 use Rattle.kc_language.specs.Lines.{UnreadLines, unread_lines}
 use Rattle.kc_language.specs.Tokens.{Lexeme}
@@ -16,27 +16,28 @@ use Rattle.kc_language.specs.declared.statements.EntryKind.TheVariants as entry
 use Rattle.kc_read.specs.declared.statement.Attribute.{Attribute}
 use Rattle.kc_read.specs.declared.statement.Statement.{Statement}
 use Rattle.kc_read.specs.declared.statement.Statement.TheVariants as made
-use Rattle.kc_language.specs.Expansion.{entry_of, is_attribute, last_of, FileContext, Log, Rest, refused, context_of, inside, with_file, sourcing_cause, with_line, without_help, NextLine, NextStatement, at_end, unclosed, too_long, no_tokens, blank, bad_line, over_limit, statement, bad_source, refused_inside, source, Files}
+use Rattle.kc_language.specs.Expansion.{is_attribute, last_of, FileContext, Log, Rest, refused, context_of, inside, with_file, sourcing_cause, with_line, without_help, IsBlankNext, MarksNext, NextLine, NextStatement, sourced, at_end, unclosed, too_long, no_tokens, blank, renumbered, moved, bad_line, over_limit, statement, bad_source, refused_inside, source, Files}
 use Rattle.kc_read.specs.PartsOfExpansion.{is_help, is_source, logged}
-use Rattle.kc_read.specs.PartsOfExpansion.{last_no_attribute, source_cause}
+use Rattle.kc_read.specs.PartsOfExpansion.{source_cause}
 use Rattle.kc_read.specs.Entries.{IsLastFile}
-use Rattle.kc_language.specs.Statements.{Cause, LineContext, is_config, Located, Named, SourceLine, statements}
+use Rattle.kc_language.specs.Statements.{Cause, LineContext, is_config, Located, Named, SourceLine}
 use Rattle.kc_read.specs.PartsOfStatements.{is_entry}
-use Rattle.kc_read.specs.Progress.{HasAdvanced, IsNextRead, IsReading, IsStatementRead, IsEnded, IsFileRead, IsOpenAtEnd, IsProgress, IsRestRefusal, IsState, IsTaken, limit_view, open_names}
+use Rattle.kc_read.specs.Progress.{HasAdvanced, IsNextRead, IsReading, IsStatementRead, IsEnded, IsFileRead, IsOpenAtEnd, IsMarkedOpened, IsMovedFrame, IsProgress, IsRestRefusal, IsState, IsTaken, limit_view, open_names, opener_of, openers}
 use Rattle.kc_read.specs.StatementViews.{statement_view}
 use Rattle.kc_read.specs.LineReads.{LineFault, IsMade, cause_of}
 use Rattle.kc_read.specs.RefusalView.{refusal_view}
 use Rattle.kc_read.specs.NextStep.{IsStepRefusal, StepFault}
 use Rattle.kc_read.specs.NextStep as step
 use Rattle.kc_read.proofs.BlockLemmas as blocks
-use Rattle.kc_read.proofs.ListLemmas.{but_last, but_last-append, but_last-take, map-push}
-use Rattle.kc_read.proofs.StateLemmas.{effect_same, entry_push, frame_push, state_taken}
+use Rattle.kc_read.proofs.ListLemmas.{but_last, but_last-append, but_last-take, last_of-map}
+use Rattle.kc_language.specs.Expressions.{mention, same_name}
+use Rattle.kc_read.proofs.StateLemmas.{effect_same, frame_push, no_entry, state_moved, state_taken}
 use Rattle.kc_read.proofs.HeadLemmas.{attribute_is}
 use Rattle.kc_read.proofs.ShapeLemmas.{made_shape}
 use Rattle.kc_read.proofs.TurnLemmas.{adds, enables, read_suits}
 
 -- A line is taken from what is left of a file.
-pub next_less : (l m : UnreadLines) (ts : List Lexeme) (out : Option TextFault) → NextLine l m ts out → length m.lines < length l.lines
+pub next_less : {flat : Bool} (l m : UnreadLines) (ts : List Lexeme) (out : Option TextFault) → NextLine flat l m ts out → length m.lines < length l.lines
 next_less l m ts out n =
     let less : length n.middle.lines < length l.lines = takes_less l n.middle n.text n.taken in
     by (is_help ts) less n.left_after
@@ -45,7 +46,7 @@ next_less l m ts out n =
     by true less e = omega (arith, less, after_help-le n.middle.lines, ap (λ x. length x.lines) e)
     by false less e = omega (arith, less, ap (λ x. length x.lines) e)
 
-pub next_clear : (l m : UnreadLines) (ts : List Lexeme) (out : Option TextFault) → NextLine l m ts out → m.refusal ≡ None
+pub next_clear : {flat : Bool} (l m : UnreadLines) (ts : List Lexeme) (out : Option TextFault) → NextLine flat l m ts out → m.refusal ≡ None
 next_clear l m ts out n = by (is_help ts) n.left_after
   where
     by : (b : Bool) → m ≡ cond b (without_help n.middle) n.middle → m.refusal ≡ None
@@ -54,10 +55,10 @@ next_clear l m ts out n = by (is_help ts) n.left_after
 
 -- a refusal of the next line is one of the rest
 fault_of_rest : (files : Files) (a : FileContext) (l : UnreadLines) (own : List (Located Named)) (log : Log) (c : LineContext) (why : Cause) →
-    c ≡ context_of a own log → StepFault c l why → Rest files a l own log (Err (refused why a.file l.number))
+    c ≡ context_of a own log → StepFault files.flat c l why → Rest files a l own log (Err (refused why a.file l.number))
 fault_of_rest files a l own log c why e (step.too_long t) = too_long a l own log t
 fault_of_rest files a l own log c why e (step.no_tokens new ts w n) = no_tokens a l new own log ts w n
-fault_of_rest files a l own log c why e (step.refused_line new w n) = bad_line a l new own log w (subst (λ k. NextStatement l new k (Err w)) e n)
+fault_of_rest files a l own log c why e (step.refused_line new w n) = bad_line a l new own log w (subst (λ k. NextStatement files.flat l new k (Err w)) e n)
 
 -- a refusal that is made for a cause and a line
 pub refusal_at : (files : Files) (a : FileContext) (l : UnreadLines) (own : List (Located Named)) (log : Log) (r : Refusal) (why : Cause) (file : List ℕ)
@@ -67,7 +68,7 @@ refusal_at files a l own log r why file line v e n rest =
     subst (λ x. Rest files a l own log (Err x)) (sym (v ∙ ap (λ f. refused why f line) e ∙ ap (λ k. refused why a.file k) n)) rest
 
 pub step_refused : (files : Files) (a : FileContext) (l : UnreadLines) (own : List (Located Named)) (log : Log) (c : LineContext) (file : List ℕ) (r : Refusal)
-    → c ≡ context_of a own log → file ≡ a.file → IsStepRefusal file c l r → IsRestRefusal files a l own log r
+    → c ≡ context_of a own log → file ≡ a.file → IsStepRefusal files.flat file c l r → IsRestRefusal files a l own log r
 step_refused files a l own log c file r e f h ne =
     let w = h ne in
     refusal_at files a l own log r w.0 file l.number w.2 f refl (fault_of_rest files a l own log c w.0 e w.1)
@@ -77,7 +78,7 @@ pub ended : (files : Files) (first : List (List ℕ)) (names : List (List ℕ)) 
     (own : List (Located Named)) (log : Log) (p : Progress) (f : Frame) → IsState first names a own log p f → l.lines ≡ [] → f.blocks.items ≡ [] →
     IsEnded files first names a l own log p
 ended files first names a l own log p f i e none = record {
-  rest = at_end a l own log e (sym (blocks.blocks_of_located own) ∙ ap (map (λ o. o.block)) (sym i.frame.blocks ∙ none));
+  rest = at_end a l own log e (sym (blocks.blocks_of_located own) ∙ ap (map (λ o. o.block)) (sym i.frame.blocks ∙ ap (map opener_of) none));
   progress = i.progress;
 }
 
@@ -85,24 +86,50 @@ pub end_refused : (files : Files) (first : List (List ℕ)) (names : List (List 
     (own : List (Located Named)) (log : Log) (p : Progress) (f : Frame) (r : Refusal) → IsState first names a own log p f → l.lines ≡ [] →
     IsOpenAtEnd f (refusal_view r) → Rest files a l own log (Err (refusal_view r))
 end_refused files first names a l own log p f r i e o =
-    subst (λ x. Rest files a l own log (Err x)) (sym (o.2 ∙ ap (λ n. refused cause.Block n o.0.line) i.frame.file))
-    (unclosed a l own log o.0.line e (blocks.unclosed own o.0 (ap last_of (sym i.frame.blocks) ∙ o.1)))
+    let found : last_of (openers f) ≡ Some (opener_of o.0) = last_of-map opener_of f.blocks.items ∙ ap (option_map opener_of) o.1 in
+    let (opener, is_open, file, line) = blocks.unclosed own (opener_of o.0) (ap last_of (sym i.frame.blocks) ∙ found) in
+    subst (λ x. Rest files a l own log (Err x)) (sym (o.2 ∙ (λ j. refused cause.Block (file j) (line j)))) (unclosed a l own log opener e is_open)
 
 -- a line without tokens
 pub blank_goes : (files : Files) (first : List (List ℕ)) (names : List (List ℕ)) (a : FileContext) (l m : UnreadLines)
-    (own : List (Located Named)) (log : Log) (p : Progress) (f : Frame) → IsState first names a own log p f → NextLine l m [] None →
+    (own : List (Located Named)) (log : Log) (p : Progress) (f : Frame) → IsState first names a own log p f → IsBlankNext files.flat l m →
     HasAdvanced files first names a l m own log p f
 blank_goes files first names a l m own log p f i n = record {
+  context_now = a;
   own_now = own;
   log_now = log;
   state = i;
   follows = λ r rest. blank a l m own log r n rest;
 }
 
+-- a marker
+pub renumbered_goes : (files : Files) (first : List (List ℕ)) (names : List (List ℕ)) (a : FileContext) (l m : UnreadLines)
+    (own : List (Located Named)) (log : Log) (p : Progress) (f : Frame) (n : ℕ) (file : List ℕ) → IsState first names a own log p f → file ≡ a.file →
+    MarksNext files.flat l m n file → HasAdvanced files first names a l (record m { number = n }) own log p f
+renumbered_goes files first names a l m own log p f n file i e marks = record {
+  context_now = a;
+  own_now = own;
+  log_now = log;
+  state = i;
+  follows = λ r rest. renumbered a l m own log n r (subst (MarksNext files.flat l m n) e marks) rest;
+}
+
+pub moved_goes : (files : Files) (first : List (List ℕ)) (names : List (List ℕ)) (a : FileContext) (l m : UnreadLines)
+    (own : List (Located Named)) (log : Log) (p q : Progress) (f g : Frame) (n : ℕ) (name file : List ℕ) → IsState first names a own log p f → file ≡ a.file →
+    MarksNext files.flat l m n name → same_name name file ≡ false → IsMovedFrame name f g → IsMarkedOpened name p q →
+    HasAdvanced files first names a l (record m { number = n }) own log q g
+moved_goes files first names a l m own log p q f g n name file i e marks differs moves opens = record {
+  context_now = record a { file = name };
+  own_now = with_line own a l.number (SourceLine name);
+  log_now = record log { opened = mention log.opened name };
+  state = state_moved first names a own log f g p q l.number name i moves opens;
+  follows = λ r rest. moved a l m own log n name r marks (ap (same_name name) (sym e) ∙ differs) rest;
+}
+
 -- an attribute belongs to the last entry
 pub last_is : (files : Files) (first : List (List ℕ)) (known names : List (List ℕ)) (a : FileContext) (l m : UnreadLines)
     (own : List (Located Named)) (log : Log) (f : Frame) (p : Progress) (b : Attribute) (x : Named) → IsState first known a own log p f →
-    IsMade known names (made.Attribute b) x → NextStatement l m (context_of a own log) (Ok x) → IsLastFile p.entries f.file.value.items
+    IsMade known names (made.Attribute b) x → NextStatement files.flat l m (context_of a own log) (Ok x) → IsLastFile p.entries f.file.value.items
 last_is files first known names a l m own log f p b x i is next =
     let here : is_attribute x ≡ true = sym (ap (λ z. z.1) (made_shape known names (made.Attribute b) x is)) ∙ attribute_is b in
     subst (IsLastFile p.entries) (sym i.frame.file) (i.goes_on (adds (context_of a own log) x (read_suits (context_of a own log) next.tokens x next.reads) here))
@@ -110,9 +137,10 @@ last_is files first known names a l m own log f p b x i is next =
 -- a statement that is no `source` line
 pub statement_goes : (files : Files) (first : List (List ℕ)) (known names : List (List ℕ)) (a : FileContext) (l m : UnreadLines)
     (own : List (Located Named)) (log : Log) (f g : Frame) (p q : Progress) (s : Statement) (x : Named) (line : ℕ) → IsState first known a own log p f →
-    IsMade known names s x → NextStatement l m (context_of a own log) (Ok x) → line ≡ l.number → is_source (statement_view s) ≡ false →
+    IsMade known names s x → NextStatement files.flat l m (context_of a own log) (Ok x) → line ≡ l.number → is_source (statement_view s) ≡ false →
     IsTaken (statement_view s) line f g p q → limit_view (statement_view s) f p ≡ None → HasAdvanced files first names a l m own log q g
 statement_goes files first known names a l m own log f g p q s x line i is next e src t allowed = record {
+  context_now = a;
   own_now = with_line own a line x;
   log_now = logged log a line x;
   state = state_taken first known names a own log f g p q s x line i is t
@@ -124,7 +152,7 @@ statement_goes files first known names a l m own log f g p q s x line i is next 
 
 pub effect_refused : (files : Files) (first : List (List ℕ)) (known names : List (List ℕ)) (a : FileContext) (l m : UnreadLines)
     (own : List (Located Named)) (log : Log) (f : Frame) (p : Progress) (s : Statement) (x : Named) (line : ℕ) (file : List ℕ) (why : Cause) (r : Refusal) →
-    IsState first known a own log p f → IsMade known names s x → NextStatement l m (context_of a own log) (Ok x) → line ≡ l.number →
+    IsState first known a own log p f → IsMade known names s x → NextStatement files.flat l m (context_of a own log) (Ok x) → line ≡ l.number →
     file ≡ f.file.value.items → limit_view (statement_view s) f p ≡ Some why → refusal_view r ≡ refused why file line →
     Rest files a l own log (Err (refusal_view r))
 effect_refused files first known names a l m own log f p s x line file why r i is next e g effect v =
@@ -134,7 +162,7 @@ effect_refused files first known names a l m own log f p s x line file why r i i
 -- a `source` line
 pub source_refused : (files : Files) (first : List (List ℕ)) (names : List (List ℕ)) (a : FileContext) (l m : UnreadLines)
     (own : List (Located Named)) (log : Log) (f : Frame) (p : Progress) (name : List ℕ) (line : ℕ) (file : List ℕ) (why : Cause) (r : Refusal) →
-    IsState first names a own log p f → NextStatement l m (context_of a own log) (Ok (SourceLine name)) → line ≡ l.number → file ≡ f.file.value.items →
+    IsState first names a own log p f → NextStatement files.flat l m (context_of a own log) (Ok (SourceLine name)) → line ≡ l.number → file ≡ f.file.value.items →
     sourcing_cause files (open_names p) p.total_lines name ≡ Some why → refusal_view r ≡ refused why file line → Rest files a l own log (Err (refusal_view r))
 source_refused files first names a l m own log f p name line file why r i next e g bad v =
     refusal_at files a l own log r why file line v (g ∙ i.frame.file) e
@@ -147,25 +175,19 @@ source_allowed files first names a own log f p name i allowed = (λ j. sourcing_
 
 pub inside_refused : (files : Files) (first : List (List ℕ)) (names : List (List ℕ)) (a : FileContext) (l m : UnreadLines)
     (own : List (Located Named)) (log : Log) (f : Frame) (p : Progress) (name bytes : List ℕ) (r : Refusal) → IsState first names a own log p f →
-    NextStatement l m (context_of a own log) (Ok (SourceLine name)) → sourcing_cause files (open_names p) p.total_lines name ≡ None → files name ≡ Some bytes →
+    NextStatement files.flat l m (context_of a own log) (Ok (SourceLine name)) → sourcing_cause files (open_names p) p.total_lines name ≡ None → sourced files name ≡ Some bytes →
     IsRestRefusal files (inside a own name) (unread_lines bytes 1) [] (with_file log name bytes) r → IsRestRefusal files a l own log r
 inside_refused files first names a l m own log f p name bytes r i next allowed found inner ne =
     refused_inside a l m own log name bytes (refusal_view r) next (source_allowed files first names a own log f p name i allowed) found (inner ne)
 
--- no entry goes on behind a `source` line
-no_entry : (a : FileContext) (own : List (Located Named)) (n : ℕ) (name : List ℕ) →
-    entry_of (last_no_attribute (statements (with_line own a n (SourceLine name)))) ≡ entry.Nothing
-no_entry a own n name =
-    let opener : Located Named = record { file = a.file; line = n; statement = SourceLine name } in
-    ap (λ l. entry_of (last_no_attribute l)) (map-push (λ l. l.statement) own opener) ∙ sym (entry_push (statements own) (SourceLine name))
-
 pub source_goes : (files : Files) (first : List (List ℕ)) (known names : List (List ℕ)) (a : FileContext) (l m : UnreadLines)
     (own : List (Located Named)) (log : Log) (f g : Frame) (p q done : Progress) (name bytes : List ℕ) (line : ℕ) → IsState first known a own log p f →
-    NextStatement l m (context_of a own log) (Ok (SourceLine name)) → line ≡ l.number → sourcing_cause files (open_names p) p.total_lines name ≡ None →
-    files name ≡ Some bytes → IsFileRead files first names (inside a own name) (unread_lines bytes 1) (with_file log name bytes) q →
+    NextStatement files.flat l m (context_of a own log) (Ok (SourceLine name)) → line ≡ l.number → sourcing_cause files (open_names p) p.total_lines name ≡ None →
+    sourced files name ≡ Some bytes → IsFileRead files first names (inside a own name) (unread_lines bytes 1) (with_file log name bytes) q →
     g ≡ record f { entry = entry.Nothing } → open_names done ≡ open_names p → done ≡ record q { open_files = done.open_files } →
     HasAdvanced files first names a l m own log done g
 source_goes files first known names a l m own log f g p q done name bytes line i next e allowed found inner frame_is files_are done_is = record {
+  context_now = a;
   own_now = with_line own a line (SourceLine name);
   log_now = inner.log_now;
   state = record {
@@ -180,7 +202,7 @@ source_goes files first known names a l m own log f g p q done name bytes line i
       marked = inner.progress.marked;
     });
     frame = frame_push a own f g (SourceLine name) line i.frame (ap (λ x. x.file) frame_is) (ap (λ x. x.depth) frame_is) (ap (λ x. x.in_choice) frame_is)
-        (ap (λ x. x.blocks.items) frame_is) (ap (λ x. x.entry) frame_is);
+        (ap openers frame_is) (ap (λ x. x.entry) frame_is);
     files = files_are ∙ i.files;
     entered = λ e. absurd (let none : is_config entry.Nothing ≡ true = subst (λ k. is_config k ≡ true) (no_entry a own line name) e in cc);
     goes_on = λ e. absurd (let none : is_entry entry.Nothing ≡ true = subst (λ k. is_entry k ≡ true) (no_entry a own line name) e in cc);
@@ -193,8 +215,9 @@ source_goes files first known names a l m own log f g p q done name bytes line i
 -- one line after another
 pub goes_on : (files : Files) (first : List (List ℕ)) (mid names : List (List ℕ)) (a : FileContext) (k l m : UnreadLines) (log : Log)
     (p q : Progress) (f g : Frame) (h : HasAdvanced files first mid a k l [] log p f) →
-    HasAdvanced files first names a l m h.own_now h.log_now q g → HasAdvanced files first names a k m [] log q g
+    HasAdvanced files first names h.context_now l m h.own_now h.log_now q g → HasAdvanced files first names a k m [] log q g
 goes_on files first mid names a k l m log p q f g h n = record {
+  context_now = n.context_now;
   own_now = n.own_now;
   log_now = n.log_now;
   state = n.state;
@@ -202,7 +225,7 @@ goes_on files first mid names a k l m log p q f g h n = record {
 }
 
 pub file_read : (files : Files) (first : List (List ℕ)) (mid names : List (List ℕ)) (a : FileContext) (k l : UnreadLines) (log : Log)
-    (p q : Progress) (f : Frame) (h : HasAdvanced files first mid a k l [] log p f) → IsEnded files first names a l h.own_now h.log_now q →
+    (p q : Progress) (f : Frame) (h : HasAdvanced files first mid a k l [] log p f) → IsEnded files first names h.context_now l h.own_now h.log_now q →
     IsFileRead files first names a k log q
 file_read files first mid names a k l log p q f h n = record {
   log_now = h.log_now;
@@ -211,7 +234,7 @@ file_read files first mid names a k l log p q f h n = record {
 }
 
 pub file_refused : (files : Files) (first : List (List ℕ)) (mid : List (List ℕ)) (a : FileContext) (k l : UnreadLines) (log : Log)
-    (p : Progress) (f : Frame) (r : Refusal) (h : HasAdvanced files first mid a k l [] log p f) → IsRestRefusal files a l h.own_now h.log_now r →
+    (p : Progress) (f : Frame) (r : Refusal) (h : HasAdvanced files first mid a k l [] log p f) → IsRestRefusal files h.context_now l h.own_now h.log_now r →
     IsRestRefusal files a k [] log r
 file_refused files first mid a k l log p f r h n ne = h.follows (Err (refusal_view r)) (n ne)
 

@@ -1,11 +1,11 @@
 -- The names of a file's `source` lines, one line after another.
-use Rattle.std.proofs.Common.{IfOk, ◌≡◌, ◌≢◌, ℕ, ◌<◌, Bool, true, cond, List, [], ◌∷◌, ◌++◌, map, length, drop, codes, Option, Some, None, MatchOption, Result, Ok, Err, refl, sym, ap, ◌∙◌, subst, append_assoc}
+use Rattle.std.proofs.Common.{IfOk, ◌≡◌, ◌≢◌, ℕ, ◌<◌, Bool, true, false, cond, List, [], ◌∷◌, ◌++◌, map, length, drop, codes, Option, Some, None, MatchOption, Result, Ok, Err, refl, sym, ap, ◌∙◌, subst, append_assoc}
 use Rattle.kc_language.specs.declared.tokens.TextFault.{TextFault}
 use Rattle.kc_language.specs.declared.tokens.TextFault.TheVariants as fault
 use Rattle.kc_text.specs.declared.tokens.Token.{Token}
 use Rattle.kc_language.specs.Lines.{UnreadLines, TakesLine}
 use Rattle.kc_text.specs.Lines.{IsLineFault}
-use Rattle.kc_language.specs.Tokens.{Lexeme, IsCut}
+use Rattle.kc_language.specs.Tokens.{Lexeme, IsCutIn}
 use Rattle.kc_text.specs.Lexemes.{lexemes}
 use Rattle.kc_text.specs.Tokens.{IsCutting, IsRefused}
 use Rattle.kc_read.specs.LineReads.{lexemes_from}
@@ -37,16 +37,16 @@ line_ends old why clear is ne = by why (cause_none old.refusal (IsLineFault old 
     by fault.BadToken h ne = absurd h
     by fault.Macro h ne = absurd h
 
-refused_line : (old mid : UnreadLines) (text : List ℕ) (ts : List Lexeme) (why : TextFault) → TakesLine old mid text → IsCut text ts (Some why) → SourceNames old []
+refused_line : (old mid : UnreadLines) (text : List ℕ) (ts : List Lexeme) (why : TextFault) → TakesLine old mid text → IsCutIn false text ts (Some why) → SourceNames old []
 refused_line old mid text ts why t k = no_tokens old (cond (is_help ts) (without_help mid) mid) ts why (record { middle = mid; text = text; taken = t; cut = k; left_after = refl })
 
-pub cut_ends : (old mid : UnreadLines) (text : List ℕ) (why : TextFault) → TakesLine old mid text → IsRefused text why → why ≢ fault.Memory → SourceNames old []
+pub cut_ends : (old mid : UnreadLines) (text : List ℕ) (why : TextFault) → TakesLine old mid text → IsRefused false text why → why ≢ fault.Memory → SourceNames old []
 cut_ends old mid text fault.Memory t k ne = absurd (ne refl)
 cut_ends old mid text why t k ne = refused_line old mid text k.0 why t k.1
 
 -- a line that is taken
-pub taken_line : (old mid new : UnreadLines) (text : List ℕ) (ts : List Token) → TakesLine old mid text → IsCutting text (lexemes ts) →
-    new ≡ cond (is_help (lexemes ts)) (without_help mid) mid → NextLine old new (lexemes ts) None
+pub taken_line : (old mid new : UnreadLines) (text : List ℕ) (ts : List Token) → TakesLine old mid text → IsCutting false text (lexemes ts) →
+    new ≡ cond (is_help (lexemes ts)) (without_help mid) mid → NextLine false old new (lexemes ts) None
 taken_line old mid new text ts t k e = record { middle = mid; text = text; taken = t; cut = k; left_after = e }
 
 pub begins_pieces : (ts : List Token) (b : Bool) → b ≡ begins_with (codes "source") (lexemes_from ts 0) → begins_with (codes "source") (lexemes ts) ≡ b
@@ -58,7 +58,7 @@ rest_pieces ts = after_one ts 0
 pub source_found : (ts : List Token) (name : List ℕ) → ReadsSource (lexemes_from ts 1) (Ok (SourceLine name)) → ReadsSource (drop 1 (lexemes ts)) (Ok (SourceLine name))
 source_found ts name h = subst (λ ls. ReadsSource ls (Ok (SourceLine name))) (sym (rest_pieces ts)) h
 
-pub source_bad : (old new : UnreadLines) (ts : List Token) (c : Cause) → NextLine old new (lexemes ts) None →
+pub source_bad : (old new : UnreadLines) (ts : List Token) (c : Cause) → NextLine false old new (lexemes ts) None →
     begins_with (codes "source") (lexemes ts) ≡ true → ReadsSource (lexemes_from ts 1) (Err c) → SourceNames old []
 source_bad old new ts c n b h = bad_source old new (lexemes ts) c n b (subst (λ ls. ReadsSource ls (Err c)) (sym (rest_pieces ts)) h)
 

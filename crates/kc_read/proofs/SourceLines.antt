@@ -21,7 +21,7 @@ stopped l m n name no_pass no_name (past k i j o p) s = no_pass i o
 stops : (l : UnreadLines) → ((k : UnreadLines) → IsOther l k → ⊥) → ((k : UnreadLines) (name : List ℕ) → IsSource l k name → ⊥) → SourceNames l []
 stops l no_pass no_name = none l (λ m n name p s. stopped l m n name no_pass no_name p s)
 
-no_line : (l : UnreadLines) → ((m : UnreadLines) (ts : List Lexeme) → NextLine l m ts None → ⊥) → SourceNames l []
+no_line : (l : UnreadLines) → ((m : UnreadLines) (ts : List Lexeme) → NextLine false l m ts None → ⊥) → SourceNames l []
 no_line l h = stops l (λ k o. h k o.0 o.1) (λ k name s. h k s.0 s.1)
 
 pub at_end : (l : UnreadLines) → l.lines ≡ [] → SourceNames l []
@@ -30,23 +30,23 @@ at_end l e = no_line l (λ m ts n. omega (arith, takes_less l n.middle n.text n.
 pub too_long : (l : UnreadLines) → IsTooLong l → SourceNames l []
 too_long l long = no_line l (λ m ts n. taken_is_short l n.middle n.text n.taken long)
 
-pub no_tokens : (l m : UnreadLines) (ts : List Lexeme) (why : TextFault) → NextLine l m ts (Some why) → SourceNames l []
+pub no_tokens : (l m : UnreadLines) (ts : List Lexeme) (why : TextFault) → NextLine false l m ts (Some why) → SourceNames l []
 no_tokens l m ts why line = no_line l (λ n us other. let e : Some why ≡ None = (one_next l m n ts us (Some why) None line other).2 in absurd cc)
 
 -- a `source` line whose rest is refused is passed by nothing, and names no file
-no_other : (l m n : UnreadLines) (ts : List Lexeme) → NextLine l m ts None → begins_with (codes "source") ts ≡ true → IsOther l n → ⊥
+no_other : (l m n : UnreadLines) (ts : List Lexeme) → NextLine false l m ts None → begins_with (codes "source") ts ≡ true → IsOther l n → ⊥
 no_other l m n ts line b o =
     let (left, tokens, out) = one_next l n m o.0 ts None None o.1 line in
     both_ways (begins_with (codes "source") ts) (subst (λ us. begins_with (codes "source") us ≡ false) tokens o.2) b
 
-no_source : (l m n : UnreadLines) (name : List ℕ) (ts : List Lexeme) (c : Cause) → NextLine l m ts None → ReadsSource (drop 1 ts) (Err c) → IsSource l n name → ⊥
+no_source : (l m n : UnreadLines) (name : List ℕ) (ts : List Lexeme) (c : Cause) → NextLine false l m ts None → ReadsSource (drop 1 ts) (Err c) → IsSource l n name → ⊥
 no_source l m n name ts c line reads s =
     let (left, tokens, out) = one_next l m n ts s.0 None None line s.1 in
     let bad : ReadsSource (drop 1 s.0) (Err c) = subst (λ us. ReadsSource (drop 1 us) (Err c)) tokens reads in
     let e : Err c ≡ Ok (source_line name) = one_source (drop 1 s.0) (Err c) (Ok (SourceLine name)) bad s.3 in
     absurd cc
 
-pub bad_source : (l m : UnreadLines) (ts : List Lexeme) (c : Cause) → NextLine l m ts None → begins_with (codes "source") ts ≡ true →
+pub bad_source : (l m : UnreadLines) (ts : List Lexeme) (c : Cause) → NextLine false l m ts None → begins_with (codes "source") ts ≡ true →
     ReadsSource (drop 1 ts) (Err c) → SourceNames l []
 bad_source l m ts c line b reads = stops l (λ k o. no_other l m k ts line b o) (λ k name s. no_source l m k name ts c line reads s)
 

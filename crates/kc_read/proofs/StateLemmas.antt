@@ -1,25 +1,28 @@
 -- What is remembered, one statement after another.
-use Rattle.std.proofs.Common.{◌≡◌, ℕ, ◌+◌, Bool, true, false, cond, ◌||◌, List, [], ◌∷◌, ◌++◌, map, filter, length, Option, Some, None, option_map, Result, Err, refl, sym, ap, ◌∙◌, subst, append-nil, length-append}
+use Rattle.std.proofs.Common.{◌≡◌, ℕ, ◌+◌, Bool, true, false, cond, ◌||◌, List, [], ◌∷◌, ◌++◌, map, filter, length, Option, Some, None, option_map, Result, Err, refl, sym, ap, ◌∙◌, subst, append-nil, length-append, arith}
 use Rattle.std.specs.Prelude.{is_some}
 use Rattle.std.specs.List.{cons_option, flat_map, list_any}
 use Rattle.std.specs.Option.{option_or}
 use Rattle.std.proofs.Math.ListN.{length-map}
+use Rattle.std.proofs.lemmas.Simd.{map-map}
 use Rattle.std.proofs.lemmas.Grind.{flat_map-append}
 use Rattle.std.proofs.lemmas.List.Elements.{filter-append, filter_map-append}
 use Rattle.std.proofs.lemmas.List.Folds.{list_any-append}
 use Rattle.kc_language.specs.Expressions.{all_mentioned, mention, number_of, symbol}
 use Rattle.kc_expr.specs.Names.{Extends}
 use Rattle.kc_expr.proofs.NamesLemmas.{extends_on, mentioned_on, mentioned_extends, all_mentioned-append}
+use Rattle.kc_language.specs.declared.statements.EntryKind.TheVariants as entry
+use Rattle.kc_read.specs.PartsOfStatements.{is_entry}
 use Rattle.kc_read.specs.declared.frame.Frame.{Frame}
 use Rattle.kc_read.specs.declared.progress.Progress.{Progress}
 use Rattle.kc_read.specs.declared.statement.Statement.{Statement}
-use Rattle.kc_language.specs.Expansion.{bracket, definitions, entry_of, is_attribute, is_modules, is_no_attribute, last_of, modules_of, defined_name, open_blocks, FileContext, Log, Rest, context_of, limit_cause, inside, is_choice, with_file, with_line, Expands, Refused, bytes_cause, refused, Files}
-use Rattle.kc_read.specs.PartsOfExpansion.{lines_of, logged, nothing_read, root_context}
+use Rattle.kc_language.specs.Expansion.{bracket, definitions, entry_of, is_attribute, is_modules, is_no_attribute, last_of, modules_of, defined_name, open_blocks, FileContext, Log, Rest, context_of, limit_cause, first_log, inside, is_choice, with_file, with_line, Expands, Refused, bytes_cause, refused, Files}
+use Rattle.kc_read.specs.PartsOfExpansion.{lines_of, logged, root_context}
 use Rattle.kc_read.specs.PartsOfExpansion.{last_no_attribute, nesting_cause, defined, located_numbered}
 use Rattle.kc_read.proofs.ModulesLemmas.{marked_push, modules_of_push}
-use Rattle.kc_language.specs.Statements.{Cause, LineContext, is_config, Numbered, Located, Named, ConfigLine, names_in_statement, statements}
+use Rattle.kc_language.specs.Statements.{Cause, LineContext, is_config, Numbered, Located, Named, ConfigLine, SourceLine, names_in_statement, statements}
 use Rattle.kc_language.specs.Lines.{unread_lines}
-use Rattle.kc_read.specs.Progress.{limit_view, IsEntered, IsFrame, IsSourcedFrame, IsProgress, IsState, IsTaken, IsBegun, defined_after, entry_after, ids_match, open_blocks_after}
+use Rattle.kc_read.specs.Progress.{limit_view, IsEntered, IsFrame, IsMarkedOpened, IsMovedFrame, IsSourcedFrame, IsProgress, IsState, IsTaken, IsBegun, defined_after, entry_after, ids_match, open_blocks_after, opener_of, openers}
 use Rattle.kc_read.specs.Expanded.{IsNamed}
 use Rattle.kc_read.specs.Entries.{lines_in, IsLastFile}
 use Rattle.kc_read.specs.StatementViews.{statement_view}
@@ -40,23 +43,30 @@ entry_push ss x = by (is_attribute x) ∙ ap (λ l. entry_of (last_of l)) (sym (
     by false = ap entry_of (sym (last_of-push (filter is_no_attribute ss) x))
 
 pub frame_push : (a : FileContext) (own : List (Located Named)) (f g : Frame) (x : Named) (n : ℕ) → IsFrame a own f → g.file ≡ f.file → g.depth ≡ f.depth →
-    g.in_choice ≡ f.in_choice → g.blocks.items ≡ open_blocks_after (bracket x) n f.blocks.items → g.entry ≡ entry_after f.entry x →
+    g.in_choice ≡ f.in_choice → openers g ≡ open_blocks_after (bracket x) f.file.value.items n (openers f) → g.entry ≡ entry_after f.entry x →
     IsFrame a (with_line own a n x) g
 frame_push a own f g x n i e_file e_depth e_choice e_blocks e_entry = record {
   file = ap (λ r. r.value.items) e_file ∙ i.file;
   depth = e_depth ∙ i.depth;
   in_choice = e_choice ∙ i.in_choice;
-  blocks = e_blocks ∙ ap (open_blocks_after (bracket x) n) i.blocks ∙ sym (located_blocks_push own (ranked a n x));
+  blocks = e_blocks ∙ (λ j. open_blocks_after (bracket x) (i.file j) n (i.blocks j)) ∙ sym (located_blocks_push own (ranked a n x));
   entry =
       e_entry ∙ ap (λ z. entry_after z x) i.entry ∙ entry_push (statements own) x
       ∙ ap (λ l. entry_of (last_no_attribute l)) (sym (map-push (λ l. l.statement) own (ranked a n x)));
 }
 
+-- no entry goes on behind a `source` line
+pub no_entry : (a : FileContext) (own : List (Located Named)) (n : ℕ) (name : List ℕ) →
+    entry_of (last_no_attribute (statements (with_line own a n (SourceLine name)))) ≡ entry.Nothing
+no_entry a own n name =
+    let opener : Located Named = record { file = a.file; line = n; statement = SourceLine name } in
+    ap (λ l. entry_of (last_no_attribute l)) (map-push (λ l. l.statement) own opener) ∙ sym (entry_push (statements own) (SourceLine name))
+
 frame_taken : (a : FileContext) (own : List (Located Named)) (f g : Frame) (p q : Progress) (v : Numbered) (x : Named) (n : ℕ) → IsFrame a own f →
     shape v ≡ shape x → IsTaken v n f g p q → IsFrame a (with_line own a n x) g
 frame_taken a own f g p q v x n i e t =
     frame_push a own f g x n i t.file t.depth t.in_choice
-    (t.blocks ∙ ap (λ b. open_blocks_after b n f.blocks.items) (ap (λ z. z.0) e))
+    (t.blocks ∙ ap (λ b. open_blocks_after b f.file.value.items n (openers f)) (ap (λ z. z.0) e))
     (t.entry ∙ ap (λ b. cond b f.entry (entry_of (Some v))) (ap (λ z. z.1) e) ∙ ap (λ y. cond (is_attribute x) f.entry y) (ap (λ z. z.2) e))
 
 -- the definitions, one statement later
@@ -152,13 +162,17 @@ state_taken first known names a own log f g p q s x n i m t placed = record {
   goes_on = λ e. subst (IsLastFile q.entries) i.frame.file t.last;
 }
 
+-- the open blocks of a file
+blocks_same : (a : FileContext) (own : List (Located Named)) (f : Frame) → IsFrame a own f → map (λ o. o.block) f.blocks.items ≡ open_blocks (statements own)
+blocks_same a own f i = sym (map-map (λ o. o.block) opener_of f.blocks.items) ∙ ap (map (λ o. o.block)) i.blocks ∙ blocks_of_located own
+
 -- the context of the next line
 pub context_same : (first : List (List ℕ)) (names : List (List ℕ)) (a : FileContext) (own : List (Located Named)) (log : Log)
     (f : Frame) (p : Progress) (c : LineContext) → IsState first names a own log p f → c.entry ≡ f.entry →
     c.own ≡ option_map (λ o. o.block) (last_of f.blocks.items) → c.in_choice ≡ (f.in_choice || list_any (λ o. is_choice o.block) f.blocks.items) →
     c.modules ≡ ids_match p.modules p.config → c ≡ context_of a own log
 context_same first names a own log f p c i e_entry e_own e_choice e_modules =
-    let blocks : map (λ o. o.block) f.blocks.items ≡ open_blocks (statements own) = ap (map (λ o. o.block)) i.frame.blocks ∙ blocks_of_located own in
+    let blocks = blocks_same a own f i.frame in
     let entry_is = e_entry ∙ i.frame.entry in
     let own_is = e_own ∙ sym (last_of-map (λ o. o.block) f.blocks.items) ∙ ap last_of blocks in
     let choice_is = e_choice ∙ ap (λ b. b || list_any (λ o. is_choice o.block) f.blocks.items) i.frame.in_choice
@@ -171,7 +185,7 @@ pub state_inside : (first : List (List ℕ)) (names : List (List ℕ)) (a : File
     (f g : Frame) (p q : Progress) (name bytes : List ℕ) (total_lines : ℕ) → IsState first names a own log p f → IsSourcedFrame f name g →
     IsEntered name total_lines p q → total_lines ≡ p.total_lines + lines_of bytes → IsState first names (inside a own name) [] (with_file log name bytes) q g
 state_inside first names a own log f g p q name bytes total_lines i n t c =
-    let blocks : map (λ o. o.block) f.blocks.items ≡ open_blocks (statements own) = ap (map (λ o. o.block)) i.frame.blocks ∙ blocks_of_located own in
+    let blocks = blocks_same a own f i.frame in
     let mapped : length (map (λ o. o.block) f.blocks.items) ≡ length f.blocks.items = simp length-map in
     let many : length f.blocks.items ≡ length (open_blocks (statements own)) = sym mapped ∙ ap length blocks in
     let fr = t.open_files.0 in
@@ -193,7 +207,7 @@ state_inside first names a own log f g p q name bytes total_lines i n t c =
             n.in_choice ∙ ap (λ b. b || list_any (λ o. is_choice o.block) f.blocks.items) i.frame.in_choice
             ∙ ap (λ b. list_any is_choice a.blocks || b) (sym (list_any-map is_choice (λ o. o.block) f.blocks.items) ∙ ap (list_any is_choice) blocks)
             ∙ sym (list_any-append is_choice a.blocks (open_blocks (statements own)));
-        blocks = n.blocks;
+        blocks = ap (map opener_of) n.blocks;
         entry = n.entry;
       };
       files =
@@ -208,7 +222,7 @@ pub effect_same : (first : List (List ℕ)) (known names : List (List ℕ)) (a :
     (f : Frame) (p : Progress) (s : Statement) (x : Named) → IsState first known a own log p f → IsMade known names s x →
     limit_view (statement_view s) f p ≡ limit_cause a own log x
 effect_same first known names a own log f p s x i m =
-    let blocks : map (λ o. o.block) f.blocks.items ≡ open_blocks (statements own) = ap (map (λ o. o.block)) i.frame.blocks ∙ blocks_of_located own in
+    let blocks = blocks_same a own f i.frame in
     let mapped : length (map (λ o. o.block) f.blocks.items) ≡ length f.blocks.items = simp length-map in
     let many : length f.blocks.items ≡ length (open_blocks (statements own)) = sym mapped ∙ ap length blocks in
     let later_names : Extends known names = mentioned_extends known names (names_in_statement x) m.mentions in
@@ -218,14 +232,47 @@ effect_same first known names a own log f p s x i m =
     (λ j. option_or (defining j) (nesting_cause (depth j) (ap (λ z. z.0) (made_shape known names s x m) j)))
     ∙ effect_by a own log x
 
+-- behind a marker of another file
+pub state_moved : (first : List (List ℕ)) (names : List (List ℕ)) (a : FileContext) (own : List (Located Named)) (log : Log)
+    (f g : Frame) (p q : Progress) (n : ℕ) (name : List ℕ) → IsState first names a own log p f → IsMovedFrame name f g → IsMarkedOpened name p q →
+    IsState first names (record a { file = name }) (with_line own a n (SourceLine name)) (record log { opened = mention log.opened name }) q g
+state_moved first names a own log f g p q n name i moved opened =
+    let pushed = frame_push a own f (record f { entry = entry.Nothing }) (SourceLine name) n i.frame refl refl refl refl refl in
+    let frame : IsFrame (record a { file = name }) (with_line own a n (SourceLine name)) (record f { file = g.file; entry = entry.Nothing }) = record {
+      file = moved.file;
+      depth = pushed.depth;
+      in_choice = pushed.in_choice;
+      blocks = pushed.blocks;
+      entry = pushed.entry;
+    } in
+    let progress : IsProgress first names (record log { opened = mention log.opened name }) (record p { opened = q.opened }) = record {
+      lines = i.progress.lines;
+      mentions = i.progress.mentions;
+      total_lines = i.progress.total_lines;
+      opened = opened.opened_is ∙ ap (λ ns. mention ns name) i.progress.opened;
+      defined_is = i.progress.defined_is;
+      config = i.progress.config;
+      modules_is = i.progress.modules_is;
+      marked = i.progress.marked;
+    } in record {
+      progress = subst (IsProgress first names (record log { opened = mention log.opened name })) (sym opened.kept) progress;
+      frame = subst (IsFrame (record a { file = name }) (with_line own a n (SourceLine name))) (sym moved.kept) frame;
+      files = ap (λ x. map (λ f. f.value.items) x.open_files.items) opened.kept ∙ i.files;
+      entered = λ e. absurd (let none : is_config entry.Nothing ≡ true = subst (λ k. is_config k ≡ true) (no_entry a own n name) e in cc);
+      goes_on = λ e. absurd (let none : is_entry entry.Nothing ≡ true = subst (λ k. is_entry k ≡ true) (no_entry a own n name) e in cc);
+    }
+
+zero-add : (n : ℕ) → 0 + n ≡ n
+zero-add n = omega arith
+
 -- as the root file is opened
-pub state_begun : (names : List (List ℕ)) (root bytes : List ℕ) (total_lines : ℕ) (f : Frame) (p : Progress) →
-    IsBegun root total_lines f p → total_lines ≡ 0 + lines_of bytes → IsState names names (root_context root) [] (with_file nothing_read root bytes) p f
-state_begun names root bytes total_lines f p b c = record {
+pub state_begun : (files : Files) (names : List (List ℕ)) (root bytes : List ℕ) (total_lines : ℕ) (f : Frame) (p : Progress) →
+    IsBegun root files.flat total_lines f p → total_lines ≡ 0 + lines_of bytes → IsState names names (root_context root) [] (first_log files root bytes) p f
+state_begun files names root bytes total_lines f p b c = record {
   progress = record {
     lines = λ later e. b.lines;
     mentions = refl;
-    total_lines = b.total_lines_is ∙ c;
+    total_lines = b.total_lines_is ∙ c ∙ zero-add (lines_of bytes);
     opened = b.opened_is;
     defined_is = λ later e. b.defined_is;
     config = subst (λ o. IsNamed names o None) (sym b.config) tt;
@@ -236,7 +283,7 @@ state_begun names root bytes total_lines f p b c = record {
     file = b.file;
     depth = b.depth;
     in_choice = b.in_choice;
-    blocks = b.blocks;
+    blocks = ap (map opener_of) b.blocks;
     entry = b.entry;
   };
   files = b.open_files;
@@ -244,9 +291,9 @@ state_begun names root bytes total_lines f p b c = record {
   goes_on = λ e. absurd cc;
 }
 
-pub expands_read : (files : Files) (root bytes : List ℕ) (r : Result Log Refused) → bytes_cause root 0 (files root) ≡ None → files root ≡ Some bytes →
-    Rest files (root_context root) (unread_lines bytes 1) [] (with_file nothing_read root bytes) r → Expands files root r
+pub expands_read : (files : Files) (root bytes : List ℕ) (r : Result Log Refused) → bytes_cause root 0 (files.bytes root) ≡ None → files.bytes root ≡ Some bytes →
+    Rest files (root_context root) (unread_lines bytes 1) [] (first_log files root bytes) r → Expands files root r
 expands_read files root bytes r allowed found rest = rw allowed (bytes, found, rest)
 
-pub expands_refused : (files : Files) (root : List ℕ) (why : Cause) (e : Refused) → bytes_cause root 0 (files root) ≡ Some why → e ≡ refused why root 0 → Expands files root (Err e)
+pub expands_refused : (files : Files) (root : List ℕ) (why : Cause) (e : Refused) → bytes_cause root 0 (files.bytes root) ≡ Some why → e ≡ refused why root 0 → Expands files root (Err e)
 expands_refused files root why e bad is = rw bad (ap Err is)

@@ -1,12 +1,13 @@
 -- For proofs: What the next line of a file is.
-use Rattle.std.specs.Prelude.{◌≡◌, ◌≢◌, ℕ, List, [], Some, None, Ok, Err}
+use Rattle.std.specs.Prelude.{◌≡◌, ◌≢◌, ℕ, Bool, true, false, List, [], Some, Ok, Err}
 use Rattle.kc_language.specs.Lines.{UnreadLines, IsTooLong}
 use Rattle.kc_read.specs.declared.refusal.Refusal.{Refusal}
 use Rattle.kc_language.specs.declared.diagnostics.Cause.TheVariants as cause
 use Rattle.kc_read.specs.declared.step.Step.{Step}
 use Rattle.kc_read.specs.declared.step.Step.TheVariants as step
 use Rattle.kc_language.specs.Statements.{Named, Cause, LineContext}
-use Rattle.kc_language.specs.Expansion.{refused, NextLine, NextStatement, text_cause}
+use Rattle.kc_language.specs.Expansion.{refused, IsBlankNext, IsMarker, MarksNext, NextLine, NextStatement, text_cause}
+use Rattle.kc_language.specs.Expressions.{same_name}
 use Rattle.kc_read.specs.LineReads.{IsMade}
 use Rattle.kc_language.specs.Tokens.{Lexeme}
 use Rattle.kc_language.specs.declared.tokens.TextFault.{TextFault}
@@ -20,17 +21,27 @@ long_line fault.BadToken = 0
 long_line fault.Macro = 0
 long_line fault.Memory = 0
 
--- the end, a line without tokens, or a statement with the number of its line
-abbrev pub IsStep : List (List ℕ) → List (List ℕ) → LineContext → UnreadLines → UnreadLines → Step → Type 0
-IsStep known names c old new step.End = (old.lines ≡ []) × (names ≡ known)
-IsStep known names c old new step.Blank = NextLine old new [] None × (names ≡ known)
-IsStep known names c old new (step.Next n s) = (x : Named) × (n ≡ old.number) × NextStatement old new c (Ok x) × IsMade known names s x
+-- what a line without tokens says in this file
+abbrev pub IsMarked : Bool → List ℕ → List ℕ → Step → Type 0
+IsMarked flat file text step.Blank = flat ≡ true → (n : ℕ) (name : List ℕ) → IsMarker text n name → ⊥
+IsMarked flat file text (step.Renumbered n) = (flat ≡ true) × IsMarker text n file
+IsMarked flat file text (step.Moved n name) = (flat ≡ true) × IsMarker text n name.items × (same_name name.items file ≡ false)
+IsMarked flat file text step.End = ⊥
+IsMarked flat file text (step.Next n s) = ⊥
+
+-- The end, a line without tokens that is no marker, a marker of this file or of another one, or a statement with the number of its line.
+abbrev pub IsStep : Bool → List ℕ → List (List ℕ) → List (List ℕ) → LineContext → UnreadLines → UnreadLines → Step → Type 0
+IsStep flat file known names c old new step.End = (old.lines ≡ []) × (names ≡ known)
+IsStep flat file known names c old new step.Blank = IsBlankNext flat old new × (names ≡ known)
+IsStep flat file known names c old new (step.Renumbered n) = MarksNext flat old new n file × (names ≡ known)
+IsStep flat file known names c old new (step.Moved n name) = MarksNext flat old new n name.items × (same_name name.items file ≡ false) × (names ≡ known)
+IsStep flat file known names c old new (step.Next n s) = (x : Named) × (n ≡ old.number) × NextStatement flat old new c (Ok x) × IsMade known names s x
 
 -- the first fault of the line
-pub data StepFault (c : LineContext) (old : UnreadLines) : Cause → Type 0 where
-  too_long : IsTooLong old → StepFault c old cause.LineTooLong
-  no_tokens : (new : UnreadLines) (ts : List Lexeme) (why : TextFault) → NextLine old new ts (Some why) → StepFault c old (text_cause why)
-  refused_line : (new : UnreadLines) (why : Cause) → NextStatement old new c (Err why) → StepFault c old why
+pub data StepFault (flat : Bool) (c : LineContext) (old : UnreadLines) : Cause → Type 0 where
+  too_long : IsTooLong old → StepFault flat c old cause.LineTooLong
+  no_tokens : (new : UnreadLines) (ts : List Lexeme) (why : TextFault) → NextLine flat old new ts (Some why) → StepFault flat c old (text_cause why)
+  refused_line : (new : UnreadLines) (why : Cause) → NextStatement flat old new c (Err why) → StepFault flat c old why
 
-abbrev pub IsStepRefusal : List ℕ → LineContext → UnreadLines → Refusal → Type 0
-IsStepRefusal file c old r = r.cause ≢ cause.Memory → (why : Cause) × StepFault c old why × (refusal_view r ≡ refused why file old.number)
+abbrev pub IsStepRefusal : Bool → List ℕ → LineContext → UnreadLines → Refusal → Type 0
+IsStepRefusal flat file c old r = r.cause ≢ cause.Memory → (why : Cause) × StepFault flat c old why × (refusal_view r ≡ refused why file old.number)

@@ -1,8 +1,8 @@
 -- Trusted: The files that an expansion opens.
 use Rattle.std.specs.List.{Contains}
-use Rattle.std.specs.Prelude.{◌≡◌, ℕ, List, [], ◌∷◌, ◌++◌, Some, Ok, Result}
-use Rattle.kc_language.specs.Expansion.{FileContext, Log, Refused, Rest, Expands, at_end, unclosed, too_long, no_tokens, blank, bad_line, over_limit, statement, bad_source, refused_inside, source, with_file, Files, SourceNames, AreOpened}
-use Rattle.kc_read.specs.PartsOfExpansion.{root_context, nothing_read}
+use Rattle.std.specs.Prelude.{◌≡◌, ℕ, false, List, [], ◌∷◌, ◌++◌, Some, Ok, Result}
+use Rattle.kc_language.specs.Expansion.{FileContext, Log, Refused, Rest, Expands, at_end, unclosed, too_long, no_tokens, blank, renumbered, moved, bad_line, over_limit, statement, bad_source, refused_inside, source, first_log, Files, SourceNames, AreOpened}
+use Rattle.kc_read.specs.PartsOfExpansion.{root_context}
 use Rattle.kc_language.specs.Lines.{UnreadLines, unread_lines}
 use Rattle.kc_language.specs.Statements.{Located, Named}
 
@@ -16,10 +16,12 @@ OpenedAreOneList =
 -- be opened or has no bytes, where there is one.
 abbrev pub sourced_files : {files : Files} {a : FileContext} {l : UnreadLines} {own : List (Located Named)} {log : Log} {r : Result Log Refused} → Rest files a l own log r → List (List ℕ)
 sourced_files (at_end a l own log none closed) = []
-sourced_files (unclosed a l own log line none unmatched) = []
+sourced_files (unclosed a l own log opener none unmatched) = []
 sourced_files (too_long a l own log long) = []
 sourced_files (no_tokens a l m own log ts why next) = []
 sourced_files (blank a l m own log r next d) = sourced_files d
+sourced_files (renumbered a l m own log n r marks d) = sourced_files d
+sourced_files (moved a l m own log n name r marks differs d) = sourced_files d
 sourced_files (bad_line a l m own log c next) = []
 sourced_files (over_limit a l m own log s c next effect) = []
 sourced_files (statement a l m own log s r next plain effect d) = sourced_files d
@@ -33,13 +35,13 @@ IsNamedIn l name = (names : List (List ℕ)) × SourceNames l names × Contains 
 
 -- one of these files names it
 abbrev pub IsNamedByOne : Files → List (List ℕ) → List ℕ → Type 0
-IsNamedByOne files before name = (by bytes : List ℕ) × Contains before by × (files by ≡ Some bytes) × IsNamedIn (unread_lines bytes 1) name
+IsNamedByOne files before name = (by bytes : List ℕ) × Contains before by × (files.bytes by ≡ Some bytes) × IsNamedIn (unread_lines bytes 1) name
 
--- Each file that an expansion asks for after the root is named in one that it opened before.
+-- Each file that an expansion asks for after the root is named in one that it opened before. (A flat tree has no other file.)
 abbrev pub SourcedFilesAreNamed : Type 0
 SourcedFilesAreNamed =
-    (files : Files) (root bytes : List ℕ) (r : Result Log Refused) → files root ≡ Some bytes →
-    (d : Rest files (root_context root) (unread_lines bytes 1) [] (with_file nothing_read root bytes) r) (before after : List (List ℕ)) (name : List ℕ) →
+    (files : Files) (root bytes : List ℕ) (r : Result Log Refused) → files.flat ≡ false → files.bytes root ≡ Some bytes →
+    (d : Rest files (root_context root) (unread_lines bytes 1) [] (first_log files root bytes) r) (before after : List (List ℕ)) (name : List ℕ) →
     sourced_files d ≡ before ++ name ∷ after → IsNamedByOne files (root ∷ before) name
 
 -- lines have one list of names, and no other

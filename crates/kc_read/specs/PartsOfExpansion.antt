@@ -70,12 +70,9 @@ lines_of bytes = length (physical_lines bytes)
 abbrev pub logged : Log → FileContext → ℕ → Named → Log
 logged log a n s = record { lines = with_line log.lines a n s; total_lines = log.total_lines; opened = log.opened }
 
--- reading begins with the root file: no other file is open, and nothing was read
+-- reading begins with the root file: no other file is open
 abbrev pub root_context : List ℕ → FileContext
 root_context root = record { open_files = root ∷ []; file = root; blocks = [] }
-
-abbrev pub nothing_read : Log
-nothing_read = record { lines = []; total_lines = 0; opened = [] }
 
 -- the line is a `help` line
 abbrev pub is_help : List Lexeme → Bool
@@ -83,4 +80,4 @@ is_help ts = begins_with (codes "help") ts || begins_with (codes "---help---") t
 
 -- the next line is no `source` line; after it m is left
 abbrev pub IsOther : UnreadLines → UnreadLines → Type 0
-IsOther l m = (ts : List Lexeme) × NextLine l m ts None × (begins_with (codes "source") ts ≡ false)
+IsOther l m = (ts : List Lexeme) × NextLine false l m ts None × (begins_with (codes "source") ts ≡ false)

@@ -15,6 +15,7 @@ use Rattle.kc_read.specs.declared.frame.Frame.{Frame}
 use Rattle.kc_read.specs.declared.progress.Progress.{Progress}
 use Rattle.kc_language.specs.declared.diagnostics.Cause.TheVariants as cause
 use Rattle.kc_read.specs.declared.refusal.Refusal.{Refusal}
+use Rattle.kc_language.specs.declared.statements.Block.{Block}
 use Rattle.kc_language.specs.declared.statements.EntryKind.{EntryKind}
 use Rattle.kc_language.specs.declared.statements.EntryKind.TheVariants as entry
 use Rattle.kc_read.specs.declared.statement.OpenBlock.{OpenBlock}
@@ -31,13 +32,19 @@ use Rattle.kc_read.specs.Expanded.{AreNumbers, IsNamed}
 abbrev pub name_after : {E L S : Type 0} → Option S → Statement E L S → Option S
 name_after now s = option_or (defined_name s) now
 
+-- an open block, and the place of the line that opened it
+pub record Opener : Type 0 where
+  pub block : Block
+  pub file : List ℕ
+  pub line : ℕ
+
 -- the block that the line opens, if it opens one
-abbrev pub open_block_of : Option (Located Named) → Option OpenBlock
+abbrev pub open_block_of : Option (Located Named) → Option Opener
 open_block_of None = None
-open_block_of (Some l) = option_map (λ b. record { block = b; line = l.line }) (opened (bracket l.statement))
+open_block_of (Some l) = option_map (λ b. record { block = b; file = l.file; line = l.line }) (opened (bracket l.statement))
 
 -- the blocks that are open after these lines, each with the line that opened it, the outermost first
-abbrev pub located_blocks : List (Located Named) → List OpenBlock
+abbrev pub located_blocks : List (Located Named) → List Opener
 located_blocks ls = filter_map (λ j. open_block_of (slice_get ls j)) (open_block_indices (statements ls))
 
 abbrev pub is_closer : Bracket → Bool
@@ -46,10 +53,17 @@ is_closer Closes = true
 is_closer NoBracket = false
 
 -- the open blocks after one more line
-abbrev pub open_blocks_after : Bracket → ℕ → List OpenBlock → List OpenBlock
-open_blocks_after (Opens b) n bs = bs ++ record { block = b; line = n } ∷ []
-open_blocks_after Closes n bs = take (length bs - 1) bs
-open_blocks_after NoBracket n bs = bs
+abbrev pub open_blocks_after : Bracket → List ℕ → ℕ → List Opener → List Opener
+open_blocks_after (Opens b) file n bs = bs ++ record { block = b; file = file; line = n } ∷ []
+open_blocks_after Closes file n bs = take (length bs - 1) bs
+open_blocks_after NoBracket file n bs = bs
+
+-- the open blocks that the reader of a file remembers
+abbrev pub opener_of : OpenBlock → Opener
+opener_of o = record { block = o.block; file = o.file.value.items; line = o.line }
+
+abbrev pub openers : Frame → List Opener
+openers f = map opener_of f.blocks.items
 
 -- the entry after one more statement
 abbrev pub entry_after : {E L S : Type 0} → EntryKind → Statement E L S → EntryKind
@@ -64,7 +78,7 @@ pub record IsFrame (a : FileContext) (own : List (Located Named)) (f : Frame) : 
   pub file : f.file.value.items ≡ a.file
   pub depth : f.depth ≡ length a.blocks
   pub in_choice : f.in_choice ≡ list_any is_choice a.blocks
-  pub blocks : f.blocks.items ≡ located_blocks own
+  pub blocks : openers f ≡ located_blocks own
   pub entry : f.entry ≡ entry_of (last_no_attribute (statements own))
 
 -- whether the numbers say the same symbol
@@ -160,7 +174,7 @@ pub record IsTaken (s : Numbered) (line : ℕ) (f g : Frame) (old new : Progress
   pub file : g.file ≡ f.file
   pub depth : g.depth ≡ f.depth
   pub in_choice : g.in_choice ≡ f.in_choice
-  pub blocks : g.blocks.items ≡ open_blocks_after (bracket s) line f.blocks.items
+  pub blocks : openers g ≡ open_blocks_after (bracket s) f.file.value.items line (openers f)
   pub entry : g.entry ≡ entry_after f.entry s
 
 -- the limit that a statement passes, where it defines a symbol too many or opens a block too many
@@ -185,9 +199,18 @@ pub record IsEntered (name : List ℕ) (total_lines : ℕ) (old new : Progress) 
   pub config : new.config ≡ old.config
   pub modules_is : new.modules ≡ old.modules
 
+-- the lines that follow are those of another file
+pub record IsMovedFrame (name : List ℕ) (f g : Frame) : Type 0 where
+  pub file : g.file.value.items ≡ name
+  pub kept : g ≡ record f { file = g.file; entry = entry.Nothing }
+
+pub record IsMarkedOpened (name : List ℕ) (old new : Progress) : Type 0 where
+  pub opened_is : new.opened ≡ mention old.opened name
+  pub kept : new ≡ record old { opened = new.opened }
+
 -- a block of the file is open at its end
 abbrev pub IsOpenAtEnd : Frame → Refused → Type 0
-IsOpenAtEnd f r = (o : OpenBlock) × (last_of f.blocks.items ≡ Some o) × (r ≡ refused cause.Block f.file.value.items o.line)
+IsOpenAtEnd f r = (o : OpenBlock) × (last_of f.blocks.items ≡ Some o) × (r ≡ refused cause.Block o.file.value.items o.line)
 
 -- a refusal of the rest of a file
 abbrev pub IsRestRefusal : Files → FileContext → UnreadLines → List (Located Named) → Log → Refusal → Type 0
@@ -196,10 +219,11 @@ IsRestRefusal files a l own log r = r.cause ≢ cause.Memory → Rest files a l 
 module _ (files : Files) (first : List (List ℕ)) (names : List (List ℕ)) (a : FileContext) where
   -- the reader has advanced in a file: what its rest gives from here on is what it gave from the line before on
   pub record HasAdvanced (old new : UnreadLines) (own : List (Located Named)) (log : Log) (p : Progress) (f : Frame) : Type 0 where
+    pub context_now : FileContext
     pub own_now : List (Located Named)
     pub log_now : Log
-    pub state : IsState first names a own_now log_now p f
-    pub follows : (r : Result Log Refused) → Rest files a new own_now log_now r → Rest files a old own log r
+    pub state : IsState first names context_now own_now log_now p f
+    pub follows : (r : Result Log Refused) → Rest files context_now new own_now log_now r → Rest files a old own log r
 
   -- a whole file was read
   pub record IsFileRead (l : UnreadLines) (log : Log) (p : Progress) : Type 0 where
@@ -226,7 +250,7 @@ module _ (files : Files) (first : List (List ℕ)) (names : List (List ℕ)) (a 
   IsNextRead l m own log p f (Err r) = IsRestRefusal files a l own log r
 
 -- what is known as the root file is opened
-pub record IsBegun (root : List ℕ) (total_lines : ℕ) (f : Frame) (p : Progress) : Type 0 where
+pub record IsBegun (root : List ℕ) (flat : Bool) (total_lines : ℕ) (f : Frame) (p : Progress) : Type 0 where
   pub file : f.file.value.items ≡ root
   pub depth : f.depth ≡ 0
   pub in_choice : f.in_choice ≡ false
@@ -234,7 +258,7 @@ pub record IsBegun (root : List ℕ) (total_lines : ℕ) (f : Frame) (p : Progre
   pub entry : f.entry ≡ entry.Nothing
   pub lines : lines_in p.entries ≡ []
   pub total_lines_is : p.total_lines ≡ total_lines
-  pub opened_is : p.opened ≡ root ∷ []
+  pub opened_is : p.opened ≡ (if flat then [] else root ∷ [])
   pub defined_is : p.defined ≡ []
   pub config : p.config ≡ None
   pub modules_is : p.modules ≡ None

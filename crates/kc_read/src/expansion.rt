@@ -3,9 +3,10 @@
 ghost use Rattle.std.specs.Prelude.{◌≡◌, ◌≢◌, ◌≤◌, Err, IfErr, IfOk, Ok};
 ghost use Rattle.kc_language.specs.Text.{most_lines};
 ghost use Rattle.kc_expr.specs.Names.{Extends};
-ghost use Rattle.kc_language.specs.Expansion.{Expands, Log, bytes_in};
+ghost use Rattle.kc_language.specs.Expansion.{Expands, Log};
 ghost use Rattle.kc_read.specs.Progress.{IsBegun, IsBounded, IsShallow};
 ghost use Rattle.kc_read.specs.Expanded.{IsExpansion};
+ghost use Rattle.kc_read.specs.Files.{files_in};
 ghost use Rattle.kc_read.specs.RefusalView.{IsMemory, refusal_view};
 ghost use Rattle.kc_language.specs.declared.diagnostics.Cause.TheVariants.{Memory};
 
@@ -39,16 +40,19 @@ pub struct Expansion {
 fn begin(
     alloc: Global,
     root: &[u8],
+    is_flat: bool,
     total_lines: usize,
 ) -> Result<(Frame, Progress), LineFault<'static>>
     requires { total_lines ≤ most_lines }
-    ensures begun { IfOk result (λ r. IsBegun root.now total_lines r.0 r.1) }
+    ensures begun { IfOk result (λ r. IsBegun root.now is_flat total_lines r.0 r.1) }
     ensures shallow { IfOk result (λ r. IsShallow r.0) }
     ensures bounded { IfOk result (λ r. IsBounded r.1) }
     ensures memory { IfErr result (λ f. f ≡ Memory) }
 {
     let mut opened = Names::new(alloc);
-    opened.id(root)?;
+    if !is_flat {
+        opened.id(root)?;
+    }
     let name = Vec::from_slice(alloc, root)?;
     let file = Rc::new(alloc, name)?;
     let mut open_files = Vec::new(alloc);
@@ -90,8 +94,8 @@ pub fn expand(
     root: &[u8],
     names: &mut Names,
 ) -> Result<Expansion, Refusal>
-    ensures expanded { IfOk result (λ e. (log : Log) × Expands (bytes_in map.now) root.now (Ok log) × IsExpansion names.old names.new log e) }
-    ensures refused { IfErr result (λ r. r.cause ≢ Memory → Expands (bytes_in map.now) root.now (Err (refusal_view r))) }
+    ensures expanded { IfOk result (λ e. (log : Log) × Expands (files_in map.now) root.now (Ok log) × IsExpansion names.old names.new log e) }
+    ensures refused { IfErr result (λ r. r.cause ≢ Memory → Expands (files_in map.now) root.now (Err (refusal_view r))) }
     ensures memory { IfErr result IsMemory }
     ensures names { Extends names.old names.new }
 {
@@ -102,7 +106,7 @@ pub fn expand(
     let Ok(constants) = Constants::new(alloc) else {
         return Err(Refusal::out_of_memory());
     };
-    let (frame, mut progress) = match begin(alloc, root, total_lines) {
+    let (frame, mut progress) = match begin(alloc, root, map.is_flat(), total_lines) {
         Ok(begun) => begun,
         Err(_) => return Err(Refusal::out_of_memory()),
     };

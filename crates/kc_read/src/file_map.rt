@@ -2,7 +2,7 @@
 
 ghost use Rattle.std.specs.Prelude.{◌≡◌, [], OnOk, OnErr, option_map, None};
 ghost use Rattle.kc_language.specs.Expansion.{bytes_in};
-ghost use Rattle.kc_read.specs.Files.{Puts};
+ghost use Rattle.kc_read.specs.Files.{Puts, files_in};
 
 use indexmap::IndexMap;
 use kc_expr::hash_key::HashKey;
@@ -10,38 +10,41 @@ use kc_text::FileText;
 use std::alloc::{AllocError, Global};
 use std::marker::Model;
 
-/// Files by their names.
+/// Files by their names, and whether the root file is a flat one.
 #[derive(Drop)]
 pub struct FileMap {
     alloc: Global,
     key: HashKey,
     files: IndexMap<Vec<u8>, FileText, HashKey>,
+    is_flat: bool,
 }
 
 impl Model for FileMap {
     ghost use Rattle.std.specs.Prelude.{ℕ, List, map};
+    ghost use Rattle.kc_read.specs.Files.{FileTable};
 
-    ghost Value = { List (List ℕ × List ℕ) };
+    ghost Value = { FileTable };
 
-    ghost view = { λ m. map (λ e. (e.0.items, e.1)) m.files.entries };
+    ghost view = { λ m. record { entries = map (λ e. (e.0.items, e.1)) m.files.entries; flat = m.is_flat } };
 }
 
 impl FileMap {
-    /// No files. The key of their table is known.
-    pub fn new(alloc: Global) -> Self
-        ensures { result ≡ [] }
+    /// No files. The root file is to be a flat one, or not. The key of their table is known.
+    pub fn new(alloc: Global, is_flat: bool) -> Self
+        ensures { result ≡ record { entries = []; flat = is_flat } }
     {
-        FileMap::keyed(alloc, HashKey::known())
+        FileMap::keyed(alloc, is_flat, HashKey::known())
     }
 
     /// No files, in a table with this key.
-    pub fn keyed(alloc: Global, key: HashKey) -> Self
-        ensures { result ≡ [] }
+    pub fn keyed(alloc: Global, is_flat: bool, key: HashKey) -> Self
+        ensures { result ≡ record { entries = []; flat = is_flat } }
     {
         FileMap {
             alloc,
             key,
             files: IndexMap::with_hasher(alloc, key),
+            is_flat,
         }
     }
 
@@ -50,12 +53,19 @@ impl FileMap {
         self.key
     }
 
+    /// Whether the root file is a flat one.
+    pub(crate) fn is_flat(&self) -> bool
+        ensures { result ≡ self.now.flat }
+    {
+        self.is_flat
+    }
+
     /// Gives the name these bytes, in place of those that it had. Its only error is to be out of memory, which no name that
     /// has bytes answers, and after which the map is as it was.
     pub fn insert(&mut self, name: Vec<u8>, bytes: Vec<u8>) -> Result<(), AllocError>
-        ensures ok { OnOk result (Puts (bytes_in self.old) (bytes_in self.new) name.items bytes.items) }
+        ensures ok { OnOk result (Puts (files_in self.old) (files_in self.new) name.items bytes.items) }
         ensures err { OnErr result (self.new ≡ self.old) }
-        ensures unknown { OnErr result (bytes_in self.old name.items ≡ None) }
+        ensures unknown { OnErr result (bytes_in self.old.entries name.items ≡ None) }
     {
         let text = FileText::new(self.alloc, bytes);
         self.files.insert(name, text)?;
@@ -64,14 +74,14 @@ impl FileMap {
 
     /// The text of a name.
     pub(crate) fn text(&self, name: &[u8]) -> Option<&FileText>
-        ensures { option_map (λ t. t.now) result ≡ bytes_in self.now name.now }
+        ensures { option_map (λ t. t.now) result ≡ bytes_in self.now.entries name.now }
     {
         self.files.get(name)
     }
 
     /// The bytes of a name.
     pub fn get(&self, name: &[u8]) -> Option<&[u8]>
-        ensures { option_map (λ b. b.now) result ≡ bytes_in self.now name.now }
+        ensures { option_map (λ b. b.now) result ≡ bytes_in self.now.entries name.now }
     {
         let text = self.text(name)?;
         Some(text.bytes())

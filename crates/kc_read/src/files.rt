@@ -9,9 +9,10 @@ ghost use Rattle.kc_expr.specs.Names.{Extends};
 ghost use Rattle.kc_language.specs.Expressions.{same_name};
 ghost use Rattle.kc_language.specs.declared.diagnostics.Cause.TheVariants.{Memory};
 ghost use Rattle.kc_language.specs.Expansion as spec;
-ghost use Rattle.kc_language.specs.Expansion.{FileContext, Log, NextStatement, sourcing_cause, bytes_in};
-ghost use Rattle.kc_read.specs.Progress.{IsBounded, IsEntered, IsSourcedFrame, IsNextRead, IsOpenAtEnd, IsReading, IsShallow, IsState, IsStatementRead, IsTaken, limit_view, open_names};
+ghost use Rattle.kc_language.specs.Expansion.{FileContext, Log, NextStatement, bytes_in, sourced, sourcing_cause};
+ghost use Rattle.kc_read.specs.Progress.{IsBounded, IsEntered, IsMarkedOpened, IsMovedFrame, IsSourcedFrame, IsNextRead, IsOpenAtEnd, IsReading, IsShallow, IsState, IsStatementRead, IsTaken, limit_view, open_names};
 ghost use Rattle.kc_read.specs.Entries.{IsLastFile};
+ghost use Rattle.kc_read.specs.Files.{files_in};
 ghost use Rattle.kc_read.specs.StatementViews.{attribute_view, head_view};
 ghost use Rattle.kc_read.specs.declared.frame.Frame.{Frame};
 ghost use Rattle.kc_read.specs.LineReads.{IsFault, IsMade, cause_of};
@@ -56,10 +57,10 @@ pub(crate) fn open<'a, 'b>(
     total_lines: usize,
 ) -> Result<(&'a FileText, usize), LineFault<'b>>
     requires { total_lines ≤ most_lines }
-    ensures bytes { IfOk result (λ r. bytes_in map.now name.now ≡ Some r.0.now) }
+    ensures bytes { IfOk result (λ r. bytes_in map.now.entries name.now ≡ Some r.0.now) }
     ensures total_lines { IfOk result (λ r. (r.1 ≡ total_lines + lines_of r.0.now) × (r.1 ≤ most_lines)) }
-    ensures allowed { OnOk result (spec.bytes_cause name.now total_lines (bytes_in map.now name.now) ≡ None) }
-    ensures fault { IfErr result (λ f. spec.bytes_cause name.now total_lines (bytes_in map.now name.now) ≡ Some (cause_of f)) }
+    ensures allowed { OnOk result (spec.bytes_cause name.now total_lines (bytes_in map.now.entries name.now) ≡ None) }
+    ensures fault { IfErr result (λ f. spec.bytes_cause name.now total_lines (bytes_in map.now.entries name.now) ≡ Some (cause_of f)) }
 {
     let Some(file) = map.text(name) else {
         return Err(Cause::NoFile(name));
@@ -92,17 +93,20 @@ fn open_source<'a, 'b>(
     progress: &Progress,
 ) -> Result<(&'a FileText, usize), LineFault<'b>>
     requires { IsBounded progress.now }
-    ensures bytes { IfOk result (λ r. bytes_in map.now name.now ≡ Some r.0.now) }
+    ensures bytes { IfOk result (λ r. sourced (files_in map.now) name.now ≡ Some r.0.now) }
     ensures total_lines { IfOk result (λ r. (r.1 ≡ progress.now.total_lines + lines_of r.0.now) × (r.1 ≤ most_lines)) }
     ensures fewer { OnOk result (length progress.now.open_files.items < most_files) }
-    ensures allowed { OnOk result (sourcing_cause (bytes_in map.now) (open_names progress.now) progress.now.total_lines name.now ≡ None) }
-    ensures fault { IfErr result (λ f. sourcing_cause (bytes_in map.now) (open_names progress.now) progress.now.total_lines name.now ≡ Some (cause_of f)) }
+    ensures allowed { OnOk result (sourcing_cause (files_in map.now) (open_names progress.now) progress.now.total_lines name.now ≡ None) }
+    ensures fault { IfErr result (λ f. sourcing_cause (files_in map.now) (open_names progress.now) progress.now.total_lines name.now ≡ Some (cause_of f)) }
 {
     if is_open(progress, name) {
         return Err(Cause::InclusionLoop(name));
     }
     if progress.open_files.len() >= MOST_FILES {
         return Err(Cause::TooDeep);
+    }
+    if map.is_flat() {
+        return Err(Cause::NoFile(name));
     }
     open(map, name, progress.total_lines)
 }
@@ -197,10 +201,30 @@ fn end(alloc: Global, frame: &Frame) -> Result<(), Refusal>
     match frame.innermost() {
         Some(opener) => {
             let fault = Cause::Block;
-            Err(refuse(alloc, fault, &frame.file, opener.line))
+            Err(refuse(alloc, fault, &opener.file, opener.line))
         }
         None => Ok(()),
     }
+}
+
+// The lines that follow are those of this file. As behind a `source` line, no entry goes on.
+fn move_to(
+    alloc: Global,
+    marked: Vec<u8>,
+    frame: &mut Frame,
+    progress: &mut Progress,
+) -> Result<(), AllocError>
+    requires shallow { IsShallow frame.old }
+    requires bounded { IsBounded progress.old }
+    ensures frame { OnOk result (IsMovedFrame marked.items frame.old frame.new) }
+    ensures progress { OnOk result (IsMarkedOpened marked.items progress.old progress.new) }
+    ensures shallow { OnOk result (IsShallow frame.new) }
+    ensures bounded { OnOk result (IsBounded progress.new) }
+{
+    progress.opened.id(&marked)?;
+    frame.file = Rc::new(alloc, marked)?;
+    frame.entry = EntryKind::Nothing;
+    Ok(())
 }
 
 /// Reads a file to its end. The caller gives what is known inside it, and the file as an open one.
@@ -215,7 +239,7 @@ pub(crate) fn read_file(
     requires shallow { IsShallow frame }
     requires bounded { IsBounded progress.old }
     ensures read { (first : List (List ℕ)) (a : FileContext) (log : Log) → IsState first names.old a [] log progress.old frame
-        → IsReading (bytes_in reader.now.map.now) first names.new a (unread_lines file.now 1) log progress.new result }
+        → IsReading (files_in reader.now.map.now) first names.new a (unread_lines file.now 1) log progress.new result }
     ensures open { OnOk result (progress.new.open_files.items ≡ progress.old.open_files.items) }
     ensures bounded { OnOk result (IsBounded progress.new) }
     ensures memory { IfErr result IsMemory }
@@ -253,7 +277,7 @@ fn read_next<'a>(
     requires bounded { IsBounded progress.old }
     ensures read { (first : List (List ℕ)) (a : FileContext) (own : List (Located Named)) (log : Log)
         → IsState first names.old a own log progress.old frame.old
-        → IsNextRead (bytes_in reader.now.map.now) first names.new a lines.old lines.new own log progress.new frame.new result }
+        → IsNextRead (files_in reader.now.map.now) first names.new a lines.old lines.new own log progress.new frame.new result }
     ensures less { IfOk result (λ more. IsTrue more → length lines.new.lines < length lines.old.lines) }
     ensures clear { IfOk result (λ more. IsTrue more → lines.new.refusal ≡ None) }
     ensures open { OnOk result (progress.new.open_files.items ≡ progress.old.open_files.items) }
@@ -267,6 +291,7 @@ fn read_next<'a>(
         constants: &reader.constants,
         frame,
         progress,
+        is_flat: reader.map.is_flat(),
     };
     match next_step(&position, lines, text, tokens, names)? {
         Step::End => {
@@ -274,6 +299,17 @@ fn read_next<'a>(
             Ok(false)
         }
         Step::Blank => Ok(true),
+        Step::Renumbered(number) => {
+            lines.renumber(number);
+            Ok(true)
+        }
+        Step::Moved(number, name) => {
+            lines.renumber(number);
+            match move_to(reader.alloc, name, frame, progress) {
+                Ok(()) => Ok(true),
+                Err(_) => Err(Refusal::out_of_memory()),
+            }
+        }
         Step::Next(line, statement) => {
             read_statement(reader, statement, line, frame, progress, names)?;
             Ok(true)
@@ -295,8 +331,8 @@ fn read_statement(
     requires bounded { IsBounded progress.old }
     ensures read { (first known : List (List ℕ)) (a : FileContext) (own : List (Located Named)) (log : Log) (x : Named) (l m : UnreadLines)
         → IsState first known a own log progress.old frame.old → IsMade known names.old statement x
-        → NextStatement l m (spec.context_of a own log) (Ok x) → line ≡ l.number
-        → IsStatementRead (bytes_in reader.now.map.now) first names.new a l m own log progress.new frame.new result }
+        → NextStatement reader.now.map.now.flat l m (spec.context_of a own log) (Ok x) → line ≡ l.number
+        → IsStatementRead (files_in reader.now.map.now) first names.new a l m own log progress.new frame.new result }
     ensures open { OnOk result (progress.new.open_files.items ≡ progress.old.open_files.items) }
     ensures shallow { OnOk result (IsShallow frame.new) }
     ensures bounded { OnOk result (IsBounded progress.new) }
@@ -330,8 +366,8 @@ fn source(
     requires bounded { IsBounded progress.old }
     ensures read { (first : List (List ℕ)) (a : FileContext) (own : List (Located Named)) (log : Log) (l m : UnreadLines)
         → IsState first names.old a own log progress.old frame.old
-        → NextStatement l m (spec.context_of a own log) (Ok (SourceLine name.items)) → line ≡ l.number
-        → IsStatementRead (bytes_in reader.now.map.now) first names.new a l m own log progress.new frame.new result }
+        → NextStatement reader.now.map.now.flat l m (spec.context_of a own log) (Ok (SourceLine name.items)) → line ≡ l.number
+        → IsStatementRead (files_in reader.now.map.now) first names.new a l m own log progress.new frame.new result }
     ensures open { OnOk result (progress.new.open_files.items ≡ progress.old.open_files.items) }
     ensures shallow { OnOk result (IsShallow frame.new) }
     ensures bounded { OnOk result (IsBounded progress.new) }

@@ -4,7 +4,7 @@ ghost use Rattle.std.specs.Prelude.{◌≡◌, ◌+◌, ◌||◌, IfErr, OnOk, N
 ghost use Rattle.std.specs.List.{list_any};
 ghost use Rattle.kc_language.specs.Expansion as blocks;
 ghost use Rattle.kc_read.specs.PartsOfExpansion as expansion_parts;
-ghost use Rattle.kc_read.specs.Progress.{IsShallow, is_closer, open_blocks_after};
+ghost use Rattle.kc_read.specs.Progress.{IsShallow, is_closer, open_blocks_after, openers};
 ghost use Rattle.kc_read.specs.StatementViews.{head_view};
 ghost use Rattle.kc_read.specs.LineReads.{IsFault};
 
@@ -70,10 +70,10 @@ fn is_choice(block: Block) -> bool
 
 impl Frame {
     /// The innermost open block of the file, and the line that opened it.
-    pub(crate) fn innermost(&self) -> Option<OpenBlock>
-        ensures { result ≡ blocks.last_of self.now.blocks.items }
+    pub(crate) fn innermost(&self) -> Option<&OpenBlock>
+        ensures { option_map (λ o. o.now) result ≡ blocks.last_of self.now.blocks.items }
     {
-        self.blocks.last().copied()
+        self.blocks.last()
     }
 
     /// Whether a choice is open.
@@ -94,7 +94,7 @@ impl Frame {
     /// refused.
     pub(crate) fn take(&mut self, head: &Head, line: u32) -> Result<(), LineFault<'static>>
         requires { IsShallow self.old }
-        ensures blocks { OnOk result (self.new.blocks.items ≡ open_blocks_after (blocks.bracket (head_view head.now)) line self.old.blocks.items) }
+        ensures blocks { OnOk result (openers self.new ≡ open_blocks_after (blocks.bracket (head_view head.now)) self.old.file.value.items line (openers self.old)) }
         ensures entry { OnOk result (self.new.entry ≡ blocks.entry_of (Some (head_view head.now))) }
         ensures kept { (self.new.file ≡ self.old.file) × (self.new.depth ≡ self.old.depth) × (self.new.in_choice ≡ self.old.in_choice) }
         ensures shallow { IsShallow self.new }
@@ -105,7 +105,8 @@ impl Frame {
             if self.depth + self.blocks.len() >= MOST_BLOCKS {
                 return Err(Cause::TooDeep);
             }
-            self.blocks.push(OpenBlock { block, line })?;
+            let file = self.file.clone()?;
+            self.blocks.push(OpenBlock { block, file, line })?;
         }
         if is_closer(head) {
             self.blocks.pop();

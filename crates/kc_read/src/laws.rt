@@ -39,9 +39,9 @@ pub fn one_list_of()
     ensures { OneListOf }
 {}
 
-/// The law of sources: each file that an expansion opens after the root, and one that it asks for in vain, is among
-/// the names of a file that was opened before it; and the names of a file, which `sources_of` answers, are one list, which
-/// is there for any bytes. It does nothing.
+/// The law of sources, of a tree that is not flat: each file that an expansion opens after the root, and one that it asks
+/// for in vain, is among the names of a file that was opened before it; and the names of a file, which `sources_of`
+/// answers, are one list, which is there for any bytes. It does nothing.
 pub fn sourced_files_are_named()
     ensures named { SourcedFilesAreNamed }
     ensures one_list { HasOneListOfNames }

@@ -34,6 +34,7 @@ pub(crate) struct Position<'p> {
     pub constants: &'p Constants,
     pub frame: &'p Frame,
     pub progress: &'p Progress,
+    pub is_flat: bool,
 }
 
 fn config_line<'a>(tokens: &[Token<'a>], names: &mut Names) -> Result<Statement, LineFault<'a>>

@@ -48,7 +48,7 @@ fn source_of_line<'l>(
     // Whatever the lines were before.
     ensures { IfOk result (λ f. (before : UnreadLines) → TakesLine before lines.old line.now → IsFound before lines.new f) }
 {
-    match lex(line, tokens) {
+    match lex(line, false, tokens) {
         Ok(()) => {}
         Err(fault) => return ended(fault),
     }

@@ -59,10 +59,11 @@ pub enum Statement {
     Source(Vec<u8>),
 }
 
-/// An open block, and the line that opened it (our own).
-#[derive(Clone, Copy, Debug)]
+/// An open block, and the file and the number of the line that opened it (our own).
+#[derive(Debug, Drop)]
 pub struct OpenBlock {
     pub block: Block,
+    pub file: Rc<Vec<u8>>,
     pub line: u32,
 }
 

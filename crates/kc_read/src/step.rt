@@ -8,8 +8,8 @@ ghost use Rattle.kc_language.specs.Expansion.{text_cause};
 ghost use Rattle.kc_read.specs.PartsOfExpansion.{is_help};
 ghost use Rattle.kc_read.specs.LineReads.{cause_of};
 ghost use Rattle.kc_read.specs.Progress.{context_in};
-ghost use Rattle.kc_read.specs.RefusalView.{IsMemory};
-ghost use Rattle.kc_read.specs.NextStep.{IsStep, IsStepRefusal, long_line};
+ghost use Rattle.kc_read.specs.RefusalView.{IsMemory, out_of_memory, refusal_view};
+ghost use Rattle.kc_read.specs.NextStep.{IsMarked, IsStep, IsStepRefusal, long_line};
 
 use crate::line_parts::begins_with;
 use crate::reader::{Position, read_line};
@@ -18,7 +18,7 @@ use crate::refuse::refuse;
 use crate::statement::{LineFault, Statement};
 use kc_diagnostics::Cause;
 use kc_expr::names::Names;
-use kc_text::{LogicalLines, TextFault, Token, lex};
+use kc_text::{LogicalLines, TextFault, Token, lex, marker_of};
 use std::alloc::{AllocError, Global};
 
 /// What stands next in a file.
@@ -26,6 +26,10 @@ use std::alloc::{AllocError, Global};
 pub(crate) enum Step {
     End,
     Blank,
+    /// The next line is the one of this number.
+    Renumbered(u32),
+    /// The next line is the one of this number of this other file.
+    Moved(u32, Vec<u8>),
     Next(u32, Statement),
 }
 
@@ -70,6 +74,26 @@ pub(crate) fn begins_help(tokens: &[Token]) -> bool
     begins_with(tokens, 0, b"help") || begins_with(tokens, 0, b"---help---")
 }
 
+// What a line without tokens says.
+fn marked(position: &Position<'_>, line: &[u8]) -> Result<Step, Refusal>
+    ensures marked { IfOk result (IsMarked position.now.is_flat position.now.frame.now.file.value.items line.now) }
+    ensures memory { IfErr result (λ r. refusal_view r ≡ out_of_memory) }
+{
+    if !position.is_flat {
+        return Ok(Step::Blank);
+    }
+    let Some(marker) = marker_of(line) else {
+        return Ok(Step::Blank);
+    };
+    if marker.file == position.frame.file.as_slice() {
+        return Ok(Step::Renumbered(marker.number));
+    }
+    match Vec::from_slice(position.alloc, marker.file) {
+        Ok(name) => Ok(Step::Moved(marker.number, name)),
+        Err(_) => Err(Refusal::out_of_memory()),
+    }
+}
+
 // What a line that was taken says; `tokens` holds the line's while it is read, in place of what it held.
 #[inline(always)]
 fn step_of_line<'l>(
@@ -83,13 +107,13 @@ fn step_of_line<'l>(
     requires { lines.old.refusal ≡ None }
     // Whatever the lines were before.
     ensures step { IfOk result (λ s. (before : UnreadLines) → number ≡ before.number → TakesLine before lines.old line.now
-        → IsStep names.old names.new (context_in position.now.frame.now position.now.progress.now) before lines.new s) }
+        → IsStep position.now.is_flat position.now.frame.now.file.value.items names.old names.new (context_in position.now.frame.now position.now.progress.now) before lines.new s) }
     ensures refused { IfErr result (λ r. (before : UnreadLines) → number ≡ before.number → TakesLine before lines.old line.now
-        → IsStepRefusal position.now.frame.now.file.value.items (context_in position.now.frame.now position.now.progress.now) before r) }
+        → IsStepRefusal position.now.is_flat position.now.frame.now.file.value.items (context_in position.now.frame.now position.now.progress.now) before r) }
     ensures memory { IfErr result IsMemory }
     ensures names { Extends names.old names.new }
 {
-    match lex(line, tokens) {
+    match lex(line, position.is_flat, tokens) {
         Ok(()) => {}
         Err(fault) => return Err(refuse(
             position.alloc,
@@ -102,7 +126,7 @@ fn step_of_line<'l>(
         lines.skip_help();
     }
     if tokens.is_empty() {
-        return Ok(Step::Blank);
+        return marked(position, line);
     }
     match read_line(position, tokens, names) {
         Ok(statement) => Ok(Step::Next(number, statement)),
@@ -119,8 +143,8 @@ fn next_joined(
     names: &mut Names,
 ) -> Result<Step, Refusal>
     requires { lines.old.refusal ≡ None }
-    ensures step { IfOk result (IsStep names.old names.new (context_in position.now.frame.now position.now.progress.now) lines.old lines.new) }
-    ensures refused { IfErr result (IsStepRefusal position.now.frame.now.file.value.items (context_in position.now.frame.now position.now.progress.now) lines.old) }
+    ensures step { IfOk result (IsStep position.now.is_flat position.now.frame.now.file.value.items names.old names.new (context_in position.now.frame.now position.now.progress.now) lines.old lines.new) }
+    ensures refused { IfErr result (IsStepRefusal position.now.is_flat position.now.frame.now.file.value.items (context_in position.now.frame.now position.now.progress.now) lines.old) }
     ensures memory { IfErr result IsMemory }
     ensures names { Extends names.old names.new }
 {
@@ -153,8 +177,8 @@ pub(crate) fn next_step<'a>(
     names: &mut Names,
 ) -> Result<Step, Refusal>
     requires { lines.old.refusal ≡ None }
-    ensures step { IfOk result (IsStep names.old names.new (context_in position.now.frame.now position.now.progress.now) lines.old lines.new) }
-    ensures refused { IfErr result (IsStepRefusal position.now.frame.now.file.value.items (context_in position.now.frame.now position.now.progress.now) lines.old) }
+    ensures step { IfOk result (IsStep position.now.is_flat position.now.frame.now.file.value.items names.old names.new (context_in position.now.frame.now position.now.progress.now) lines.old lines.new) }
+    ensures refused { IfErr result (IsStepRefusal position.now.is_flat position.now.frame.now.file.value.items (context_in position.now.frame.now position.now.progress.now) lines.old) }
     ensures memory { IfErr result IsMemory }
     ensures names { Extends names.old names.new }
 {

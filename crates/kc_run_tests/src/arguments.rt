@@ -24,6 +24,7 @@ struct Want {
     minimal: Option<&'static str>,
     list_new: Option<&'static str>,
     list_gone: Option<&'static str>,
+    include: Option<&'static str>,
     depfile: Option<&'static str>,
     explanation: Option<&'static str>,
     explain: &'static [&'static str],
@@ -43,6 +44,7 @@ const PLAIN: Want = Want {
     minimal: None,
     list_new: None,
     list_gone: None,
+    include: None,
     depfile: None,
     explanation: None,
     explain: &[],
@@ -83,11 +85,16 @@ fn flags_into(options: &Options, text: &mut String) -> Result<(), AllocError> {
         (options.must_exist, "must-exist "),
         (options.strict, "strict "),
         (options.strict_tree, "strict-tree "),
+        (options.is_flat, "flat "),
+        (options.prefix.is_raw(), "raw-strings "),
+        (options.quiet_tree, "quiet-tree "),
+        (options.hints, "hints "),
         (options.warn_lost, "warn-lost "),
         (options.explain_lost, "explain-lost "),
         (options.with_help, "with-help "),
         (options.delivery == Delivery::Replace, "replace "),
         (options.delivery == Delivery::Check, "check "),
+        (options.shows_difference, "diff "),
         (options.names_config, "names-config "),
     ];
     for (is_given, word) in flags {
@@ -112,6 +119,7 @@ fn are_options(alloc: Global, options: &Options, want: &Want) -> bool {
         && is_name(&options.minimal, want.minimal)
         && is_name(&options.list_new, want.list_new)
         && is_name(&options.list_gone, want.list_gone)
+        && is_name(&options.include, want.include)
         && is_name(&options.depfile, want.depfile)
         && is_name(&options.explanation, want.explanation)
         && are_names(&options.explain, want.explain)
@@ -179,6 +187,14 @@ const OPTIONS: &[(&str, Want)] = &[
         },
     ),
     (
+        "--raw-strings|--prefix=|Kconfig",
+        Want {
+            prefix: b"",
+            flags: "raw-strings ",
+            ..PLAIN
+        },
+    ),
+    (
         "--replace|--warn-lost|Kconfig|--strict-tree|--strict",
         Want {
             flags: "strict strict-tree warn-lost replace ",
@@ -191,6 +207,22 @@ const OPTIONS: &[(&str, Want)] = &[
             fragments: &["b", "d", "a", "c"],
             flags: "check ",
             ..PLAIN
+        },
+    ),
+    (
+        "--flat|--include|d|--quiet-tree|--hints|Kconfig|--check|--diff",
+        Want {
+            include: Some("d"),
+            flags: "flat quiet-tree hints check diff ",
+            ..PLAIN
+        },
+    ),
+    (
+        "--hints|--quiet-tree|--check|--diff|--include=d|--explain|A|--explain=CONFIG_B|--explain=|Kconfig",
+        Want {
+            include: Some("d"),
+            flags: "quiet-tree hints ",
+            ..EXPLAINED
         },
     ),
     (
@@ -318,6 +350,18 @@ const CONFIGURATIONS: &[(&str, WantEach)] = &[
         },
     ),
     (
+        "--each|Kconfig|a|--flat|--include=d/{}|--quiet-tree|--hints|--check|--diff",
+        WantEach {
+            configurations: &["a"],
+            list: None,
+            options: Want {
+                include: Some("d/{}"),
+                flags: "must-exist flat quiet-tree hints check diff names-config ",
+                ..EACH
+            },
+        },
+    ),
+    (
         "--each-from=l|Kconfig|a|--out|{}.full|--depfile={}.d|--list-new={}.new|--list-gone={}.gone|--replace",
         WantEach {
             configurations: &["a"],
@@ -410,6 +454,11 @@ const OTHERS: &[(&str, &str)] = &[
     ("--check=1|K", "bad"),
     ("--check|--check|K", "bad"),
     ("--check|--replace|K", "bad"),
+    ("--diff|K", "bad"),
+    ("--diff|--replace|K", "bad"),
+    ("--diff|--explain|A|K", "bad"),
+    ("--include|K", "bad"),
+    ("--flat|--flat|K", "bad"),
     ("--replace|K|--check|--prefix|9X", "bad"),
     ("--fragment|K", "bad"),
     ("K|--fragment", "bad"),
@@ -450,6 +499,10 @@ const USAGES: &[(&str, &str)] = &[
     (
         "--check|--replace|K",
         "error: the argument '--check' cannot be used with '--replace'\n",
+    ),
+    (
+        "--diff|K|--prefix|9X",
+        "error: the argument '--diff' needs '--check'\n",
     ),
     (
         "--each|--config|a|K|--depfile|d",

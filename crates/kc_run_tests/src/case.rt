@@ -89,7 +89,7 @@ fn file_into(
 }
 
 fn files_of(alloc: Global, case: &Case) -> Result<FileMap, AllocError> {
-    let mut files = FileMap::new(alloc);
+    let mut files = FileMap::new(alloc, false);
     file_into(alloc, "Kconfig", &case.kconfig, &mut files)?;
     for (name, text) in case.others {
         file_into(alloc, name, text, &mut files)?;

@@ -23,7 +23,7 @@ pub(crate) fn options_of(alloc: Global, arguments: &str) -> Result<Options, Fail
 
 /// A tree of one file.
 pub(crate) fn one_file(alloc: Global, kconfig: &[u8]) -> Result<FileMap, AllocError> {
-    let mut files = FileMap::new(alloc);
+    let mut files = FileMap::new(alloc, false);
     files.insert(
         Vec::from_slice(alloc, b"Kconfig")?,
         Vec::from_slice(alloc, kconfig)?,

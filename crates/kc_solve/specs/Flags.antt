@@ -6,8 +6,8 @@ use Rattle.kc_language.specs.declared.expressions.SymId.{SymId}
 use Rattle.kc_language.specs.declared.expressions.Tri.{Tri}
 use Rattle.kc_tree.specs.declared.rows.Symbol.{Symbol}
 use Rattle.kc_language.specs.Symbols.{SymbolFacts, TreeFacts, is_symbol_of}
-use Rattle.kc_language.specs.Values.{ChoicePlace, GivenValue, SymbolPlace, by_type, facts, default_selection, differs, is_new_by, selection, known_from, name_count, written}
-use Rattle.kc_values.specs.AtTable.{has_other, is_visible}
+use Rattle.kc_language.specs.Values.{ChoicePlace, GivenValue, SymbolPlace, by_type, facts, default_selection, differs, is_chosen, is_new_by, selection, known_from, name_count, written}
+use Rattle.kc_values.specs.AtTable.{has_other, is_visible, selected}
 use Rattle.kc_values.specs.PartsOfValues.{same_value}
 use Rattle.kc_language.specs.ConfigFile.{Places, place_at}
 use Rattle.kc_values.specs.TableFacts.{facts_in, known_at}
@@ -36,7 +36,7 @@ IsSolvedRow t id row given = IsSolvedOwn t.tree.now (known_at t) id (facts_in t 
 -- whether a member is new for which nothing was given, and whether a symbol is, by its row
 abbrev pub member_is_new : Table → Places → Symbol → ℕ → Bool
 member_is_new t user row c =
-    is_visible t row && (not (is_some (place_at user (ChoicePlace c))) && has_other t c)
+    is_visible t row && (not (is_chosen (selected t c (place_at user (ChoicePlace c))) (place_at user (ChoicePlace c))) && has_other t c)
 
 abbrev pub row_is_new : Table → Places → SymId → Symbol → Bool
 row_is_new t user id row =

@@ -2,7 +2,7 @@
 
 ghost use Rattle.std.specs.Prelude.{◌≡◌, ◌<◌, false, length, map, slice_index_or, None, Some, true, IfOk, IfSome};
 ghost use Rattle.kc_language.specs.declared.expressions.Tri.TheVariants.{N};
-ghost use Rattle.kc_language.specs.Values.{Solves, name_count, equations};
+ghost use Rattle.kc_language.specs.Values.{ChoicePlace, Solves, is_chosen, name_count, equations};
 ghost use Rattle.kc_solve.specs.Flags as flag;
 ghost use Rattle.kc_solve.specs.Flags.{row_differs, visibilities_in, IsSolvedRow};
 ghost use Rattle.kc_language.specs.ConfigFile.{ArePlacesOf, place_at};
@@ -168,39 +168,53 @@ fn has_other_by(
     }
 }
 
-// Whether a member is new for which nothing was given. The caller owes the default selection of its choice.
+// Whether the selection of a choice is the member that the user gave.
+fn is_chosen(given: Option<SymId>, selected: Option<SymId>) -> bool
+    ensures { result ≡ is_chosen selected (member_place given) }
+{
+    match (given, selected) {
+        (Some(member), Some(selected)) => member.0 == selected.0,
+        _ => false,
+    }
+}
+
+// Whether a member is new for which nothing was given. The caller owes the selection of its choice and the default selection.
 fn member_is_new(
     table: &Table,
     user: &User,
     id: SymId,
     symbol: &Symbol,
     choice: ChoiceId,
+    selected: Option<SymId>,
     default: Option<SymId>,
 ) -> bool
     requires row { IsRowOf table.now id symbol.now }
     requires member { symbol.now.choice ≡ Some choice }
     requires user { choice.0 < length user.now.choices }
+    requires selected { selected ≡ at.selected table.now choice.0 (place_at user.now (ChoicePlace choice.0)) }
     requires default { default ≡ at.selected table.now choice.0 None }
     ensures { result ≡ flag.member_is_new table.now user.now symbol.now choice.0 }
 {
     is_visible(table, symbol)
-        && user.selected(choice).is_none()
+        && !is_chosen(user.selected(choice), selected)
         && has_other_by(table, id, symbol, choice, default)
 }
 
 /// Whether a symbol is new under the values of a full table and a user's places of that tree: no line answered its question. The
-/// caller owes the default selections.
+/// caller owes the selections and the default selections.
 pub(crate) fn symbol_is_new(
     table: &Table,
     user: &User,
     id: SymId,
     symbol: &Symbol,
+    selections: &[Option<SymId>],
     defaults: &[Option<SymId>],
 ) -> bool
     requires row { IsRowOf table.now id symbol.now }
     requires full { length table.now.values ≡ name_count table.now.tree.now }
     requires below { id.0 < name_count table.now.tree.now }
     requires user { ArePlacesOf table.now.tree.now user.now }
+    requires selections { selections.now ≡ flag.selected_by table.now user.now }
     requires defaults { defaults.now ≡ flag.selected_by_default table.now }
     ensures { result ≡ flag.row_is_new table.now user.now id symbol.now }
 {
@@ -209,7 +223,15 @@ pub(crate) fn symbol_is_new(
         return false;
     }
     match symbol.choice.get() {
-        Some(choice) => member_is_new(table, user, id, symbol, choice, at_choice(defaults, choice)),
+        Some(choice) => member_is_new(
+            table,
+            user,
+            id,
+            symbol,
+            choice,
+            at_choice(selections, choice),
+            at_choice(defaults, choice),
+        ),
         None => can_change(table, id, symbol),
     }
 }

@@ -184,15 +184,22 @@ impl<'a> Solved<'a> {
     }
 
     /// Whether the symbol is new: no line answered its question. None gave it a value, and an answer would change its value; a
-    /// member: none gave it a value or chose a member of its choice, it is visible, and a member could be selected in place of the
-    /// selection (our own). It is found when it is asked for. The members of a choice are looked through for its default selection
+    /// member: none gave it a value, none chose the selection of its choice, it is visible, and a member could be selected in place
+    /// of the selection (our own). It is found when it is asked for. The members of a choice are looked through for its default selection
     /// alone, so asking for each symbol once takes time linear in the tree.
     pub fn is_new(&self, id: SymId) -> bool
         requires { id.0 < name_count self.now.tree }
         ensures { result ≡ spec.is_new self.now id }
     {
         let symbol = symbol_row(self.table.layout, id);
-        symbol_is_new(&self.table, self.user, id, symbol, &self.default_selections)
+        symbol_is_new(
+            &self.table,
+            self.user,
+            id,
+            symbol,
+            &self.selections,
+            &self.default_selections,
+        )
     }
 
     /// Where the value of the symbol comes from (our own): a `select` that raises it, the user, an `imply`, a default, or none; of

@@ -1,7 +1,7 @@
 -- Each line is cut, or refused.
-use Rattle.std.proofs.Common.{◌≡◌, ◌≢◌, ℕ, zero, suc, ◌+◌, ◌-◌, ◌<◌, ◌≤◌, ◌⊎◌, List, [], ◌∷◌, Bool, true, false, length, take, drop, get_or, Option, Some, None, sym, refl, ap, ◌∙◌, inl, inr, arith, length-drop}
+use Rattle.std.proofs.Common.{◌≡◌, ◌≢◌, ℕ, zero, suc, ◌+◌, ◌-◌, ◌<◌, ◌≤◌, ◌⊎◌, List, [], ◌∷◌, Bool, true, false, cond, length, take, drop, get_or, Option, Some, None, sym, refl, ap, ◌∙◌, inl, inr, arith, length-drop}
 use Rattle.std.specs.Prelude.{All, IsTrue}
-use Rattle.std.proofs.lemmas.Bool.{both_ways, cases_eq, cases_lt}
+use Rattle.std.proofs.lemmas.Bool.{both_ways, cases_Bool, cases_eq, cases_lt}
 use Rattle.std.specs.Str.{bytes_eq}
 use Rattle.std.proofs.lemmas.List.{length-take-le, take_all}
 use Rattle.std.proofs.lemmas.List.Elements.{All-cons}
@@ -10,14 +10,14 @@ use Rattle.kc_language.specs.declared.tokens.TextFault.{TextFault}
 use Rattle.kc_language.specs.declared.tokens.TextFault.TheVariants as faults
 use Rattle.kc_language.specs.declared.tokens.Op.{Op}
 use Rattle.kc_language.specs.declared.tokens.Op.TheVariants as ops
-use Rattle.kc_language.specs.Tokens.{is_blank, is_word_byte, IsQuotedBody, op_text, Lexeme, AWord, AQuoted, AnOp, IsLongest, CannotBeCut, IsCut, ended, stuck, skipped, taken}
-use Rattle.kc_text.specs.PartsOfTokens.{IsQuote, IsEnd, IsReason}
+use Rattle.kc_language.specs.Tokens.{is_blank, is_word_byte, IsQuotedBody, op_text, Lexeme, AWord, AQuoted, AnOp, IsLongest, CannotBeCut, IsCut, IsCutIn, holds_dollar, ended, stuck, skipped, taken}
+use Rattle.kc_text.specs.PartsOfTokens.{IsQuote, IsEnd, IsReason, are_refused}
 use Rattle.kc_text.specs.PartsOfTokens.{HasNoToken}
 use Rattle.kc_text.specs.Tokens.{OneCutting}
-use Rattle.kc_text.specs.LexerParts.{IsLongestOp, HasNoOp, IsQuoteFault}
-use Rattle.kc_text.proofs.Quoted.{IsScanned, scanned_none, scanned_plain, scanned_taken, holds_dollar, holds_dollar_taken, no_end, no_end_taken, no_dollar_last}
+use Rattle.kc_text.specs.LexerParts.{IsLongestOp, HasNoEnd, HasNoOp, IsQuoteFault}
+use Rattle.kc_text.proofs.Quoted.{IsScanned, scanned_none, scanned_plain, scanned_taken, no_end, no_end_taken}
 use Rattle.kc_text.proofs.Spelled.{apart, word_token_more, quoted_token, quoted_fault, op_token, no_token, no_macro_here, op_length, spelled_nonempty}
-use Rattle.kc_text.proofs.Once.{op_of, op_back, same_cutting}
+use Rattle.kc_text.proofs.Once.{op_of, op_back, same_cutting_in}
 
 -- ---- a word
 
@@ -49,38 +49,34 @@ record Quoted (q : ℕ) (body : List ℕ) : Type 0 where
   pub within : count < length body
   pub ends : get_or body count 0 ≡ q
   pub inside : IsQuotedBody q (take count body)
-  pub no_dollar : All (λ b. b ≢ 36) (take count body)
 
 abbrev QuotedOrNot : ℕ → List ℕ → Type 0
 QuotedOrNot q body = Quoted q body ⊎ ((f : TextFault) × IsQuoteFault q body f)
 
 module _ (q : ℕ) (body : List ℕ) (iq : IsQuote q) where
+  open_quote : HasNoEnd q body → QuotedOrNot q body
+  open_quote none = elim (cases_Bool (holds_dollar body)) [ inl e ↦ inr (faults.Macro, (none, e)) | inr e ↦ inr (faults.BadToken, (none, e)) ]
+
   at_end : (n : ℕ) → length body ≤ n → IsScanned q body n → QuotedOrNot q body
   at_end n le s =
       let r = s.in_range in
       let same : n ≡ length body = omega arith in
       let whole : IsScanned q body (length body) = rw same at s in
-      inr (faults.BadToken, (no_end q body iq whole, rw (take_all (length body) body (omega arith)) at whole.no_dollar))
+      open_quote (no_end q body iq whole)
 
   scan_from : (fuel n : ℕ) → length body - n ≤ fuel → IsScanned q body n → QuotedOrNot q body
   scan_from zero n few s = at_end n (omega arith) s
   scan_from (suc fuel) n few s = elim (cases_lt n (length body)) [
     | inr le ↦ at_end n le s
     | inl lt ↦ elim (cases_eq (get_or body n 0) q) [
-      | inl e ↦ inl (record { count = n; within = lt; ends = e; inside = s.inside; no_dollar = s.no_dollar })
-      | inr nq ↦ elim (cases_eq (get_or body n 0) 36) [
-        | inl d ↦ inr (faults.Macro, holds_dollar q body n iq s lt d)
-        | inr nd ↦ elim (cases_eq (get_or body n 0) 92) [
-          | inr nb ↦ scan_from fuel (n + 1) (omega arith) (scanned_plain q body n s lt nq nb nd)
-          | inl b ↦ elim (cases_lt (n + 1) (length body)) [
-            | inr le ↦
-                let last : n + 1 ≡ length body = omega arith in
-                inr (faults.BadToken, (no_end_taken q body n iq s last b, no_dollar_last q body n s last b))
-            | inl lt2 ↦ elim (cases_eq (get_or body (n + 1) 0) 36) [
-              | inl d ↦ inr (faults.Macro, holds_dollar_taken q body n iq s lt2 b d)
-              | inr ne ↦ scan_from fuel (n + 2) (omega arith) (scanned_taken q body n s lt2 b ne)
-            ]
-          ]
+      | inl e ↦ inl (record { count = n; within = lt; ends = e; inside = s.inside })
+      | inr nq ↦ elim (cases_eq (get_or body n 0) 92) [
+        | inr nb ↦ scan_from fuel (n + 1) (omega arith) (scanned_plain q body n s lt nq nb)
+        | inl b ↦ elim (cases_lt (n + 1) (length body)) [
+          | inr le ↦
+              let last : n + 1 ≡ length body = omega arith in
+              open_quote (no_end_taken q body n iq s last b)
+          | inl lt2 ↦ scan_from fuel (n + 2) (omega arith) (scanned_taken q body n s lt2 b)
         ]
       ]
     ]
@@ -143,7 +139,7 @@ TokenOrNot rest = ((n : ℕ) × ((x : Lexeme) × IsLongest rest n x)) ⊎ (HasNo
 
 quoted_token_or_not : (q : ℕ) (body : List ℕ) → IsQuote q → TokenOrNot (q ∷ body)
 quoted_token_or_not q body iq = elim (quoted_or_not q body iq) [
-  | inl t ↦ inl (t.count + 2, (AQuoted (take t.count body), quoted_token (q ∷ body) body q t.count refl iq t.within t.ends t.inside t.no_dollar))
+  | inl t ↦ inl (t.count + 2, (AQuoted (take t.count body), quoted_token (q ∷ body) body q t.count refl iq t.within t.ends t.inside))
   | inr (f, h) ↦ let r = quoted_fault (q ∷ body) body q f refl iq h in inr (r.0, (f, r.1))
 ]
 
@@ -213,5 +209,9 @@ cut_from (suc fuel) (b ∷ body) few = cut_more b body (λ n some. cut_from fuel
 pub cut_there : (line : List ℕ) → Cut line
 cut_there line = cut_from (length line) line (omega arith)
 
+-- the same of a line of a file
+pub cut_there_in : (flat : Bool) (line : List ℕ) → (ts : List Lexeme) × (out : Option TextFault) × IsCutIn flat line ts out
+cut_there_in flat line = let (ts, stop, c) = cut_there line in (ts, cond (are_refused flat ts) (Some faults.Macro) stop, record { stop = stop; cut = c; out_is = refl })
+
 pub one_cutting_law : OneCutting
-one_cutting_law line = let (ts, out, c) = cut_there line in (ts, (out, c, λ us other d. same_cutting c d))
+one_cutting_law flat line = let (ts, out, c) = cut_there_in flat line in (ts, (out, c, λ us other d. same_cutting_in c d))

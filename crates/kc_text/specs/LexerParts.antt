@@ -1,11 +1,11 @@
 -- For proofs: What the parts of the lexer find: plain bytes, signs, and why a quoted text is none.
-use Rattle.std.specs.Prelude.{◌≡◌, ◌≢◌, ℕ, ◌<◌, ◌≤◌, List, length, take, slice_index, All, Bool, not, ◌||◌, ◌==◌, IsTrue}
+use Rattle.std.specs.Prelude.{◌≡◌, ◌≢◌, ℕ, ◌<◌, ◌≤◌, List, length, take, slice_index, Bool, true, false, if◌then◌else◌, not, ◌||◌, ◌==◌, IsTrue}
 use Rattle.kc_language.specs.Text.{byte}
 use Rattle.kc_language.specs.declared.tokens.TextFault.{TextFault}
 use Rattle.kc_language.specs.declared.tokens.TextFault.TheVariants as faults
 use Rattle.kc_language.specs.declared.tokens.Op.{Op}
 use Rattle.kc_text.specs.PartsOfTokens.{EndsQuoted}
-use Rattle.kc_language.specs.Tokens.{op_text, HoldsDollar}
+use Rattle.kc_language.specs.Tokens.{op_text, holds_dollar, IsQuotedBody}
 
 -- any byte but `"`, `'`, `$` and `\`
 abbrev pub is_plain : ℕ → Bool
@@ -25,9 +25,22 @@ pub record IsLongestOp (rest : List ℕ) (n : ℕ) (o : Op) : Type 0 where
 abbrev pub HasNoOp : List ℕ → Type 0
 HasNoOp rest = (m : ℕ) (p : Op) → m ≤ length rest → take m rest ≡ op_text p → ⊥
 
--- The quoted text after the quote q is none: it holds a `$`, or it has no end and no `$`.
+-- The quoted text after the quote q ends after n bytes.
+pub record IsQuotedLen (q : ℕ) (body : List ℕ) (n : ℕ) : Type 0 where
+  pub within : n < length body
+  pub ends : slice_index body n ≡ q
+  pub inside : IsQuotedBody q (take n body)
+
+-- The quoted text after the quote q has no end. It holds a `$`, or none.
+abbrev pub HasNoEnd : ℕ → List ℕ → Type 0
+HasNoEnd q body = (inside : List ℕ) → EndsQuoted q body inside → ⊥
+
 abbrev pub IsQuoteFault : ℕ → List ℕ → TextFault → Type 0
-IsQuoteFault q body faults.Macro = HoldsDollar q body
-IsQuoteFault q body faults.BadToken = ((inside : List ℕ) → EndsQuoted q body inside → ⊥) × All (λ b. b ≢ byte "$") body
+IsQuoteFault q body faults.Macro = HasNoEnd q body × (holds_dollar body ≡ true)
+IsQuoteFault q body faults.BadToken = HasNoEnd q body × (holds_dollar body ≡ false)
 IsQuoteFault q body (faults.LineTooLong n) = ⊥
 IsQuoteFault q body faults.Memory = ⊥
+
+-- what an open quoted text is refused for, where it holds a `$` or none
+abbrev pub quote_fault : Bool → TextFault
+quote_fault dollar = if dollar then faults.Macro else faults.BadToken

@@ -84,8 +84,8 @@ fn has_line_feed(text: &[u8]) -> bool
     text.iter().any(|b| *b == b'\n')
 }
 
-// Whether the text has at most 65,000 bytes once it is quoted and escaped.
-fn is_short_quoted(text: &[u8]) -> bool
+/// Returns whether the text has at most 65,000 bytes once it is quoted and escaped (our own limit).
+pub fn is_short_quoted(text: &[u8]) -> bool
     ensures { result ≡ nat_le (length (escape text.now) + 2) longest_value }
 {
     text.len() <= LONGEST_VALUE && text.len() + escaped_count(text) + 2 <= LONGEST_VALUE

@@ -31,7 +31,7 @@ abbrev pub Keeps : SymbolValue → SymbolValue → Bool → Type 0
 Keeps x y b = ((x ≡ y) × (b ≡ false)) ⊎ (((x ≡ y) → ⊥) × (b ≡ true))
 
 module _ (tree : TreeFacts) (k : SymId → SymbolValue) where
-  user_or_hidden : (u : Option GivenValue) (vis o : Tri) → is_n vis ≡ true → v.user_or u vis o ≡ o
+  pub user_or_hidden : (u : Option GivenValue) (vis o : Tri) → is_n vis ≡ true → v.user_or u vis o ≡ o
   user_or_hidden None vis o e = refl
   user_or_hidden (Some (GivenText t)) vis o e = refl
   user_or_hidden (Some (Member m)) vis o e = refl
@@ -165,7 +165,7 @@ module _ (tree : TreeFacts) (k : SymId → SymbolValue) where
     number_settles q (Some (GivenText t)) Y d w shown given = shown_number q t d w (shown refl) (given t refl)
 
   -- One symbol outside a choice.
-  abbrev Settling : (Option GivenValue → SymbolValue) → Bool → (GivenValue → Bool) → (Tri → Bool) → SymbolValue → Type 0
+  abbrev pub Settling : (Option GivenValue → SymbolValue) → Bool → (GivenValue → Bool) → (Tri → Bool) → SymbolValue → Type 0
   Settling f w allow uns x =
       Keeps x (f (cond (w && allow (given_of x)) (Some (given_of x)) None)) (uns (truth_of_value x))
 
@@ -173,7 +173,7 @@ module _ (tree : TreeFacts) (k : SymId → SymbolValue) where
   shown_first b c e = ap (λ x. not x || c) e
 
   module _ (s : SymId) (f : SymbolFacts) where
-    not_tristate : (symbol_type : SymbolType) (t : Tri) → v.is_tristate tree k symbol_type ≡ false → symbol_type ≡ f.symbol_type → changes_on_reread_truth tree k f t ≡ false
+    pub not_tristate : (symbol_type : SymbolType) (t : Tri) → v.is_tristate tree k symbol_type ≡ false → symbol_type ≡ f.symbol_type → changes_on_reread_truth tree k f t ≡ false
     not_tristate symbol_type t n h =
         ap (λ x. v.is_tristate tree k x && (v.is_visible tree k f && (above t (v.visibility tree k f) && above t (v.selected_to tree k f)))) (sym h)
         ∙ ap (λ b. b && (v.is_visible tree k f && (above t (v.visibility tree k f) && above t (v.selected_to tree k f)))) n
@@ -216,7 +216,7 @@ module _ (tree : TreeFacts) (k : SymId → SymbolValue) where
     settles_by_choice i None u at given = settles_by_type f.symbol_type u refl given
     settles_by_choice i (Some c) u at given = cc
 
-  settles_facts : (s : SymId) (i : ℕ) (f : Option SymbolFacts) (u : Option GivenValue) → v_parts.user_place_of i f ≡ SymbolPlace i → ((g : GivenValue) → u ≡ Some g → allowed_for f g ≡ true) →
+  pub settles_facts : (s : SymId) (i : ℕ) (f : Option SymbolFacts) (u : Option GivenValue) → v_parts.user_place_of i f ≡ SymbolPlace i → ((g : GivenValue) → u ≡ Some g → allowed_for f g ≡ true) →
       Settling (v.equation tree k s f) (v_parts.written_facts tree k f) (allowed_for f) (v.changes_on_reread_facts tree k f) (v.equation tree k s f u)
   settles_facts s i None u at given = inl (refl, refl)
   settles_facts s i (Some f) u at given = settles_by_choice s f i f.choice u at given
@@ -226,7 +226,7 @@ module _ (tree : TreeFacts) (k : SymId → SymbolValue) where
   kept_choice f i c t None e = cc
   kept_choice f i c t (Some d) e = refl
 
-  member_fixed : (i c : ℕ) (f : Option SymbolFacts) (t : Tri) → v_parts.user_place_of i f ≡ ChoicePlace c → v.changes_on_reread_facts tree k f t ≡ false
+  pub member_fixed : (i c : ℕ) (f : Option SymbolFacts) (t : Tri) → v_parts.user_place_of i f ≡ ChoicePlace c → v.changes_on_reread_facts tree k f t ≡ false
   member_fixed i c None t e = cc
   member_fixed i c (Some f) t e = kept_choice f i c t f.choice e
 

@@ -32,3 +32,4 @@ pub mod NeedsAlike
 pub mod UpgradeLemmas
 pub mod NumberTexts
 pub mod NewSymbols
+pub mod NewLines

@@ -7,7 +7,7 @@ use Rattle.std.specs.Option.{option_map_or, option_or, option_and_then}
 use Rattle.std.proofs.lemmas.Bool.{and_from, and_parts, cases_Bool, false_from_ne_true, lt-ltb, true_from_ne_false, not_from_false, or_cases, or_left, or_right, true≢false}
 use Rattle.std.proofs.lemmas.List.Folds.{list_any_at}
 use Rattle.kc_language.specs.Expressions.{SymbolValue, TextValue, Truth, same_symbol, symbol, text, truth_of_value}
-use Rattle.kc_language.specs.Symbols.{Bounds, ChoiceFacts, Guarded, SymbolFacts, TreeFacts}
+use Rattle.kc_language.specs.Symbols.{Bounds, ChoiceFacts, Guarded, SymbolFacts, TreeFacts, is_symbol_of}
 use Rattle.kc_language.specs.Text.{longest_value}
 use Rattle.kc_language.specs.declared.expressions.SymId.{SymId}
 use Rattle.kc_language.specs.declared.expressions.SymbolType.{SymbolType}
@@ -407,6 +407,24 @@ module _ (tree : TreeFacts) (known : SymId → SymbolValue) where
             list_any_at (is_other s) c.members at.0 m at.1
             (ap (is_other s) at.2 ∙ and_from (not (same_symbol s m)) (v.visible tree known m) (not_from_false (same_symbol s m) others) is_visible)
 
+  -- where no line chose what is selected, the user's member does not count
+  unchosen_member : (c : ChoiceFacts) (m : SymId) → is_symbol_of m (v.selected tree known (Some c) (Some (Member m))) ≡ false →
+      v.selected tree known (Some c) (Some (Member m)) ≡ v.selected tree known (Some c) None
+  unchosen_member c m e = elim (cases_Bool (mode_is_n c)) [
+    | inl mode ↦ off c (Some (Member m)) mode ∙ sym (off c None mode)
+    | inr mode ↦ elim (cases_Bool (v.visible_member tree known c m)) [
+      | inl seen ↦ absurd (true≢false (sym (ap (is_symbol_of m) (chosen c m mode seen) ∙ same_symbol_itself m) ∙ e))
+      | inr unseen ↦ passed_over c m unseen
+    ]
+  ]
+
+  unchosen : (c : Option ChoiceFacts) (user : Option GivenValue) → v.is_chosen (v.selected tree known c user) user ≡ false → v.selected tree known c user ≡ v.selected tree known c None
+  unchosen None user e = refl
+  unchosen (Some c) None e = refl
+  unchosen (Some c) (Some (GivenTruth t)) e = refl
+  unchosen (Some c) (Some (GivenText t)) e = refl
+  unchosen (Some c) (Some (Member m)) e = unchosen_member c m e
+
   choice_answer : (c : Option ChoiceFacts) → option_map_or (v.has_other tree known) c false ≡ true ↔ Selectable c
   choice_answer None = (λ e. absurd (true≢false (sym e)), λ (m, at, differs). absurd (differs refl))
   choice_answer (Some c) = (other_by c (v.selected tree known (Some c) None) refl, has_other_member c)
@@ -426,7 +444,7 @@ module _ (tree : TreeFacts) (user : UserPlace → Option GivenValue) (V : ℕ �
   At f c (SymbolPlace j) =
       (given : GivenValue) × (allowed_by f.symbol_type given ≡ true) × (same_given (given_of (by_choice tree known (symbol i) f c (Some given))) (given_of (V i)) ≡ false)
   At f c (ChoicePlace k) =
-      (visible_facts tree known (Some f) ≡ true) × (user (ChoicePlace k) ≡ None) × (m : SymId) × Contains (members_of (v.choice_at tree k)) m
+      (visible_facts tree known (Some f) ≡ true) × (v.is_chosen (v.selected tree known (v.choice_at tree k) (user (ChoicePlace k))) (user (ChoicePlace k)) ≡ false) × (m : SymId) × Contains (members_of (v.choice_at tree k)) m
       × (v.selected tree known (v.choice_at tree k) (Some (Member m)) ≢ v.selected tree known (v.choice_at tree k) (user (ChoicePlace k)))
 
   by_its_choice : (f : SymbolFacts) (c : Option ℕ) → V i ≡ by_choice tree known (symbol i) f c (user (user_place_by i c)) → known (symbol i) ≡ V i →
@@ -444,23 +462,26 @@ module _ (tree : TreeFacts) (user : UserPlace → Option GivenValue) (V : ℕ �
   by_its_choice f (Some k) solved is =
       let c = v.choice_at tree k in
       let free = not (is_some (user (SymbolPlace i))) in
-      let empty = not (is_some (user (ChoicePlace k))) in
+      let chose = v.is_chosen (v.selected tree known c (user (ChoicePlace k))) (user (ChoicePlace k)) in
+      let empty = not chose in
       let others = option_map_or (v.has_other tree known) c false in
       let hidden = upgraded_n tree known f.symbol_type (v.conditions tree known f.prompts) in (
         λ e.
             let (is_free, rest) = and_parts free (v.is_visible tree known f && (empty && others)) e in
             let (seen, more) = and_parts (v.is_visible tree known f) (empty && others) rest in
             let (is_empty, other) = and_parts empty others more in
-            let none = none_given (user (ChoicePlace k)) is_empty in
+            let none = is_false chose is_empty in
+            let same = unchosen tree known c (user (ChoicePlace k)) none in
             let (m, at, differs) = (choice_answer tree known c).0 other in (
               none_given (user (SymbolPlace i)) is_free,
-              (sym (ap not hidden) ∙ seen, none, m, at, subst (λ u. v.selected tree known c (Some (Member m)) ≢ v.selected tree known c u) (sym none) differs),
+              (sym (ap not hidden) ∙ seen, none, m, at, subst (λ s. v.selected tree known c (Some (Member m)) ≢ s) (sym same) differs),
             ),
         λ (none, (seen, place, m, at, differs)).
+            let same = unchosen tree known c (user (ChoicePlace k)) place in
             and_from free (v.is_visible tree known f && (empty && others)) (ap (λ o. not (is_some o)) none)
             (and_from (v.is_visible tree known f) (empty && others) (ap not hidden ∙ seen)
-            (and_from empty others (ap (λ o. not (is_some o)) place)
-            ((choice_answer tree known c).1 (m, at, subst (λ u. v.selected tree known c (Some (Member m)) ≢ v.selected tree known c u) place differs)))),
+            (and_from empty others (ap not place)
+            ((choice_answer tree known c).1 (m, at, subst (λ s. v.selected tree known c (Some (Member m)) ≢ s) same differs)))),
       )
 
   -- the same by its facts
@@ -468,7 +489,7 @@ module _ (tree : TreeFacts) (user : UserPlace → Option GivenValue) (V : ℕ �
   AtFacts o (SymbolPlace j) =
       (given : GivenValue) × (allowed_for o given ≡ true) × (same_given (given_of (v.equation tree known (symbol i) o (Some given))) (given_of (V i)) ≡ false)
   AtFacts o (ChoicePlace k) =
-      (visible_facts tree known o ≡ true) × (user (ChoicePlace k) ≡ None) × (m : SymId) × Contains (members_of (v.choice_at tree k)) m
+      (visible_facts tree known o ≡ true) × (v.is_chosen (v.selected tree known (v.choice_at tree k) (user (ChoicePlace k))) (user (ChoicePlace k)) ≡ false) × (m : SymId) × Contains (members_of (v.choice_at tree k)) m
       × (v.selected tree known (v.choice_at tree k) (Some (Member m)) ≢ v.selected tree known (v.choice_at tree k) (user (ChoicePlace k)))
 
   by_its_facts : (o : Option SymbolFacts) → V i ≡ v.equation tree known (symbol i) o (user (user_place_of i o)) → known (symbol i) ≡ V i →

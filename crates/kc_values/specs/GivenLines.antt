@@ -1,8 +1,11 @@
 -- Trusted: The lines that values give to the user: those of the minimal file, and those of all that is written.
-use Rattle.std.specs.Prelude.{◌≡◌, ℕ, ◌<◌, ◌&&◌, Bool, true, find, Option, Some, None, if◌then◌else◌, option_map}
+use Rattle.std.specs.Prelude.{◌≡◌, ℕ, ◌<◌, ◌&&◌, Bool, false, true, find, Option, Some, None, if◌then◌else◌, option_map}
 use Rattle.kc_language.specs.Expressions.{symbol, SymbolValue}
 use Rattle.kc_language.specs.Symbols.{TreeFacts}
-use Rattle.kc_language.specs.Values.{GivenValue, Member, UserPlace, SymbolPlace, ChoicePlace, is_yes, differs, given_of, selection, choice_at, name_count, known_from, user_place, written}
+use Rattle.kc_language.specs.Texts.{has_value}
+use Rattle.kc_language.specs.declared.expressions.SymId.{SymId}
+use Rattle.std.specs.Option.{option_map_or}
+use Rattle.kc_language.specs.Values.{GivenValue, Member, UserPlace, SymbolPlace, ChoicePlace, is_new, is_yes, differs, given_of, selection, choice_at, name_count, known_from, user_place, written}
 use Rattle.kc_user.specs.Places.{allowed, members_of}
 
 -- Under the user's places and values V.
@@ -16,6 +19,15 @@ module _ (tree : TreeFacts) (user : UserPlace → Option GivenValue) (V : ℕ �
   abbrev pub minimal_line : UserPlace → Option GivenValue
   minimal_line (SymbolPlace i) = Some (given_of (V i))
   minimal_line (ChoicePlace c) = option_map Member (selection tree user V c)
+
+  -- a new symbol with a line in the list of new symbols; what the places hold after that list is read
+  abbrev pub is_listed : SymId → Bool
+  is_listed s = is_new tree (known_from tree V) user s && has_value (V s.0)
+
+  abbrev pub listed_place : UserPlace → Option GivenValue
+  listed_place (SymbolPlace i) = if is_listed (symbol i) then Some (given_of (V i)) else user (SymbolPlace i)
+  listed_place (ChoicePlace c) =
+      let found = selection tree user V c in if option_map_or is_listed found false then option_map Member found else user (ChoicePlace c)
 
 -- Under values V alone.
 module _ (tree : TreeFacts) (V : ℕ → SymbolValue) where

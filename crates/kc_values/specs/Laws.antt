@@ -7,15 +7,16 @@ use Rattle.kc_tree.specs.Layouts.{IsLayoutOf, facts_of}
 use Rattle.kc_language.specs.Symbols.{Condition, ChoiceFacts, TreeFacts}
 use Rattle.kc_tree.specs.TreeFacts.{IsWellFormed}
 use Rattle.kc_tree.specs.declared.layout.Layout.{Layout}
+use Rattle.kc_language.specs.Texts.{has_value}
 use Rattle.kc_order.specs.Loop.{HoldsNeeding}
 use Rattle.kc_language.specs.Needs.{needs_in, IsAccepted, needs}
 use Rattle.kc_order.specs.Needs.{AreWithin}
-use Rattle.kc_language.specs.Values.{ChoicePlace, Member, Solves, IsOnlySolution, SymbolPlace, choice_at, facts, GivenValue, UserPlace, condition, is_new, known_from, name_count, equations, rhs, same_given, selected, selection, user_place, differs, given_of, changes_on_reread, visible}
+use Rattle.kc_language.specs.Values.{ChoicePlace, Member, Solves, IsOnlySolution, SymbolPlace, choice_at, facts, GivenValue, UserPlace, condition, is_chosen, is_new, known_from, name_count, equations, rhs, same_given, selected, selection, user_place, differs, given_of, changes_on_reread, visible}
 use Rattle.kc_values.specs.PartsOfValues.{prompt_value}
 use Rattle.kc_order.specs.Solution.{HasOneSolution, ReadsNeeds}
 use Rattle.kc_order.specs.Minimal.{Restores, NothingCanGo}
 use Rattle.kc_user.specs.Places.{allowed, AllowedPlaces, members_of}
-use Rattle.kc_values.specs.GivenLines.{TellsDiffering, minimal_line, reread_places}
+use Rattle.kc_values.specs.GivenLines.{TellsDiffering, is_listed, listed_place, minimal_line, reread_places}
 
 -- An equation reads only what its symbol needs, whatever the places.
 abbrev pub EquationsReadNeeds : Type 0
@@ -75,12 +76,12 @@ IdempotentWhere =
     Solves (name_count tree) (equations tree (reread_places tree V)) V ↔ ((i : ℕ) → i < name_count tree → changes_on_reread tree V i ≡ false)
 
 -- An answer to a symbol's question, by the place that it is for: a value that a line can give, under which the symbol's equation gives another value. A
--- member is visible, no line chose a member of its choice, and with some member as the user's the choice selects another one.
+-- member is visible, no line chose the selection of its choice, and with some member as the user's the choice selects another one.
 abbrev pub CanBeAnswered : TreeFacts → (UserPlace → Option GivenValue) → (ℕ → SymbolValue) → ℕ → UserPlace → Type 0
 CanBeAnswered tree user V i (SymbolPlace j) =
     (given : GivenValue) × (allowed tree (symbol i) given ≡ true) × (same_given (given_of (rhs tree i (Some given) V)) (given_of (V i)) ≡ false)
 CanBeAnswered tree user V i (ChoicePlace c) =
-    (visible tree (known_from tree V) (symbol i) ≡ true) × (user (ChoicePlace c) ≡ None) × (m : SymId) × Contains (members_of (choice_at tree c)) m
+    (visible tree (known_from tree V) (symbol i) ≡ true) × (is_chosen (selection tree user V c) (user (ChoicePlace c)) ≡ false) × (m : SymId) × Contains (members_of (choice_at tree c)) m
     × (selected tree (known_from tree V) (choice_at tree c) (Some (Member m)) ≢ selection tree user V c)
 
 -- A symbol is new exactly if no line gave it a value and its question can be answered.
@@ -89,6 +90,18 @@ NewCanBeAnswered =
     (tree : TreeFacts) (user : UserPlace → Option GivenValue) (V : ℕ → SymbolValue) (i : ℕ) → i < name_count tree →
     Solves (name_count tree) (equations tree user) V →
     is_new tree (known_from tree V) user (symbol i) ≡ true ↔ (user (SymbolPlace i) ≡ None) × CanBeAnswered tree user V i (user_place tree i)
+
+-- The values stay with the lines of the list of new symbols, where these are allowed, if and only if no new symbol changes on rereading. Only a symbol
+-- without a line is still new.
+abbrev pub NewLinesKeep : Type 0
+NewLinesKeep =
+    (tree : TreeFacts) (user : UserPlace → Option GivenValue) (V : ℕ → SymbolValue) → IsWellFormed tree → AllowedPlaces tree user →
+    Solves (name_count tree) (equations tree user) V →
+    ((s : SymId) → s.0 < name_count tree → is_listed tree user V s ≡ true → allowed tree s (given_of (V s.0)) ≡ true) →
+    (Solves (name_count tree) (equations tree (listed_place tree user V)) V
+    ↔ ((s : SymId) → s.0 < name_count tree → is_new tree (known_from tree V) user s ≡ true → changes_on_reread tree V s.0 ≡ false))
+    × ((s : SymId) → s.0 < name_count tree → is_new tree (known_from tree V) (listed_place tree user V) s ≡ true →
+    (is_new tree (known_from tree V) user s ≡ true) × (has_value (V s.0) ≡ false))
 
 -- Choices don't nest: the prompt of a choice asks for no mode of another, so its mode is y exactly where its prompt is visible.
 abbrev pub ModeIsPromptCondition : Type 0

@@ -1,6 +1,6 @@
 //! What holds of the equations of every tree.
 
-ghost use Rattle.kc_values.specs.Laws.{EquationsReadNeeds, NeedsAreSymbols, NeedingAreDefined, AcceptedHaveOneSolution, SolutionsAgree, LinesAreFixed, MinimalRestores, MinimalHasNothingToSpare, IdempotentWhere, DifferingAreAllowed, ModeIsPromptCondition, NewCanBeAnswered, RowsTellFacts};
+ghost use Rattle.kc_values.specs.Laws.{EquationsReadNeeds, NeedsAreSymbols, NeedingAreDefined, AcceptedHaveOneSolution, SolutionsAgree, LinesAreFixed, MinimalRestores, MinimalHasNothingToSpare, IdempotentWhere, DifferingAreAllowed, ModeIsPromptCondition, NewCanBeAnswered, NewLinesKeep, RowsTellFacts};
 
 use kc_expr::values::value_depends_on_symbols;
 
@@ -60,10 +60,16 @@ pub fn differing_are_allowed()
 {}
 
 /// A symbol is new exactly if no line gave it a value and its question can be answered: outside a choice, some value that
-/// `allowed` accepts makes its equation give another value; a member is visible, no line chose a member of its choice, and with
+/// `allowed` accepts makes its equation give another value; a member is visible, no line chose the selection of its choice, and with
 /// some member as the user's the choice selects another one (our own).
 pub fn new_can_be_answered()
     ensures { NewCanBeAnswered }
+{}
+
+/// With the lines of the list of new symbols, where `allowed` accepts them, the values solve again exactly where no new symbol
+/// changes on rereading (as for `idempotent_where`). And then a symbol is still new only if it has no line (our own).
+pub fn new_lines_keep()
+    ensures { NewLinesKeep }
 {}
 
 /// Choices don't nest: the prompt of a choice asks for no mode of another, so that the mode of a choice is y exactly where its

@@ -94,6 +94,14 @@ unchecked : is_given (codes "check") (matches_of kconf_app (codes "--replace" �
 unfolding clap_on_literals kconf_app with_options
 unchecked = refl
 
+differs : is_given (codes "diff") (matches_of kconf_app (codes "--check" ∷ codes "--diff" ∷ codes "Kconfig" ∷ [])) ≡ true
+unfolding clap_on_literals kconf_app with_options
+differs = refl
+
+includes : first_of (codes "include") (matches_of kconf_app (codes "--flat" ∷ codes "--include=d" ∷ codes "Kconfig" ∷ [])) ≡ Some (codes "d")
+unfolding clap_on_literals kconf_app with_options
+includes = refl
+
 more_fragments : all_of (codes "fragment") (matches_of kconf_app (codes "--fragment" ∷ codes "a" ∷ codes "Kconfig" ∷ codes "b" ∷ codes "--fragment=c" ∷ [])) ≡ Some (codes "a" ∷ codes "c" ∷ [])
 unfolding clap_on_literals kconf_app with_options
 more_fragments = refl

@@ -3,7 +3,7 @@
 -- has the value `true`.
 use Rattle.std.specs.{Prelude.{◌≡◌, ◌≢◌, ◌==◌, ◌<◌, ◌&&◌, ◌||◌, ◌⊎◌, ◌++◌, ◌^◌, ℕ, List, [], ◌∷◌, Bool, true, false, not, Option, Some, None, is_some, unwrap_or, option_map, String, string_bytes, codes, decimal, bytes_eq, nat_eq, if◌then◌else◌, map, fold, filter, flat_map, length, drop, slice_index_or}, List.{last_or, list_any, slice_split, starts_with}, Option.option_or, Str.Lines.lines, declared.alloc.Global.Global}
 use Rattle.clap.specs.{Words.{App, IsAmong, Kinds, Row, Rule, Text, all_of, first_of, matches_of, new_app, new_rule, with_rule}, Simple.on_top, declared.{builder.action.ArgAction.TheVariants.{Append, SetTrue}, error.kind.ErrorKind.{ErrorKind, TheVariants.{DisplayHelp, DisplayVersion}}}}
-use Rattle.kc_language.specs.{Text.{byte, longest_prefix, natural_of}, ConfigFile.is_prefix, Outcome.Options, declared.outcome.Delivery.{Delivery, TheVariants.{Check, Replace, Write}}}
+use Rattle.kc_language.specs.{Text.{byte, longest_prefix, natural_of}, ConfigFile.{Notation, is_prefix}, Outcome.Options, declared.outcome.Delivery.{Delivery, TheVariants.{Check, Replace, Write}}}
 use Rattle.kc_words.specs.declared.{each.Each.Each, options.Request.{Request, TheVariants.{One, Each as Many}}, usage.UsageError.{UsageError, TheVariants.{Help, Version, Bad, Memory}}}
 
 -- ---- The command
@@ -30,12 +30,14 @@ empty_app = on_top (λ s. record s { no_binary_name = true; has_version = true }
 -- The options; and the command: kconf [OPTIONS] KCONFIG [FRAGMENT ..]
 unfoldable pub with_options : App → App
 with_options app = fold with_rule app
-    (option_rule (codes "root") ∷ option_rule (codes "config") ∷ option_rule (codes "out") ∷ option_rule (codes "header")
+    (option_rule (codes "root") ∷ flag_rule (codes "flat") ∷ option_rule (codes "include") ∷ option_rule (codes "config") ∷ option_rule (codes "out") ∷ option_rule (codes "header")
     ∷ option_rule (codes "savedefconfig") ∷ option_rule (codes "list-new") ∷ flag_rule (codes "with-help") ∷ option_rule (codes "list-gone")
     ∷ option_rule (codes "depfile") ∷ option_rule (codes "prefix")
-    ∷ flag_rule (codes "must-exist") ∷ flag_rule (codes "strict") ∷ flag_rule (codes "strict-tree") ∷ flag_rule (codes "warn-lost")
+    ∷ flag_rule (codes "raw-strings")
+    ∷ flag_rule (codes "must-exist") ∷ flag_rule (codes "strict") ∷ flag_rule (codes "strict-tree") ∷ flag_rule (codes "quiet-tree")
+    ∷ flag_rule (codes "hints") ∷ flag_rule (codes "warn-lost")
     ∷ flag_rule (codes "explain-lost") ∷ repeated_rule (codes "explain") ∷ option_rule (codes "explain-depth")
-    ∷ flag_rule (codes "replace") ∷ flag_rule (codes "check") ∷ flag_rule (codes "each")
+    ∷ flag_rule (codes "replace") ∷ flag_rule (codes "check") ∷ flag_rule (codes "diff") ∷ flag_rule (codes "each")
     ∷ option_rule (codes "each-from") ∷ repeated_rule (codes "fragment") ∷ [])
 
 unfoldable pub kconf_app : App
@@ -66,6 +68,10 @@ is_each rows = is_given (codes "each") rows || has_value (codes "each-from") row
 abbrev pub prefix_option : List Row → Text
 prefix_option rows = unwrap_or (first_of (codes "prefix") rows) (codes "CONFIG_")
 
+-- How files write names and strings.
+abbrev pub notation_option : List Row → Notation
+notation_option rows = record { prefix = prefix_option rows; is_raw = is_given (codes "raw-strings") rows }
+
 -- The number of steps in which an explanation goes on: decimal digits, of a number below 2^63. Any other text is refused.
 abbrev pub depth_option : List Row → Text
 depth_option rows = unwrap_or (first_of (codes "explain-depth") rows) (codes "3")
@@ -85,6 +91,8 @@ delivery_of rows = if is_given (codes "check") rows then Check else if is_given 
 pub record AreSharedOptions (rows : List Row) (options : Options) : Type 0 where
   pub root : string_bytes options.root ≡ unwrap_or (first_of (codes "root") rows) (codes ".")
   pub kconfig : string_bytes options.kconfig ≡ unwrap_or (first_of (codes "KCONFIG") rows) []
+  pub is_flat : options.is_flat ≡ is_given (codes "flat") rows
+  pub include : option_map string_bytes options.include ≡ first_of (codes "include") rows
   pub header : option_map string_bytes options.header ≡ unless_explained rows None (first_of (codes "header") rows)
   pub minimal : option_map string_bytes options.minimal ≡ unless_explained rows None (first_of (codes "savedefconfig") rows)
   pub list_new : option_map string_bytes options.list_new ≡ unless_explained rows None (first_of (codes "list-new") rows)
@@ -95,12 +103,15 @@ pub record AreSharedOptions (rows : List Row) (options : Options) : Type 0 where
   pub explain : map string_bytes options.explain.items ≡ values_of (codes "explain") rows
   pub explain_depth : Some options.explain_depth ≡ depth_of (depth_option rows)
   pub explain_lost : options.explain_lost ≡ is_given (codes "explain-lost") rows
-  pub prefix : options.prefix ≡ prefix_option rows
+  pub prefix : options.prefix ≡ notation_option rows
   pub prefix_is_one : is_prefix (prefix_option rows) ≡ true
   pub strict : options.strict ≡ unless_explained rows false (is_given (codes "strict") rows)
   pub strict_tree : options.strict_tree ≡ unless_explained rows false (is_given (codes "strict-tree") rows)
+  pub quiet_tree : options.quiet_tree ≡ is_given (codes "quiet-tree") rows
+  pub hints : options.hints ≡ is_given (codes "hints") rows
   pub warn_lost : options.warn_lost ≡ is_given (codes "warn-lost") rows
   pub delivery : options.delivery ≡ unless_explained rows Write (delivery_of rows)
+  pub shows_difference : options.shows_difference ≡ unless_explained rows false (is_given (codes "diff") rows)
 
 -- The options of one configuration.
 pub record AreOptionsOf (rows : List Row) (options : Options) : Type 0 where
@@ -137,6 +148,8 @@ abbrev pub exclusion_of : List Row → Option Text
 exclusion_of rows =
     if is_given (codes "check") rows && is_given (codes "replace") rows
     then Some (with_hint (codes "error: the argument '--check' cannot be used with '--replace'"))
+    else if is_given (codes "diff") rows && not (is_given (codes "check") rows)
+    then Some (with_hint (codes "error: the argument '--diff' needs '--check'"))
     else if is_each rows && has_value (codes "config") rows
     then Some (with_hint (codes "error: the argument '--config <FILE>' cannot be used with '--each'"))
     else if is_each rows && has_value (codes "explain") rows
@@ -204,6 +217,8 @@ pub record AreOptionsFor (each : Each) (name : Text) (options : Options) : Type 
   pub config : string_bytes options.config ≡ name
   pub out : option_map string_bytes options.out ≡ option_map (λ p. filled name (string_bytes p)) each.options.out
   pub kconfig : string_bytes options.kconfig ≡ string_bytes each.options.kconfig
+  pub is_flat : options.is_flat ≡ each.options.is_flat
+  pub include : option_map string_bytes options.include ≡ option_map string_bytes each.options.include
   pub header : option_map string_bytes options.header ≡ option_map (λ p. filled name (string_bytes p)) each.options.header
   pub minimal : option_map string_bytes options.minimal ≡ option_map (λ p. filled name (string_bytes p)) each.options.minimal
   pub list_new : option_map string_bytes options.list_new ≡ option_map (λ p. filled name (string_bytes p)) each.options.list_new
@@ -219,8 +234,11 @@ pub record AreOptionsFor (each : Each) (name : Text) (options : Options) : Type 
   pub must_exist : options.must_exist ≡ each.options.must_exist
   pub strict : options.strict ≡ each.options.strict
   pub strict_tree : options.strict_tree ≡ each.options.strict_tree
+  pub quiet_tree : options.quiet_tree ≡ each.options.quiet_tree
+  pub hints : options.hints ≡ each.options.hints
   pub warn_lost : options.warn_lost ≡ each.options.warn_lost
   pub delivery : options.delivery ≡ each.options.delivery
+  pub shows_difference : options.shows_difference ≡ each.options.shows_difference
   pub names_config : options.names_config ≡ each.options.names_config
 
 -- The files that a configuration writes; and those that it reads for user values.

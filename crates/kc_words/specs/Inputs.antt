@@ -3,7 +3,7 @@ use Rattle.std.specs.Prelude.{◌≡◌, List, None, Some, codes, option_map, st
 use Rattle.clap.specs.Words.{Row, first_of}
 use Rattle.kc_language.specs.ConfigFile.{is_prefix}
 use Rattle.kc_language.specs.Outcome.{Options}
-use Rattle.kc_words.specs.CommandLine.{depth_of, depth_option, prefix_option, unless_explained}
+use Rattle.kc_words.specs.CommandLine.{depth_of, depth_option, notation_option, prefix_option, unless_explained}
 use Rattle.kc_words.specs.declared.options.Inputs.{Inputs}
 use Rattle.kc_words.specs.declared.options.Outputs.{Outputs}
 use Rattle.kc_words.specs.declared.options.Values.{Values}
@@ -24,6 +24,6 @@ pub record AreOutputs (rows : List Row) (outputs : Outputs) : Type 0 where
   pub explanation : option_map string_bytes outputs.explanation ≡ unless_explained rows (Some (codes "/dev/stdout")) None
 
 pub record AreValues (rows : List Row) (values : Values) : Type 0 where
-  pub prefix : values.prefix ≡ prefix_option rows
+  pub prefix : values.prefix ≡ notation_option rows
   pub prefix_is_one : is_prefix (prefix_option rows) ≡ true
   pub explain_depth : Some values.explain_depth ≡ depth_of (depth_option rows)

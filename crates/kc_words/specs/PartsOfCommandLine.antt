@@ -7,6 +7,9 @@ use Rattle.std.specs.Prelude.{◌&&◌, List, Bool, codes, not, Option, None, So
 abbrev pub are_exclusive : List Row → Bool
 are_exclusive rows = is_given (codes "check") rows && is_given (codes "replace") rows
 
+abbrev pub lacks_check : List Row → Bool
+lacks_check rows = is_given (codes "diff") rows && not (is_given (codes "check") rows)
+
 abbrev pub is_one_of_many : List Row → Bool
 is_one_of_many rows = is_each rows && has_value (codes "config") rows
 
@@ -18,6 +21,9 @@ lacks_target rows = is_each rows && (has_value (codes "depfile") rows && not (ha
 
 abbrev pub exclusion_text : Text
 exclusion_text = codes "error: the argument '--check' cannot be used with '--replace'\n\nFor more information, try '--help'.\n"
+
+abbrev pub no_check_text : Text
+no_check_text = codes "error: the argument '--diff' needs '--check'\n\nFor more information, try '--help'.\n"
 
 abbrev pub one_of_many_text : Text
 one_of_many_text = codes "error: the argument '--config <FILE>' cannot be used with '--each'\n\nFor more information, try '--help'.\n"

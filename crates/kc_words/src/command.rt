@@ -42,6 +42,14 @@ const ROOT: OptionTexts = OptionTexts {
     help: "Read the Kconfig files relative to DIR [default: .]",
 };
 
+const FLAT: &str =
+    "Read KCONFIG as a flat file: line markers give the locations, $ is a plain byte";
+
+const INCLUDE: OptionTexts = OptionTexts {
+    value: "DIR",
+    help: "Read the files of #include lines in .config files and fragments from DIR",
+};
+
 const CONFIG: OptionTexts = OptionTexts {
     value: "FILE",
     help: "Read the .config from FILE [default: .config]",
@@ -84,11 +92,18 @@ const PREFIX: OptionTexts = OptionTexts {
     help: "Prefix of symbol names in .config files and the header [default: CONFIG_]",
 };
 
+const RAW_STRINGS: &str =
+    "Read and write strings of .config files and the header without escapes, as U-Boot does";
+
 const MUST_EXIST: &str = "Fail if the --config file does not exist (E18)";
 
 const STRICT: &str = "Fail if a line of the .config or a fragment was not taken as written";
 
 const STRICT_TREE: &str = "Fail on any warning, also about the tree";
+
+const QUIET_TREE: &str = "Leave out the warnings about the tree (K1 to K6)";
+
+const HINTS: &str = "Print a line after each warning and error that says what to do";
 
 const WARN_LOST: &str = "Warn about values you set that did not take effect, and about conflicts";
 
@@ -107,6 +122,8 @@ const EXPLAIN_DEPTH: OptionTexts = OptionTexts {
 const REPLACE: &str = "Write files atomically, and leave unchanged files untouched";
 
 const CHECK: &str = "Write no file, and fail for each that is not up to date (E22)";
+
+const DIFF: &str = "With --check, print how each file that is not up to date differs";
 
 const MORE_FRAGMENTS: OptionTexts = OptionTexts {
     value: "FILE",
@@ -211,6 +228,8 @@ fn with_options<'a>(alloc: Global, command: Command<'a>) -> Result<Command<'a>, 
     ensures { IfOk result (λ longer. app_of longer ≡ with_options (app_of command.entry)) }
 {
     let command = with_option(alloc, command, "root", ROOT)?;
+    let command = with_flag(alloc, command, "flat", FLAT)?;
+    let command = with_option(alloc, command, "include", INCLUDE)?;
     let command = with_option(alloc, command, "config", CONFIG)?;
     let command = with_option(alloc, command, "out", OUT)?;
     let command = with_option(alloc, command, "header", HEADER)?;
@@ -220,15 +239,19 @@ fn with_options<'a>(alloc: Global, command: Command<'a>) -> Result<Command<'a>, 
     let command = with_option(alloc, command, "list-gone", LIST_GONE)?;
     let command = with_option(alloc, command, "depfile", DEPFILE)?;
     let command = with_option(alloc, command, "prefix", PREFIX)?;
+    let command = with_flag(alloc, command, "raw-strings", RAW_STRINGS)?;
     let command = with_flag(alloc, command, "must-exist", MUST_EXIST)?;
     let command = with_flag(alloc, command, "strict", STRICT)?;
     let command = with_flag(alloc, command, "strict-tree", STRICT_TREE)?;
+    let command = with_flag(alloc, command, "quiet-tree", QUIET_TREE)?;
+    let command = with_flag(alloc, command, "hints", HINTS)?;
     let command = with_flag(alloc, command, "warn-lost", WARN_LOST)?;
     let command = with_flag(alloc, command, "explain-lost", EXPLAIN_LOST)?;
     let command = with_repeated(alloc, command, "explain", EXPLAIN)?;
     let command = with_option(alloc, command, "explain-depth", EXPLAIN_DEPTH)?;
     let command = with_flag(alloc, command, "replace", REPLACE)?;
     let command = with_flag(alloc, command, "check", CHECK)?;
+    let command = with_flag(alloc, command, "diff", DIFF)?;
     let command = with_flag(alloc, command, "each", EACH)?;
     let command = with_option(alloc, command, "each-from", EACH_FROM)?;
     with_repeated(alloc, command, "fragment", MORE_FRAGMENTS)

@@ -1,6 +1,6 @@
 //! Many configurations of one tree.
 
-ghost use Rattle.std.specs.Prelude.{◌≡◌, IfOk, IfErr, OnOk, map, string_bytes};
+ghost use Rattle.std.specs.Prelude.{◌≡◌, IfOk, IfErr, OnOk, map, option_map, string_bytes};
 ghost use Rattle.kc_words.specs.CommandLine.{AreApart, IsClash, writes, AreOptionsFor};
 
 use crate::apart;
@@ -26,7 +26,7 @@ pub struct Each {
 fn copy_of_prefix(alloc: Global, prefix: &Prefix) -> Result<Prefix, AllocError>
     ensures { IfOk result (λ copy. copy ≡ prefix.now) }
 {
-    Ok(Prefix::new(alloc, prefix.as_bytes())?.unwrap())
+    Ok(Prefix::new(alloc, prefix.as_bytes(), prefix.is_raw())?.unwrap())
 }
 
 // Copies of the names.
@@ -38,6 +38,16 @@ fn copies_of(alloc: Global, names: &[String]) -> Result<Vec<String>, AllocError>
         copies.push(String::from_str(alloc, name.as_str())?)?;
     }
     Ok(copies)
+}
+
+// A copy of the name, if it is there.
+fn copy_if(alloc: Global, name: &Option<String>) -> Result<Option<String>, AllocError>
+    ensures { IfOk result (λ copy. option_map string_bytes copy ≡ option_map string_bytes name.now) }
+{
+    match name {
+        Some(name) => Ok(Some(String::from_str(alloc, name.as_str())?)),
+        None => Ok(None),
+    }
 }
 
 impl Each {
@@ -53,6 +63,7 @@ impl Each {
             config: String::from_str(alloc, config)?,
             out: filled_if(alloc, config, &asked.out)?,
             kconfig: String::from_str(alloc, asked.kconfig.as_str())?,
+            is_flat: asked.is_flat,
             header: filled_if(alloc, config, &asked.header)?,
             minimal: filled_if(alloc, config, &asked.minimal)?,
             list_new: filled_if(alloc, config, &asked.list_new)?,
@@ -64,12 +75,16 @@ impl Each {
             explain_depth: asked.explain_depth,
             explain_lost: asked.explain_lost,
             fragments: copies_of(alloc, &asked.fragments)?,
+            include: copy_if(alloc, &asked.include)?,
             prefix: copy_of_prefix(alloc, &asked.prefix)?,
             must_exist: asked.must_exist,
             strict: asked.strict,
             strict_tree: asked.strict_tree,
             warn_lost: asked.warn_lost,
+            quiet_tree: asked.quiet_tree,
+            hints: asked.hints,
             delivery: asked.delivery,
+            shows_difference: asked.shows_difference,
             names_config: asked.names_config,
         })
     }

@@ -57,6 +57,9 @@ struct Values {
 const CHECK_AND_REPLACE: &str =
     "error: the argument '--check' cannot be used with '--replace'\n\nFor more information, try '--help'.\n";
 
+const DIFF_WITHOUT_CHECK: &str =
+    "error: the argument '--diff' needs '--check'\n\nFor more information, try '--help'.\n";
+
 const CONFIG_AND_EACH: &str =
     "error: the argument '--config <FILE>' cannot be used with '--each'\n\nFor more information, try '--help'.\n";
 
@@ -135,13 +138,13 @@ fn texts_of_both(
     Ok(texts)
 }
 
-// The text as a prefix.
-fn prefix_of(alloc: Global, text: &str) -> Result<Prefix, UsageError>
-    ensures ok { IfOk result (λ prefix. prefix ≡ text.now) }
+// The text as a prefix, and whether strings are raw.
+fn prefix_of(alloc: Global, text: &str, is_raw: bool) -> Result<Prefix, UsageError>
+    ensures ok { IfOk result (λ prefix. prefix ≡ record { prefix = text.now; is_raw = is_raw }) }
     ensures valid { IfOk result (λ _. is_prefix text.now ≡ true) }
     ensures err { IfErr result (IsNoPrefix text.now) }
 {
-    match Prefix::new(alloc, text.as_bytes())? {
+    match Prefix::new(alloc, text.as_bytes(), is_raw)? {
         Some(prefix) => Ok(prefix),
         None => Err(UsageError::Bad(format!(in alloc;
             "error: invalid value '{text}' for '--prefix <TEXT>': at most 64 letters, digits and _, of which the first is no digit\n\nFor more information, try '--help'.\n"
@@ -183,6 +186,9 @@ fn exclusion_of(matches: &ArgMatches<'_>) -> Option<&'static str>
 {
     if flag_of(matches, "check") && flag_of(matches, "replace") {
         return Some(CHECK_AND_REPLACE);
+    }
+    if flag_of(matches, "diff") && !flag_of(matches, "check") {
+        return Some(DIFF_WITHOUT_CHECK);
     }
     if is_each(matches) && has_value(matches, "config") {
         return Some(CONFIG_AND_EACH);
@@ -260,7 +266,7 @@ fn read_values(alloc: Global, matches: &ArgMatches<'_>) -> Result<Values, UsageE
 {
     let prefix = text_or(alloc, matches, "prefix", "CONFIG_")?;
     let depth = text_or(alloc, matches, "explain-depth", "3")?;
-    match prefix_of(alloc, prefix.as_str()) {
+    match prefix_of(alloc, prefix.as_str(), flag_of(matches, "raw-strings")) {
         Ok(prefix) => match checked_depth(alloc, depth.as_str()) {
             Ok(explain_depth) => Ok(Values {
                 prefix,
@@ -284,6 +290,7 @@ fn read_options(
 {
     let root = text_or(alloc, matches, "root", ".")?;
     let kconfig = text_or(alloc, matches, "KCONFIG", "")?;
+    let include = text_of(alloc, matches, "include")?;
     let outputs = read_outputs(alloc, matches)?;
     let explain = texts_of(alloc, matches, "explain")?;
     let values = read_values(alloc, matches)?;
@@ -292,6 +299,7 @@ fn read_options(
         config: inputs.config,
         out: inputs.out,
         kconfig,
+        is_flat: flag_of(matches, "flat"),
         header: outputs.header,
         minimal: outputs.minimal,
         list_new: outputs.list_new,
@@ -303,12 +311,16 @@ fn read_options(
         explain_depth: values.explain_depth,
         explain_lost: flag_of(matches, "explain-lost"),
         fragments: inputs.fragments,
+        include,
         prefix: values.prefix,
         must_exist: inputs.must_exist,
         strict: flag_unless_explained(matches, "strict"),
         strict_tree: flag_unless_explained(matches, "strict-tree"),
         warn_lost: flag_of(matches, "warn-lost"),
+        quiet_tree: flag_of(matches, "quiet-tree"),
+        hints: flag_of(matches, "hints"),
         delivery: delivery_of(matches),
+        shows_difference: flag_unless_explained(matches, "diff"),
         names_config: inputs.names_config,
     })
 }
@@ -432,26 +444,26 @@ fn usage_of(alloc: Global, error: &Error) -> UsageError
 }
 
 /// Reads the arguments after the program's name, as the command line
-/// `[--root DIR] [--config FILE] [--out FILE] [--header FILE] [--savedefconfig FILE] [--list-new FILE] [--with-help] [--list-gone FILE]
-/// [--depfile FILE] [--prefix TEXT] [--must-exist] [--strict] [--strict-tree] [--warn-lost] [--explain-lost] [--explain NAME ..] [--explain-depth N]
-/// [--replace] [--check] [--fragment FILE ..] KCONFIG [FRAGMENT ..]`,
+/// `[--root DIR] [--flat] [--include DIR] [--config FILE] [--out FILE] [--header FILE] [--savedefconfig FILE] [--list-new FILE] [--with-help] [--list-gone FILE]
+/// [--depfile FILE] [--prefix TEXT] [--must-exist] [--strict] [--strict-tree] [--quiet-tree] [--hints] [--warn-lost]
+/// [--explain-lost] [--explain NAME ..] [--explain-depth N] [--replace] [--check] [--diff] [--fragment FILE ..] KCONFIG [FRAGMENT ..]`,
 /// `.. [--each] [--each-from FILE] .. KCONFIG [CONFIGURATION ..]`, `--help`, `-h`, `--version` or `-V`
 /// (our own; the arguments are read as Rust's `clap` reads them, whose documentation has the rules).
 ///
 /// Each field is what the arguments hold, or for an absent option: root `.`, config `.config`, out the file of `--config`, prefix
-/// `CONFIG_`, header, minimal, the two lists and depfile none, explain depth 3, each flag false; the texts are
+/// `CONFIG_`, include, header, minimal, the two lists and depfile none, explain depth 3, each flag false; the texts are
 /// written, or with `--replace` replaced, or with `--check` compared. The files of `--fragment` follow the others.
 ///
 /// With `--explain` the explanation is written to `/dev/stdout`, and nothing else is written, whatever else is given: out, header,
-/// minimal, the two lists and depfile are none, nothing is strict, and the texts are neither replaced nor compared.
+/// minimal, the two lists and depfile are none, nothing is strict, the texts are neither replaced nor compared, and no difference is shown.
 ///
 /// With `--each` or `--each-from` each argument after KCONFIG is a configuration of its own, and the fragments are those of
 /// `--fragment` alone. A configuration has to exist. Without `--out` no full `.config` is written.
 ///
 /// # Errors
 ///
-/// Those of [`UsageError`]. They leave nothing behind. `--check` and `--replace` exclude each other, as do `--config` and `--each`
-/// or `--each-from`, and `--explain` and these; `--depfile` needs `--out` beside them. The first of these faults is told, and after
+/// Those of [`UsageError`]. They leave nothing behind. `--check` and `--replace` exclude each other; `--diff` needs `--check`; `--config` and
+/// `--each` or `--each-from` exclude each other, as do `--explain` and these; `--depfile` needs `--out` beside them. The first of these faults is told, and after
 /// them the prefix and the depth.
 #[inline(never)]
 pub fn request_of(alloc: Global, words: &[String]) -> Result<Request, UsageError>

@@ -7,6 +7,6 @@ use std::env;
 use std::process::ExitCode;
 
 fn main(rt: HostRuntime) -> ExitCode {
-    let arguments = Arguments::of(rt.alloc(), env::args(&rt));
+    let arguments = Arguments::of(rt.alloc(), env::args(&rt)).checked(&rt);
     ExitCode::from(exit_status(kconf(&rt, &arguments).status()))
 }

@@ -35,7 +35,9 @@ fn role_of(option: &str) -> Role {
         | "--depfile"
         | "--explain"
         | "--explain-depth"
-        | "--fragment" => Role::Dropped,
+        | "--fragment"
+        | "--include" => Role::Dropped,
+        "--flat" | "--raw-strings" => Role::Whole,
         _ if option.starts_with("--root=") || option.starts_with("--prefix=") => Role::Whole,
         _ => Role::Flag,
     }

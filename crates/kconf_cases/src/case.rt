@@ -4,7 +4,7 @@ use crate::arguments::{arguments_of, rerun_arguments};
 use crate::compare::is_same;
 use crate::folders::{Entry, entries_here, has_file};
 use crate::outcome::{Answer, bytes_of, is_as_written};
-use kc_disk::{Arguments, SystemDevice, SystemFolder, exit_status, kconf_over};
+use kc_disk::{Arguments, SystemDevice, exit_status, kconf_with};
 use std::{env, fs, io};
 
 // What a second run writes.
@@ -12,10 +12,9 @@ const AGAIN: &str = "again.config";
 
 // Runs with these arguments in the current folder.
 fn run(rt: &HostRuntime, arguments: &Arguments) -> Answer {
-    let mut folder = SystemFolder::new(rt);
     let mut device = SystemDevice::keeping(rt);
     let mut kept = None;
-    let ended = kconf_over(rt, arguments, &mut folder, &mut device, &mut kept);
+    let ended = kconf_with(rt, arguments, &mut device, &mut kept);
     Answer {
         status: exit_status(ended.status()),
         diagnostics: device.into_diagnostics(),

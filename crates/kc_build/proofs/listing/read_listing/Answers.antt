@@ -1,5 +1,6 @@
+use Rattle.kc_read.specs.Files.{files_in}
 use Rattle.std.proofs.Common.{◌∙◌, ◌≢◌, Err}
-use Rattle.kc_language.specs.Expansion.{bytes_in, Expands}
+use Rattle.kc_language.specs.Expansion.{Expands}
 use Rattle.kc_language.specs.declared.diagnostics.Cause.TheVariants.{Memory}
 use Rattle.kc_read.specs.RefusalView.{refusal_view}
 use Rattle.kc_read.proofs.OpenedOnce.{are_opened}
@@ -19,9 +20,9 @@ returns-clause-listed c =
 pub returns-clause-opened : goal.returns-clause-opened
 returns-clause-opened c =
     let x = c.in_ok-expansion.ensures.expanded in
-    are_opened (bytes_in c.args.map.now) c.args.root.now x.0 c.listing_of.result.opened x.1 (c.listing_of.ensures.opened ∙ x.2.opened_is)
+    are_opened (files_in c.args.map.now) c.args.root.now x.0 c.listing_of.result.opened x.1 (c.listing_of.ensures.opened ∙ x.2.opened_is)
 
 pub returns-in_err-expansion-clause-refused : goal.returns-in_err-expansion-clause-refused
 returns-in_err-expansion-clause-refused c =
-    refusal_passed c.from_residual.result (λ r. r.cause ≢ Memory → Expands (bytes_in c.args.map.now) c.args.root.now (Err (refusal_view r)))
+    refusal_passed c.from_residual.result (λ r. r.cause ≢ Memory → Expands (files_in c.args.map.now) c.args.root.now (Err (refusal_view r)))
     c.in_err-expansion.field-0.0 c.from_residual.ensures.1 c.in_err-expansion.ensures.refused

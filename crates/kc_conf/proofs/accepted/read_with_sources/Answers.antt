@@ -1,12 +1,12 @@
 -- The tree is that of the lines of the files, and both are kept.
+use Rattle.kc_read.specs.Files.{files_in}
 use Rattle.std.proofs.Common.{refl, ◌∙◌}
-use Rattle.kc_language.specs.Expansion.{bytes_in}
 use Rattle.kc_conf.proofs.accepted.read_with_sources.Goals as goal
 
 pub returns-in-Ok : goal.returns-in-Ok
 returns-in-Ok c = λ root listed are. record {
   read = record {
-    built = c.in-Ok.ensures.built (bytes_in c.args.files) root listed;
+    built = c.in-Ok.ensures.built (files_in c.args.files) root listed;
     opened = are;
     sources = (listed.0, listed.1, (refl, c.in-Ok.ensures.lines ∙ listed.2.lines_are));
   };
@@ -14,4 +14,4 @@ returns-in-Ok c = λ root listed are. record {
 }
 
 pub returns-in-Err : goal.returns-in-Err
-returns-in-Err c = λ root listed are. record { read = tt; refused = λ known. c.in-Err.ensures.refused known (bytes_in c.args.files) root listed }
+returns-in-Err c = λ root listed are. record { read = tt; refused = λ known. c.in-Err.ensures.refused known (files_in c.args.files) root listed }

@@ -8,4 +8,4 @@ use Rattle.kc_conf.proofs.explained.add_explained_lost.Given as goal
 abbrev pub invariant-loop-i : goal.invariant-loop-i
 invariant-loop-i l =
     l.text.items ≡ l.fn.text.items
-    ++ flat_map (λ s. flat_map (λ line. line ++ codes "\n" ++ explanation_text l.lines l.solved l.input (codes "  ") 1 s) (lost_at l.input.lines l.solved s)) (take l.i l.tree.defined)
+    ++ flat_map (λ s. flat_map (λ line. line ++ codes "\n" ++ explanation_text l.lines l.solved l.input l.is_raw l.front 1 s) (lost_at l.is_raw l.input.lines l.solved s)) (take l.i l.tree.defined)

@@ -7,4 +7,4 @@ use Rattle.kc_conf.proofs.explained.add_with_explanation.Given as goal
 abbrev pub invariant-loop-line : goal.invariant-loop-line
 invariant-loop-line l =
     l.text.items ≡ l.fn.text.items
-    ++ flat_map (λ line. line ++ codes "\n" ++ explanation_text l.lines l.solved l.input (codes "  ") 1 l.id) (map (λ line. line.items) (take l.line-index l.told))
+    ++ flat_map (λ line. line ++ codes "\n" ++ explanation_text l.lines l.solved l.input l.is_raw l.front 1 l.id) (map (λ line. line.items) (take l.line-index l.told))

@@ -1,8 +1,8 @@
 -- A run over what was loaded is one over the folder's files, since these expand as that does.
+use Rattle.kc_read.specs.Files.{files_in}
 use Rattle.std.proofs.Common.{List, ℕ, string_bytes, refl, subst, subst₂, Err}
 use Rattle.kc_load.specs.Loading.{Suffices}
 use Rattle.kc_load.specs.Folder.{IsLoadFault, failed_load, Leads, files_told}
-use Rattle.kc_language.specs.Expansion.{bytes_in}
 use Rattle.kc_language.specs.Outcome.{root_file}
 use Rattle.kc_conf.specs.Faults.{loaded, unloaded}
 use Rattle.kc_conf.proofs.FolderLemmas.{flipped, runs_over}
@@ -11,10 +11,10 @@ use Rattle.kc_conf.proofs.folder_run.run_in_folder.Goals as goal
 pub returns-in-Ok : goal.returns-in-Ok
 returns-in-Ok g c =
     let options = c.args.options.now in
-    let map = bytes_in c.in-Ok.files in
+    let map = files_in c.in-Ok.files in
     let told = files_told (g.F.Folder.state c.load.new.folder) in
-    let e : Suffices told (string_bytes options.root) (root_file options) map =
-    subst₂ (λ (dir first : List ℕ). Suffices told dir first map) c.as_str.ensures.value c.as_str-2.ensures.value c.in-Ok.ensures.enough
+    let e : Suffices told (string_bytes options.root) (root_file options) options.is_flat map =
+    subst₂ (λ (dir first : List ℕ). Suffices told dir first options.is_flat map) c.as_str.ensures.value c.as_str-2.ensures.value c.in-Ok.ensures.enough
     in
     loaded e.0 e.1 c.in-Ok.ensures.leads (runs_over options map e.0 (flipped (root_file options) e.0 map e.2) _ _ _ c.run.ensures)
 

@@ -5,4 +5,4 @@ use Rattle.kc_language.specs.Texts.{lost_at}
 use Rattle.kc_conf.proofs.lost.lost_lines.Given as goal
 
 abbrev pub invariant-loop-i : goal.invariant-loop-i
-invariant-loop-i l = map (λ w. w.items) l.lines.items ≡ flat_map (lost_at l.input.lines l.solved) (take l.i l.tree.defined)
+invariant-loop-i l = map (λ w. w.items) l.lines.items ≡ flat_map (lost_at l.is_raw l.input.lines l.solved) (take l.i l.tree.defined)

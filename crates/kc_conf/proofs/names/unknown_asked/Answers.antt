@@ -16,7 +16,7 @@ find_skip test f xs ys i x same within is e =
 pub loop-asked-preserved : goal.loop-asked-preserved
 loop-asked-preserved c =
     c.loop-asked.invariant
-    ∙ find_skip (λ name. not (is_some (asked_symbol c.args.tree.now c.args.options.now.prefix name))) string_bytes c.args.options.now.explain.items
+    ∙ find_skip (λ name. not (is_some (asked_symbol c.args.tree.now c.args.options.now.prefix.prefix name))) string_bytes c.args.options.now.explain.items
     c.deref-asked-items.result.now c.loop-asked.asked-index c.asked-item.result c.deref-asked-items.ensures.value (omega arith) c.asked-item.is
-    (ap not (ap is_some (sym (c.asked_symbol.ensures ∙ ap (asked_symbol c.args.tree.now c.args.options.now.prefix) c.as_bytes-name.ensures.value))
+    (ap not (ap is_some (sym (c.asked_symbol.ensures ∙ ap (asked_symbol c.args.tree.now c.args.options.now.prefix.prefix) c.as_bytes-name.ensures.value))
     ∙ c.is_none.ensures ∙ ap not c.if-is_none.false))

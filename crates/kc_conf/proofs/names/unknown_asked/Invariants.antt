@@ -7,4 +7,4 @@ use Rattle.kc_conf.proofs.names.unknown_asked.Given as goal
 
 abbrev pub invariant-loop-asked : goal.invariant-loop-asked
 invariant-loop-asked l =
-    unknown_name l.options l.tree ≡ find (λ name. not (is_some (asked_symbol l.tree l.options.prefix name))) (map string_bytes (drop l.asked-index l.options.explain.items))
+    unknown_name l.options l.tree ≡ find (λ name. not (is_some (asked_symbol l.tree l.options.prefix.prefix name))) (map string_bytes (drop l.asked-index l.options.explain.items))

@@ -1,9 +1,9 @@
 -- A run that was broken off says why.
-use Rattle.kc_language.specs.Expansion.{bytes_in}
+use Rattle.kc_read.specs.Files.{files_in}
 use Rattle.kc_conf.proofs.RunParts.{Runs-answered}
 use Rattle.kc_conf.proofs.runs.run.Goals as goal
 
 pub returns : goal.returns
 returns g c =
-    Runs-answered (bytes_in c.args.files) c.args.options.now c.run_over-ended.result c.answer.result (g.D.Device.log c.args.device.now) (g.D.Device.log c.run_over-ended.new.device) (g.D.Device.log c.answer.new.device)
+    Runs-answered (files_in c.args.files) c.args.options.now c.run_over-ended.result c.answer.result (g.D.Device.log c.args.device.now) (g.D.Device.log c.run_over-ended.new.device) (g.D.Device.log c.answer.new.device)
     c.run_over-ended.ensures c.answer.ensures

@@ -7,7 +7,7 @@ use Rattle.kc_config_file.proofs.config.add_symbol_if.Goals as goal
 
 pub returns-clause-text : goal.returns-clause-text
 returns-clause-text c =
-    let line = config_file_line (c.args.prefix.now ++ c.name.result.now) (value_view c.symbol_value.result) in
+    let line = config_file_line c.args.prefix.now.is_raw (c.args.prefix.now.prefix ++ c.name.result.now) (value_view c.symbol_value.result) in
     c.in_ok-add_config_file_line.ensures.line
     ∙ ap (λ t. t ++ line) c.in_ok-add_gap.ensures
     ∙ append_assoc c.args.file.now.items (gap c.args.after_end) line

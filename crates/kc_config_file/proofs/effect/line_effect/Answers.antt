@@ -10,5 +10,5 @@ returns-in-Set-clause-defined c =
     let tree = c.args.tree.now in
     let name = c.in-Set.name.now in
     IfOk-weaker c.set_effect.result _ _
-    (λ effect is. subst (AssignsDefined tree) (sym is) (set_defined tree name c.in-Set.text.now (symbol_named tree name)))
+    (λ effect is. subst (AssignsDefined tree) (sym is) (set_defined c.args.is_raw tree name c.in-Set.text.now (symbol_named tree name)))
     c.set_effect.ensures

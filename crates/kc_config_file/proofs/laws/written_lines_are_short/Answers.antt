@@ -2,4 +2,4 @@ use Rattle.kc_config_file.proofs.RoundTripLemmas.{written_short}
 use Rattle.kc_config_file.proofs.laws.written_lines_are_short.Goals as goal
 
 pub returns : goal.returns
-returns c = λ prefix name known few short fits. written_short prefix name few short known fits
+returns c = λ is_raw prefix name known few short fits. written_short is_raw prefix name few short known fits

@@ -19,3 +19,7 @@ returns-in-UserOutside-clause-whole c = rw c.in-UserOutside.is (simp append_asso
 
 pub returns-in-DefaultOutside-clause-whole : goal.returns-in-DefaultOutside-clause-whole
 returns-in-DefaultOutside-clause-whole c = rw c.in-DefaultOutside.is (simp append_assoc c.add_parts-in-DefaultOutside.ensures.whole)
+
+pub returns-in-LostWithoutPrompt-clause-whole : goal.returns-in-LostWithoutPrompt-clause-whole
+returns-in-LostWithoutPrompt-clause-whole c =
+    rw c.in-LostWithoutPrompt.is (simp append_assoc (simp append-nil at c.add_parts-in-LostWithoutPrompt.ensures.whole))

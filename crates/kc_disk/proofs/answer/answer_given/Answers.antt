@@ -8,7 +8,7 @@ use Rattle.kc_disk.proofs.answer.answer_given.Goals as goal
 
 pub returns-in-Ok-One : goal.returns-in-Ok-One
 returns-in-Ok-One g c =
-    runs (request.One c.in-Ok-One.options) (record { faultless = c.in-Ok-One.ensures.faultless; fields = subst (λ (r : Request). IsRequestOf (rows_for c.args.arguments.now) r) c.in-Ok-One.field-0-is c.in-Ok-One.ensures.ok }) c.run_in_folder.ensures
+    runs (request.One c.in-Ok-One.options) (record { faultless = c.in-Ok-One.ensures.faultless; fields = subst (λ (r : Request). IsRequestOf (rows_for c.args.arguments.now) r) c.in-Ok-One.field-0-is c.in-Ok-One.ensures.ok }) c.answer_one.ensures
 
 pub returns-in-Ok-Each : goal.returns-in-Ok-Each
 returns-in-Ok-Each g c =

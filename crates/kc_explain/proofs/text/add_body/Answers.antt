@@ -13,7 +13,7 @@ active_range-active-requires c =
 pub returns-in-Some-get : goal.returns-in-Some-get
 returns-in-Some-get c =
     let told =
-    member_body c.args.t.now.lines.now c.args.t.now.solved.now c.args.id c.rows_tell_facts.ensures c.tree.result.now c.tree.ensures c.layout-layout.result.now
+    member_body c.args.t.now.lines.now c.args.t.now.solved.now c.args.id c.args.t.now.is_raw c.rows_tell_facts.ensures c.tree.result.now c.tree.ensures c.layout-layout.result.now
     c.layout-layout.ensures.laid c.in-Some.symbol.now c.in-Some.ensures c.in-Some-get.choice (sym c.in-Some-get.ensures)
     in
     on_ok_weaker c.add_choice.result (λ e. e ∙ ap (λ (ls : List (List ℕ)). c.args.text.now.items ++ led c.args.t.now.lead.now ls) (sym told)) c.add_choice.ensures
@@ -21,7 +21,7 @@ returns-in-Some-get c =
 pub returns-in-None-get : goal.returns-in-None-get
 returns-in-None-get c =
     let told =
-    plain_body c.args.t.now.lines.now c.args.t.now.solved.now c.args.id c.rows_tell_facts.ensures c.tree.result.now c.tree.ensures c.layout-layout.result.now
+    plain_body c.args.t.now.lines.now c.args.t.now.solved.now c.args.id c.args.t.now.is_raw c.rows_tell_facts.ensures c.tree.result.now c.tree.ensures c.layout-layout.result.now
     c.layout-layout.ensures.laid c.in-Some.symbol.now c.in-Some.ensures (sym c.in-None-get.ensures) c.active_range-active.result c.active_range-active.ensures.range
     in
     on_ok_weaker c.add_plain.result (λ e. e ∙ ap (λ (ls : List (List ℕ)). c.args.text.now.items ++ led c.args.t.now.lead.now ls) (sym told)) c.add_plain.ensures

@@ -6,4 +6,4 @@ use Rattle.kc_explain.proofs.text.add_members.Given as goal
 
 abbrev pub invariant-loop-member : goal.invariant-loop-member
 invariant-loop-member l = l.text.items ≡ l.fn.text.items
-    ++ led l.t.lead.now (map (rules.member_text l.t.lines.now l.t.solved.now) (take l.member-index l.members))
+    ++ led l.t.lead.now (map (rules.member_text l.t.lines.now l.t.solved.now l.t.is_raw) (take l.member-index l.members))

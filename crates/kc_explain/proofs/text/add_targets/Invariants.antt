@@ -7,4 +7,4 @@ use Rattle.kc_explain.proofs.text.add_targets.Given as goal
 
 abbrev pub invariant-loop-target : goal.invariant-loop-target
 invariant-loop-target l = l.text.items ≡ l.fn.text.items
-    ++ led l.t.lead.now (map (rules.target_text l.t.lines.now l.t.solved.now l.word) (map target_at_view (take l.target-index l.targets)))
+    ++ led l.t.lead.now (map (rules.target_text l.t.lines.now l.t.solved.now l.t.is_raw l.word) (map target_at_view (take l.target-index l.targets)))

@@ -9,5 +9,5 @@ pub returns : goal.returns
 returns c =
     on_ok_weaker c.add_user_of.result
     (λ e. e ∙ ap (λ (ls : List (List ℕ)). c.args.text.now.items ++ led c.args.t.now.lead.now ls)
-    (user_told _ _ _ _ _ _ _ _ c.symbol_type-symbol_type.ensures c.given_at-given.ensures c.line-at.ensures c.refused_line-refused.ensures))
+    (user_told c.args.t.now.is_raw _ _ _ _ _ _ _ _ c.symbol_type-symbol_type.ensures c.given_at-given.ensures c.plain_line-at.ensures c.plain_refused_line-refused.ensures))
     c.add_user_of.ensures

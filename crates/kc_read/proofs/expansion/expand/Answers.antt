@@ -1,6 +1,7 @@
 use Rattle.std.proofs.Common.{◌≢◌, Ok, Err}
-use Rattle.kc_language.specs.Expansion.{Expands, with_file, bytes_in}
-use Rattle.kc_read.specs.PartsOfExpansion.{nothing_read, root_context}
+use Rattle.kc_language.specs.Expansion.{Expands, first_log}
+use Rattle.kc_read.specs.PartsOfExpansion.{root_context}
+use Rattle.kc_read.specs.Files.{files_in}
 use Rattle.kc_read.specs.LineReads.{cause_of}
 use Rattle.kc_read.specs.RefusalView.{refusal_view}
 use Rattle.kc_language.specs.declared.diagnostics.Cause.TheVariants.{Memory}
@@ -10,25 +11,25 @@ use Rattle.kc_read.proofs.expansion.expand.Goals as goal
 
 pub returns-in-Err-clause-refused : goal.returns-in-Err-clause-refused
 returns-in-Err-clause-refused c = λ ne.
-    expands_refused (bytes_in c.args.map.now) c.args.root.now (cause_of c.in-Err.fault) (refusal_view c.refuse.result) c.in-Err.ensures.fault (c.refuse.ensures.refused ne)
+    expands_refused (files_in c.args.map.now) c.args.root.now (cause_of c.in-Err.fault) (refusal_view c.refuse.result) c.in-Err.ensures.fault (c.refuse.ensures.refused ne)
 
 pub returns-in_err-read_file-clause-refused : goal.returns-in_err-read_file-clause-refused
 returns-in_err-read_file-clause-refused c =
-    let files = bytes_in c.args.map.now in
+    let files = files_in c.args.map.now in
     let root = c.args.root.now in
     let bytes = c.in-Ok.opened.0.now in
-    let state = state_begun c.args.names.now root bytes c.in-Ok.opened.1 c.in-Ok-begin.begun.0 c.in-Ok-begin.begun.1 c.in-Ok-begin.ensures.begun c.in-Ok.ensures.total_lines.0 in
+    let state = state_begun files c.args.names.now root bytes c.in-Ok.opened.1 c.in-Ok-begin.begun.0 c.in-Ok-begin.begun.1 (rw c.is_flat.ensures at c.in-Ok-begin.ensures.begun) c.in-Ok.ensures.total_lines.0 in
     refusal_passed c.from_residual.result (λ r. r.cause ≢ Memory → Expands files root (Err (refusal_view r))) c.in_err-read_file.field-0.0 c.from_residual.ensures.1 (λ ne.
     expands_read files root bytes (Err (refusal_view c.in_err-read_file.field-0.0)) c.in-Ok.ensures.allowed c.in-Ok.ensures.bytes
-    (c.in_err-read_file.ensures.read c.args.names.now (root_context root) (with_file nothing_read root bytes) state ne))
+    (c.in_err-read_file.ensures.read c.args.names.now (root_context root) (first_log files root bytes) state ne))
 
 pub returns-clause-expanded : goal.returns-clause-expanded
 returns-clause-expanded c =
-    let files = bytes_in c.args.map.now in
+    let files = files_in c.args.map.now in
     let root = c.args.root.now in
     let bytes = c.in-Ok.opened.0.now in
-    let state = state_begun c.args.names.now root bytes c.in-Ok.opened.1 c.in-Ok-begin.begun.0 c.in-Ok-begin.begun.1 c.in-Ok-begin.ensures.begun c.in-Ok.ensures.total_lines.0 in
-    let read = c.in_ok-read_file.ensures.read c.args.names.now (root_context root) (with_file nothing_read root bytes) state in (
+    let state = state_begun files c.args.names.now root bytes c.in-Ok.opened.1 c.in-Ok-begin.begun.0 c.in-Ok-begin.begun.1 (rw c.is_flat.ensures at c.in-Ok-begin.ensures.begun) c.in-Ok.ensures.total_lines.0 in
+    let read = c.in_ok-read_file.ensures.read c.args.names.now (root_context root) (first_log files root bytes) state in (
       read.log_now,
       expands_read files root bytes (Ok read.log_now) c.in-Ok.ensures.allowed c.in-Ok.ensures.bytes read.rest,
       record {

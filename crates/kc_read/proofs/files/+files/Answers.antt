@@ -1,7 +1,8 @@
-use Rattle.std.proofs.Common.{◌≡◌, [], None, Ok, sym, ap, ◌∙◌, subst, refl, map, arith}
+use Rattle.std.proofs.Common.{◌≡◌, ◌<◌, [], None, Ok, length, sym, ap, ◌∙◌, subst, refl, map, arith}
 use Rattle.kc_language.specs.Expressions.{all_mentioned, number_of}
 use Rattle.kc_language.specs.Lines.{unread_lines}
-use Rattle.kc_language.specs.Expansion.{NextStatement, context_of, inside, with_file, bytes_in}
+use Rattle.kc_language.specs.Expansion.{NextStatement, context_of, inside, with_file}
+use Rattle.kc_read.specs.Files.{files_in}
 use Rattle.kc_read.specs.LineReads.{cause_of}
 use Rattle.kc_language.specs.declared.statements.EntryKind.TheVariants as entry
 use Rattle.kc_read.specs.declared.statement.Statement.TheVariants as made
@@ -9,7 +10,7 @@ use Rattle.kc_read.specs.Progress.{context_in, HasAdvanced, IsEnded, IsState}
 use Rattle.kc_language.specs.Statements.{SourceLine, names_in_statement}
 use Rattle.kc_expr.proofs.NamesLemmas.{extends_on}
 use Rattle.kc_read.proofs.NameLemmas.{extends_none}
-use Rattle.kc_read.proofs.RestLemmas.{blank_goes, effect_refused, end_refused, ended, file_read, file_refused, goes_on, inside_refused, last_is, next_less, next_clear, next_passed, no_memory, popped, reading_passed, source_goes, source_refused, statement_goes, statement_passed, step_refused}
+use Rattle.kc_read.proofs.RestLemmas.{blank_goes, moved_goes, renumbered_goes, effect_refused, end_refused, ended, file_read, file_refused, goes_on, inside_refused, last_is, next_less, next_clear, next_passed, no_memory, popped, reading_passed, source_goes, source_refused, statement_goes, statement_passed, step_refused}
 use Rattle.kc_read.proofs.HeadLemmas.{is_no_source, no_limit, no_source}
 use Rattle.kc_read.proofs.ShapeLemmas.{source_is}
 use Rattle.kc_read.proofs.StateLemmas.{context_same, state_inside}
@@ -17,21 +18,21 @@ use Rattle.kc_read.proofs.files.+files.Goals as goal
 
 pub read_file-returns-in_err-read_next-clause-read : goal.read_file-returns-in_err-read_next-clause-read
 read_file-returns-in_err-read_next-clause-read t c = λ first a log i.
-    let files = bytes_in c.args.reader.now.map.now in
+    let files = files_in c.args.reader.now.map.now in
     let go = c.loop-tokens.invariant.read first a log i in
     reading_passed files first c.read_next.new.names a (unread_lines c.args.file.now 1)
     log c.read_next.new.progress c.from_residual.result c.in_err-read_next.field-0.0 c.from_residual.ensures.1
     (file_refused files first c.loop-tokens.names a (unread_lines c.args.file.now 1) c.loop-tokens.lines log c.loop-tokens.progress c.loop-tokens.frame c.in_err-read_next.field-0.0 go
-    (c.in_err-read_next.ensures.read first a go.own_now go.log_now go.state))
+    (c.in_err-read_next.ensures.read first go.context_now go.own_now go.log_now go.state))
 
 pub read_file-loop-tokens-preserved : goal.read_file-loop-tokens-preserved
 read_file-loop-tokens-preserved t c = record {
   read = λ first a log i.
-      let files = bytes_in c.args.reader.now.map.now in
+      let files = files_in c.args.reader.now.map.now in
       let go = c.loop-tokens.invariant.read first a log i in
       goes_on files first c.loop-tokens.names c.read_next.new.names a (unread_lines c.args.file.now 1)
       c.loop-tokens.lines c.read_next.new.lines log c.loop-tokens.progress c.read_next.new.progress c.loop-tokens.frame c.read_next.new.frame go
-      (rw c.if-branch.true at (c.in_ok-read_next.ensures.read first a go.own_now go.log_now go.state));
+      (rw c.if-branch.true at (c.in_ok-read_next.ensures.read first go.context_now go.own_now go.log_now go.state));
   clear = c.in_ok-read_next.ensures.clear c.if-branch.true;
   shallow = c.in_ok-read_next.ensures.shallow;
   bounded = c.in_ok-read_next.ensures.bounded;
@@ -41,25 +42,25 @@ read_file-loop-tokens-preserved t c = record {
 
 pub read_file-returns-clause-read : goal.read_file-returns-clause-read
 read_file-returns-clause-read t c = λ first a log i.
-    let files = bytes_in c.args.reader.now.map.now in
+    let files = files_in c.args.reader.now.map.now in
     let go = c.loop-tokens.invariant.read first a log i in
     file_read files first c.loop-tokens.names c.read_next.new.names a (unread_lines c.args.file.now 1)
     c.loop-tokens.lines log c.loop-tokens.progress c.read_next.new.progress c.loop-tokens.frame go
-    (rw c.if-branch.false at (c.in_ok-read_next.ensures.read first a go.own_now go.log_now go.state))
+    (rw c.if-branch.false at (c.in_ok-read_next.ensures.read first go.context_now go.own_now go.log_now go.state))
 
 pub read_next-returns-in_err-next_step-clause-read : goal.read_next-returns-in_err-next_step-clause-read
 read_next-returns-in_err-next_step-clause-read t c = λ first a own log i.
-    let files = bytes_in c.args.reader.now.map.now in
+    let files = files_in c.args.reader.now.map.now in
     let same = context_same first c.args.names.now a own log c.args.frame.now c.args.progress.now (context_in c.args.frame.now c.args.progress.now) i refl refl refl refl in
     next_passed files first c.next_step.new.names a c.args.lines.now c.next_step.new.lines own log c.args.progress.now c.args.frame.now
     c.from_residual.result c.in_err-next_step.field-0.0 c.from_residual.ensures.1
     (step_refused files a c.args.lines.now own log (context_in c.args.frame.now c.args.progress.now)
-    c.args.frame.now.file.value.items c.in_err-next_step.field-0.0 same i.frame.file c.in_err-next_step.ensures.refused)
+    c.args.frame.now.file.value.items c.in_err-next_step.field-0.0 same i.frame.file (rw c.is_flat.ensures at c.in_err-next_step.ensures.refused))
 
 pub read_next-returns-in_err-end-in-End-clause-read : goal.read_next-returns-in_err-end-in-End-clause-read
 read_next-returns-in_err-end-in-End-clause-read t c = λ first a own log i.
-    let files = bytes_in c.args.reader.now.map.now in
-    let step = rw c.in-End.is at c.in_ok-next_step.ensures.step in
+    let files = files_in c.args.reader.now.map.now in
+    let step = rw c.in-End.is at (rw c.is_flat.ensures at c.in_ok-next_step.ensures.step) in
     next_passed files first c.next_step.new.names a c.args.lines.now c.next_step.new.lines own log c.args.progress.now c.args.frame.now
     c.from_residual-in_err-end-in-End.result c.in_err-end-in-End.field-0.0 c.from_residual-in_err-end-in-End.ensures.1
     (λ ne. end_refused files first c.args.names.now a c.args.lines.now own log c.args.progress.now c.args.frame.now c.in_err-end-in-End.field-0.0 i
@@ -67,50 +68,78 @@ read_next-returns-in_err-end-in-End-clause-read t c = λ first a own log i.
 
 pub read_next-returns-in_ok-end-in-End-clause-read : goal.read_next-returns-in_ok-end-in-End-clause-read
 read_next-returns-in_ok-end-in-End-clause-read t c = λ first a own log i.
-    let files = bytes_in c.args.reader.now.map.now in
-    let step = rw c.in-End.is at c.in_ok-next_step.ensures.step in
+    let files = files_in c.args.reader.now.map.now in
+    let step = rw c.in-End.is at (rw c.is_flat.ensures at c.in_ok-next_step.ensures.step) in
     subst (λ ns. IsEnded files first ns a c.args.lines.now own log c.args.progress.now) (sym step.1)
     (ended files first c.args.names.now a c.args.lines.now own log c.args.progress.now c.args.frame.now i step.0 c.in_ok-end-in-End.ensures.closed)
 
 pub read_next-returns-in-Blank-clause-read : goal.read_next-returns-in-Blank-clause-read
 read_next-returns-in-Blank-clause-read t c = λ first a own log i.
-    let files = bytes_in c.args.reader.now.map.now in
-    let step = rw c.in-Blank.is at c.in_ok-next_step.ensures.step in
+    let files = files_in c.args.reader.now.map.now in
+    let step = rw c.in-Blank.is at (rw c.is_flat.ensures at c.in_ok-next_step.ensures.step) in
     subst (λ ns. HasAdvanced files first ns a c.args.lines.now c.next_step.new.lines own log c.args.progress.now c.args.frame.now) (sym step.1)
     (blank_goes files first c.args.names.now a c.args.lines.now c.next_step.new.lines own log c.args.progress.now c.args.frame.now i step.0)
 
 pub read_next-returns-in-Blank-clause-less : goal.read_next-returns-in-Blank-clause-less
-read_next-returns-in-Blank-clause-less t c = λ more. let step = rw c.in-Blank.is at c.in_ok-next_step.ensures.step in next_less c.args.lines.now c.next_step.new.lines [] None step.0
+read_next-returns-in-Blank-clause-less t c = λ more. let step = rw c.in-Blank.is at (rw c.is_flat.ensures at c.in_ok-next_step.ensures.step) in next_less c.args.lines.now c.next_step.new.lines [] None step.0.0
 
 pub read_next-returns-in-Blank-clause-clear : goal.read_next-returns-in-Blank-clause-clear
-read_next-returns-in-Blank-clause-clear t c = λ more. let step = rw c.in-Blank.is at c.in_ok-next_step.ensures.step in next_clear c.args.lines.now c.next_step.new.lines [] None step.0
+read_next-returns-in-Blank-clause-clear t c = λ more. let step = rw c.in-Blank.is at (rw c.is_flat.ensures at c.in_ok-next_step.ensures.step) in next_clear c.args.lines.now c.next_step.new.lines [] None step.0.0
+
+pub read_next-returns-in-Renumbered-clause-read : goal.read_next-returns-in-Renumbered-clause-read
+read_next-returns-in-Renumbered-clause-read t c = λ first a own log i.
+    let files = files_in c.args.reader.now.map.now in
+    let step = rw c.in-Renumbered.is at (rw c.is_flat.ensures at c.in_ok-next_step.ensures.step) in
+    subst (λ ns. HasAdvanced files first ns a c.args.lines.now c.renumber.new.self own log c.args.progress.now c.args.frame.now) (sym step.1)
+    (subst (λ m. HasAdvanced files first c.args.names.now a c.args.lines.now m own log c.args.progress.now c.args.frame.now) (sym c.renumber.ensures)
+    (renumbered_goes files first c.args.names.now a c.args.lines.now c.next_step.new.lines own log c.args.progress.now c.args.frame.now c.in-Renumbered.number
+    c.args.frame.now.file.value.items i i.frame.file step.0))
+
+pub read_next-returns-in-Renumbered-clause-less : goal.read_next-returns-in-Renumbered-clause-less
+read_next-returns-in-Renumbered-clause-less t c = λ more.
+    let step = rw c.in-Renumbered.is at (rw c.is_flat.ensures at c.in_ok-next_step.ensures.step) in
+    subst (λ m. length m.lines < length c.args.lines.now.lines) (sym c.renumber.ensures) (next_less c.args.lines.now c.next_step.new.lines [] None step.0.0)
+
+pub read_next-returns-in-Renumbered-clause-clear : goal.read_next-returns-in-Renumbered-clause-clear
+read_next-returns-in-Renumbered-clause-clear t c = λ more.
+    let step = rw c.in-Renumbered.is at (rw c.is_flat.ensures at c.in_ok-next_step.ensures.step) in
+    subst (λ m. m.refusal ≡ None) (sym c.renumber.ensures) (next_clear c.args.lines.now c.next_step.new.lines [] None step.0.0)
+
+pub read_next-returns-in-Ok-clause-read : goal.read_next-returns-in-Ok-clause-read
+read_next-returns-in-Ok-clause-read t c = λ first a own log i.
+    let files = files_in c.args.reader.now.map.now in
+    let step = rw c.in-Moved.is at (rw c.is_flat.ensures at c.in_ok-next_step.ensures.step) in
+    subst (λ ns. HasAdvanced files first ns a c.args.lines.now c.renumber-in-Moved.new.self own log c.move_to.new.progress c.move_to.new.frame) (sym step.2)
+    (subst (λ m. HasAdvanced files first c.args.names.now a c.args.lines.now m own log c.move_to.new.progress c.move_to.new.frame) (sym c.renumber-in-Moved.ensures)
+    (moved_goes files first c.args.names.now a c.args.lines.now c.next_step.new.lines own log c.args.progress.now c.move_to.new.progress c.args.frame.now c.move_to.new.frame
+    c.in-Moved.number c.in-Moved.name.items c.args.frame.now.file.value.items i i.frame.file step.0 step.1 c.in-Ok.ensures.frame c.in-Ok.ensures.progress))
 
 pub read_next-returns-in_err-read_statement-in-Next-clause-read : goal.read_next-returns-in_err-read_statement-in-Next-clause-read
 read_next-returns-in_err-read_statement-in-Next-clause-read t c = λ first a own log i.
-    let files = bytes_in c.args.reader.now.map.now in
+    let files = files_in c.args.reader.now.map.now in
     let same = context_same first c.args.names.now a own log c.args.frame.now c.args.progress.now (context_in c.args.frame.now c.args.progress.now) i refl refl refl refl in
-    let step = rw c.in-Next.is at c.in_ok-next_step.ensures.step in
+    let step = rw c.in-Next.is at (rw c.is_flat.ensures at c.in_ok-next_step.ensures.step) in
     next_passed files first c.read_statement.new.names a c.args.lines.now c.next_step.new.lines own log c.read_statement.new.progress
     c.read_statement.new.frame c.from_residual-in_err-read_statement-in-Next.result c.in_err-read_statement-in-Next.field-0.0
     c.from_residual-in_err-read_statement-in-Next.ensures.1
     (c.in_err-read_statement-in-Next.ensures.read first c.args.names.now a own log step.0 c.args.lines.now c.next_step.new.lines i step.3
-    (subst (λ k. NextStatement c.args.lines.now c.next_step.new.lines k (Ok step.0)) same step.2) step.1)
+    (subst (λ k. NextStatement c.args.reader.now.map.now.flat c.args.lines.now c.next_step.new.lines k (Ok step.0)) same step.2) step.1)
 
 pub read_next-returns-in_ok-read_statement-in-Next-clause-read : goal.read_next-returns-in_ok-read_statement-in-Next-clause-read
 read_next-returns-in_ok-read_statement-in-Next-clause-read t c = λ first a own log i.
     let same = context_same first c.args.names.now a own log c.args.frame.now c.args.progress.now (context_in c.args.frame.now c.args.progress.now) i refl refl refl refl in
-    let step = rw c.in-Next.is at c.in_ok-next_step.ensures.step in
+    let step = rw c.in-Next.is at (rw c.is_flat.ensures at c.in_ok-next_step.ensures.step) in
     c.in_ok-read_statement-in-Next.ensures.read first c.args.names.now a own log step.0 c.args.lines.now c.next_step.new.lines i step.3
-    (subst (λ k. NextStatement c.args.lines.now c.next_step.new.lines k (Ok step.0)) same step.2) step.1
+    (subst (λ k. NextStatement c.args.reader.now.map.now.flat c.args.lines.now c.next_step.new.lines k (Ok step.0)) same step.2) step.1
 
 pub read_next-returns-in_ok-read_statement-in-Next-clause-less : goal.read_next-returns-in_ok-read_statement-in-Next-clause-less
 read_next-returns-in_ok-read_statement-in-Next-clause-less t c = λ more.
-    let step = rw c.in-Next.is at c.in_ok-next_step.ensures.step in
+    let step = rw c.in-Next.is at (rw c.is_flat.ensures at c.in_ok-next_step.ensures.step) in
     next_less c.args.lines.now c.next_step.new.lines step.2.tokens None step.2.next
 
 pub read_next-returns-in_ok-read_statement-in-Next-clause-clear : goal.read_next-returns-in_ok-read_statement-in-Next-clause-clear
 read_next-returns-in_ok-read_statement-in-Next-clause-clear t c = λ more.
-    let step = rw c.in-Next.is at c.in_ok-next_step.ensures.step in
+    let step = rw c.in-Next.is at (rw c.is_flat.ensures at c.in_ok-next_step.ensures.step) in
     next_clear c.args.lines.now c.next_step.new.lines step.2.tokens None step.2.next
 
 pub read_statement-returns-in-Source-clause-read : goal.read_statement-returns-in-Source-clause-read
@@ -120,18 +149,18 @@ read_statement-returns-in-Source-clause-read t c = λ first known a own log x l 
     let e : x ≡ SourceLine name = source_is (number_of c.args.names.now) name x view in
     let same : c.args.names.now ≡ known = is.mentions ∙ ap (λ y. all_mentioned known (names_in_statement y)) e in
     c.source.ensures.read first a own log l m (subst (λ ns. IsState first ns a own log c.args.progress.now c.args.frame.now) (sym same) i)
-    (subst (λ y. NextStatement l m (context_of a own log) (Ok y)) e next) line
+    (subst (λ y. NextStatement c.args.reader.now.map.now.flat l m (context_of a own log) (Ok y)) e next) line
 
 pub read_statement-returns-in-Ok-clause-read : goal.read_statement-returns-in-Ok-clause-read
 read_statement-returns-in-Ok-clause-read t c = λ first known a own log x l m i is next line.
-    let files = bytes_in c.args.reader.now.map.now in
+    let files = files_in c.args.reader.now.map.now in
     let head = c.in-Head.head in
     statement_goes files first known c.args.names.now a l m own log c.args.frame.now c.take_head.new.frame c.args.progress.now c.take_head.new.progress
     (made.Head head) x c.args.line i (rw c.in-Head.is at is) next line (no_source head) c.in-Ok.ensures.taken c.in-Ok.ensures.allowed
 
 pub read_statement-returns-in-Err-clause-read : goal.read_statement-returns-in-Err-clause-read
 read_statement-returns-in-Err-clause-read t c = λ first known a own log x l m i is next line ne.
-    let files = bytes_in c.args.reader.now.map.now in
+    let files = files_in c.args.reader.now.map.now in
     effect_refused files first known c.args.names.now a l m own log c.args.frame.now c.args.progress.now (made.Head c.in-Head.head) x c.args.line
     c.deref-in-Err.result.now (cause_of c.in-Err.fault) c.refuse.result i (rw c.in-Head.is at is) next line
     (c.deref-in-Err.ensures.value ∙ ap (λ v. v.items) c.deref.ensures ∙ ap (λ r. r.value.items) c.in-Err.ensures.file)
@@ -139,7 +168,7 @@ read_statement-returns-in-Err-clause-read t c = λ first known a own log x l m i
 
 pub read_statement-returns-in-Ok-take_attribute-clause-read : goal.read_statement-returns-in-Ok-take_attribute-clause-read
 read_statement-returns-in-Ok-take_attribute-clause-read t c = λ first known a own log x l m i is next line.
-    let files = bytes_in c.args.reader.now.map.now in
+    let files = files_in c.args.reader.now.map.now in
     let attribute = c.in-Attribute.attribute in
     let read = rw c.in-Attribute.is at is in
     statement_goes files first known c.args.names.now a l m own log c.args.frame.now c.args.frame.now c.args.progress.now c.take_attribute.new.progress
@@ -149,14 +178,14 @@ read_statement-returns-in-Ok-take_attribute-clause-read t c = λ first known a o
 
 pub source-returns-in-Err-clause-read : goal.source-returns-in-Err-clause-read
 source-returns-in-Err-clause-read t c = λ first a own log l m i next line ne.
-    let files = bytes_in c.args.reader.now.map.now in
+    let files = files_in c.args.reader.now.map.now in
     source_refused files first c.args.names.now a l m own log c.args.frame.now c.args.progress.now c.args.name.items c.args.line
     c.deref-in-Err-2.result.now (cause_of c.in-Err.fault) c.refuse.result i next line
     (c.deref-in-Err-2.ensures.value ∙ ap (λ v. v.items) c.deref-in-Err.ensures) (rw c.deref.ensures.value at c.in-Err.ensures.fault) (c.refuse.ensures.refused ne)
 
 pub source-returns-in_err-read_file-clause-read : goal.source-returns-in_err-read_file-clause-read
 source-returns-in_err-read_file-clause-read t c = λ first a own log l m i next line.
-    let files = bytes_in c.args.reader.now.map.now in
+    let files = files_in c.args.reader.now.map.now in
     let name = c.args.name.items in
     let bytes = c.in-Ok.opened.0.now in
     let within = state_inside first c.args.names.now a own log c.args.frame.now c.in-Ok-enter.inside c.args.progress.now c.enter.new.progress name bytes
@@ -168,7 +197,7 @@ source-returns-in_err-read_file-clause-read t c = λ first a own log l m i next 
 
 pub source-returns-clause-read : goal.source-returns-clause-read
 source-returns-clause-read t c = λ first a own log l m i next line.
-    let files = bytes_in c.args.reader.now.map.now in
+    let files = files_in c.args.reader.now.map.now in
     let name = c.args.name.items in
     let bytes = c.in-Ok.opened.0.now in
     let q = c.read_file.new.progress in

@@ -1,7 +1,7 @@
 use Rattle.std.proofs.Common.{[], ◌∷◌, ◌++◌, Some, if◌then◌else◌, refl, ap, sym, ◌∙◌, subst}
 use Rattle.kc_language.specs.Expansion.{entry_of}
 use Rattle.kc_read.specs.Entries.{attribute_line, lines_in, IsLastFile}
-use Rattle.kc_read.specs.Progress.{open_blocks_after}
+use Rattle.kc_read.specs.Progress.{open_blocks_after, openers}
 use Rattle.kc_read.specs.StatementViews.{attribute_view}
 use Rattle.kc_read.proofs.HeadLemmas.{attribute_is, no_bracket}
 use Rattle.kc_read.proofs.files.take_attribute.Goals as goal
@@ -23,6 +23,6 @@ returns-clause-taken c = λ f last.
       file = refl;
       depth = refl;
       in_choice = refl;
-      blocks = ap (λ b. open_blocks_after b c.args.line f.blocks.items) (sym (no_bracket c.args.attribute));
+      blocks = ap (λ b. open_blocks_after b f.file.value.items c.args.line (openers f)) (sym (no_bracket c.args.attribute));
       entry = ap (λ b. if b then f.entry else entry_of (Some (attribute_view c.args.attribute))) (sym (attribute_is c.args.attribute));
     }

@@ -7,5 +7,5 @@ use Rattle.kc_read.proofs.step.next_step.Goals as goal
 pub returns-in-None-clause-step : goal.returns-in-None-clause-step
 returns-in-None-clause-step c =
     let position = c.args.position.now in
-    subst (λ l. IfOk c.next_joined.result (IsStep c.args.names.now c.next_joined.new.names (context_in position.frame.now position.progress.now) l c.next_joined.new.lines))
+    subst (λ l. IfOk c.next_joined.result (IsStep position.is_flat position.frame.now.file.value.items c.args.names.now c.next_joined.new.names (context_in position.frame.now position.progress.now) l c.next_joined.new.lines))
     c.in-None.ensures.none.0 c.next_joined.ensures.step

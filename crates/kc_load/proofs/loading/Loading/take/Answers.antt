@@ -1,19 +1,19 @@
 use Rattle.std.proofs.Common.{ℕ, List, min, ◌+◌, Some, ap, subst, ◌∙◌, if◌then◌else◌}
 use Rattle.kc_language.specs.Expressions.{same_name}
-use Rattle.kc_language.specs.Expansion.{Files}
+use Rattle.kc_load.specs.Asking.{FileBytes}
 use Rattle.kc_read.specs.PartsOfExpansion.{lines_of}
 use Rattle.kc_load.specs.Asking.{AreSources}
 use Rattle.kc_text.specs.PartsOfText.{last_count}
 use Rattle.kc_load.proofs.loading.Loading.take.Goals as goal
 
-pub returns : goal.returns
-returns c =
-    let lists = c.in_ok-push_sources.ensures in
+pub returns-clause-adds : goal.returns-clause-adds
+returns-clause-adds c =
+    let lists = c.in_ok-push_sources.ensures.pushes in
     record {
       names = lists.names;
       sources = subst (λ (bytes : List ℕ). AreSources bytes lists.names) c.deref-2.ensures.value lists.sources;
       waiting_is = lists.waiting_is;
-      puts = λ other. c.in_ok-insert.ensures.ok other ∙ ap (λ (files : Files). if same_name other c.args.name.items then Some c.args.bytes.items else files other) lists.files_are;
+      puts = λ other. c.in_ok-insert.ensures.ok.bytes_are other ∙ ap (λ (files : FileBytes). if same_name other c.args.name.items then Some c.args.bytes.items else files other) lists.files_are;
       requested_are = lists.requested_are;
       lines_are = c.lines_with-lines.ensures ∙ ap (λ bytes. min (c.args.self.now.lines + lines_of bytes) last_count) c.deref.ensures.value;
     }

@@ -21,4 +21,4 @@ returns-in_ok-take-in-Ok-Some-clause-ok g c =
       requested_are = c.in_ok-id.ensures.names ∙ ap (mention c.args.self.now.requested) c.deref-3.ensures.value;
       lines_are = refl;
     })
-    c.in_ok-take-in-Ok-Some.ensures
+    c.in_ok-take-in-Ok-Some.ensures.adds

@@ -3,4 +3,4 @@ use Rattle.kc_read.proofs.ListLemmas.{last_of-get}
 use Rattle.kc_read.proofs.frame.Frame.innermost.Goals as goal
 
 pub returns : goal.returns
-returns c = c.copied.ensures ∙ c.last.ensures.value ∙ ap (λ xs. slice_get xs (length xs - 1)) c.deref.ensures.value ∙ last_of-get c.args.self.now.blocks.items
+returns c = c.last.ensures.value ∙ ap (λ xs. slice_get xs (length xs - 1)) c.deref.ensures.value ∙ last_of-get c.args.self.now.blocks.items

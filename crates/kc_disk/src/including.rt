@@ -1,0 +1,271 @@
+//! Runs whose input files include other files.
+ghost use Rattle.std.specs.Prelude.{◌≡◌, None, length, map, string_bytes, IfOk};
+ghost use Rattle.kc_read.specs.Files.{files_in};
+ghost use Rattle.kc_language.specs.declared.outcome.Status.TheVariants as status;
+ghost use Rattle.kc_conf.specs.Faults.{FolderRuns};
+ghost use Rattle.kc_conf.specs.Many.{RunsEach};
+ghost use Rattle.kc_disk.specs.Program.{GivesPieced, IsPieced, RunsEachIncluding, RunsIncluding};
+
+use kc_conf::{
+    AcceptedTree, Configurations, Options, Status, run_each, run_in_folder, say_load_fault,
+};
+use kc_include::{Inputs, Piece, PiecedDevice, later_names};
+use kc_io::Device;
+use kc_load::{Folder, LoadFault};
+use kc_options::wants_sources;
+use kc_read::file_map::FileMap;
+use kc_words::Each;
+use std::alloc::{AllocError, Global};
+use std::cell::Cell;
+
+// The folder of the files that are included.
+fn folder_of(options: &Options) -> &str {
+    match &options.include {
+        Some(folder) => folder.as_str(),
+        None => "",
+    }
+}
+
+// Reads the input files of these options: the fragments, and then the configurations of these names.
+fn read_inputs<D: Device>(
+    alloc: Global,
+    options: &Options,
+    configurations: &[&str],
+    device: &mut D,
+) -> Result<Inputs, AllocError> {
+    let mut inputs = Inputs::new(alloc, folder_of(options))?;
+    for fragment in &options.fragments {
+        inputs.read(alloc, device, fragment.as_str(), false)?;
+    }
+    for name in configurations {
+        inputs.read(alloc, device, name, !options.must_exist)?;
+    }
+    Ok(inputs)
+}
+
+// The numbers of the input files of a configuration: its own, and those of the fragments.
+fn numbers_of(alloc: Global, own: usize, fragments: usize) -> Result<Vec<usize>, AllocError> {
+    let mut numbers = Vec::new(alloc);
+    numbers.push(own)?;
+    for i in 0..fragments {
+        numbers.push(i)?;
+    }
+    Ok(numbers)
+}
+
+// The pieces of so many configurations, which were read behind so many fragments.
+fn turns_of<'t>(
+    alloc: Global,
+    inputs: &'t Inputs,
+    fragments: usize,
+    configurations: usize,
+) -> Result<Vec<Vec<Piece<'t>>>, AllocError> {
+    let mut turns = Vec::new(alloc);
+    for i in 0..configurations {
+        let numbers = numbers_of(alloc, fragments.saturating_add(i), fragments)?;
+        turns.push(inputs.pieces(alloc, &numbers)?)?;
+    }
+    Ok(turns)
+}
+
+// The options with the pieces of this turn behind the first as fragments.
+fn pieced(
+    alloc: Global,
+    mut options: Options,
+    turns: &[Vec<Piece<'_>>],
+    turn: usize,
+) -> Result<Options, AllocError>
+    ensures { IfOk result (IsPieced options) }
+{
+    options.fragments = match turns.get(turn) {
+        Some(pieces) => later_names(alloc, pieces)?,
+        None => Vec::new(alloc),
+    };
+    Ok(options)
+}
+
+// Says that there is no memory.
+fn say_no_memory<D: Device>(device: &mut D) -> Status
+    ensures { result ≡ status.Faulted }
+{
+    say_load_fault(&LoadFault::Memory, device);
+    Status::Faulted
+}
+
+// The options for pieces that were read, and these.
+fn turn_of<'t>(
+    alloc: Global,
+    options: Options,
+    inputs: &'t Inputs,
+) -> Result<(Options, Vec<Vec<Piece<'t>>>), AllocError>
+    ensures { IfOk result (λ turn. IsPieced options turn.0) }
+{
+    let turns = turns_of(alloc, inputs, options.fragments.len(), 1)?;
+    let options = pieced(alloc, options, &turns, 0)?;
+    Ok((options, turns))
+}
+
+// Runs for pieces with these options.
+fn run_pieces<F: Folder, D: Device>(
+    alloc: Global,
+    folder: &mut F,
+    options: &Options,
+    turns: &[Vec<Piece<'_>>],
+    device: &mut D,
+    kept: &mut Option<AcceptedTree>,
+) -> Status
+    ensures { FolderRuns options.now (F.state folder.old) (F.state folder.new) None None result }
+{
+    let turn = Cell::new(0);
+    let mut pieces = PiecedDevice::new(device, turns, &turn);
+    run_in_folder(alloc, folder, options, &mut pieces, kept)
+}
+
+// Runs over input files that were read.
+fn run_inputs<F: Folder, D: Device>(
+    alloc: Global,
+    folder: &mut F,
+    options: Options,
+    inputs: &Inputs,
+    device: &mut D,
+    kept: &mut Option<AcceptedTree>,
+) -> Status
+    ensures { RunsIncluding options (F.state folder.old) (F.state folder.new) result }
+{
+    match turn_of(alloc, options, inputs) {
+        Ok((options, turns)) => run_pieces(alloc, folder, &options, &turns, device, kept),
+        Err(_) => say_no_memory(device),
+    }
+}
+
+/// Runs over the files of a folder, with the files that lines of the input files include (our own).
+///
+/// The input files and those that they include are read at once, before the tree. Behind that it is what `run_in_folder` of kc_conf
+/// does for the pieces of these files.
+pub(crate) fn run_including<F: Folder, D: Device>(
+    alloc: Global,
+    folder: &mut F,
+    options: Options,
+    device: &mut D,
+    kept: &mut Option<AcceptedTree>,
+) -> Status
+    ensures { RunsIncluding options (F.state folder.old) (F.state folder.new) result }
+{
+    match read_inputs(alloc, &options, &[options.config.as_str()], device) {
+        Ok(inputs) => run_inputs(alloc, folder, options, &inputs, device, kept),
+        Err(_) => say_no_memory(device),
+    }
+}
+
+// The options of each of these configurations, for its pieces.
+#[derive(Drop)]
+struct PiecedConfigurations<'e> {
+    each: &'e Each,
+    names: &'e [String],
+    turns: &'e [Vec<Piece<'e>>],
+    // Whose turn it is.
+    turn: &'e Cell<usize>,
+}
+
+impl<'e> Configurations for PiecedConfigurations<'e> {
+    ghost options = { λ s. GivesPieced s.each.now (map string_bytes s.names.now) };
+
+    ghost number = { λ s. length s.names.now };
+
+    fn count(&self) -> usize {
+        self.names.len()
+    }
+
+    fn options_of(&self, alloc: Global, i: usize) -> Result<Options, AllocError> {
+        self.turn.set(i);
+        let options = self.each.options_for(alloc, self.names[i].as_str())?;
+        pieced(alloc, options, self.turns, i)
+    }
+
+    #[tactic(auto, using(crate::proofs::KeptLemmas::keeps_for_pieces))]
+    fn keeps_sources(&self) -> bool {
+        wants_sources(&self.each.options)
+    }
+}
+
+// The names as texts.
+fn texts_of<'e>(alloc: Global, names: &'e [String]) -> Result<Vec<&'e str>, AllocError> {
+    let mut texts = Vec::new(alloc);
+    for name in names {
+        texts.push(name.as_str())?;
+    }
+    Ok(texts)
+}
+
+// Reads the input files of these configurations.
+fn read_each<D: Device>(
+    alloc: Global,
+    each: &Each,
+    names: &[String],
+    device: &mut D,
+) -> Result<Inputs, AllocError> {
+    let texts = texts_of(alloc, names)?;
+    read_inputs(alloc, &each.options, &texts, device)
+}
+
+// Runs for the pieces of these configurations.
+fn run_each_turn<D: Device>(
+    alloc: Global,
+    files: FileMap,
+    each: &Each,
+    names: &[String],
+    turns: &[Vec<Piece<'_>>],
+    device: &mut D,
+    kept: &mut Option<AcceptedTree>,
+) -> Status
+    ensures { RunsEach (files_in files) (string_bytes each.now.options.kconfig) (GivesPieced each.now (map string_bytes names.now)) (length names.now) None None result }
+{
+    let turn = Cell::new(0);
+    let mut pieces = PiecedDevice::new(device, turns, &turn);
+    let configurations = PiecedConfigurations {
+        each,
+        names,
+        turns,
+        turn: &turn,
+    };
+    let kconfig = each.options.kconfig.as_str();
+    run_each(alloc, files, kconfig, &configurations, &mut pieces, kept)
+}
+
+// Runs for these configurations over input files that were read.
+fn run_each_input<D: Device>(
+    alloc: Global,
+    files: FileMap,
+    each: &Each,
+    names: &[String],
+    inputs: &Inputs,
+    device: &mut D,
+    kept: &mut Option<AcceptedTree>,
+) -> Status
+    ensures { RunsEachIncluding (files_in files) each.now (map string_bytes names.now) result }
+{
+    match turns_of(alloc, inputs, each.options.fragments.len(), names.len()) {
+        Ok(turns) => run_each_turn(alloc, files, each, names, &turns, device, kept),
+        Err(_) => say_no_memory(device),
+    }
+}
+
+/// Runs for these configurations over a map of files, with the files that lines of the input files include (our own).
+///
+/// All input files and those that they include are read at once, before the first turn. Behind that it is what `run_each` of kc_conf
+/// does for the pieces of these files.
+pub(crate) fn run_each_including<D: Device>(
+    alloc: Global,
+    files: FileMap,
+    each: &Each,
+    names: &[String],
+    device: &mut D,
+    kept: &mut Option<AcceptedTree>,
+) -> Status
+    ensures { RunsEachIncluding (files_in files) each.now (map string_bytes names.now) result }
+{
+    match read_each(alloc, each, names, device) {
+        Ok(inputs) => run_each_input(alloc, files, each, names, &inputs, device, kept),
+        Err(_) => say_no_memory(device),
+    }
+}

@@ -1,0 +1,4 @@
+pub mod HintLemmas
+pub mod LineLemmas
+pub mod PageLemmas
+pub mod ShownLemmas

@@ -1,0 +1,5 @@
+pub mod Difference
+pub mod Hints
+pub mod Pages
+pub mod Places
+pub mod Steps

@@ -1,0 +1,18 @@
+-- For proofs: A page of lines that is being filled.
+use Rattle.std.specs.Prelude.{◌≡◌, ◌++◌, ◌-◌, ◌^◌, List, Vec, ℕ, length, min, take}
+use Rattle.std.specs.declared.alloc.Global.{Global}
+use Rattle.kc_display.specs.Difference.{lines_text, most_lines, page_text}
+use Rattle.kc_display.specs.declared.page.Page.{Page}
+
+-- the page shows the first of these lines, and counts them all
+pub record IsPage (lines : List (List ℕ)) (page : Page) : Type 0 where
+  pub text : page.text.items ≡ lines_text (take most_lines lines)
+  pub count : page.count ≡ min (length lines) (2 ^ 64 - 1)
+
+-- these lines were added
+abbrev pub Adds : List (List ℕ) → Page → Page → Type 0
+Adds more old new = (lines : List (List ℕ)) → IsPage lines old → IsPage (lines ++ more) new
+
+-- the text of a page
+abbrev pub IsTextOf : Page → Vec ℕ Global → Type 0
+IsTextOf page text = (lines : List (List ℕ)) → IsPage lines page → text.items ≡ page_text lines

@@ -1,0 +1,4 @@
+mod FormLemmas
+mod NearLemmas
+mod PlaceLemmas
+mod RangeLemmas

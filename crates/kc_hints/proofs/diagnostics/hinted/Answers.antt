@@ -1,0 +1,9 @@
+-- One more line is shown.
+use Rattle.kc_display.proofs.HintLemmas.{shown-next}
+use Rattle.kc_hints.specs.Facts.{hinted_line}
+use Rattle.kc_hints.proofs.diagnostics.hinted.Goals as goal
+
+pub loop-line-preserved : goal.loop-line-preserved
+loop-line-preserved c =
+    shown-next (λ line. line.now) (hinted_line c.args.showing c.args.reason.now c.args.facts.now) c.deref-line-items.result.now c.loop-line.line-index _ c.loop-line.shown.items _
+    c.loop-line-test.true c.loop-line.invariant c.in_ok-add_hinted.ensures

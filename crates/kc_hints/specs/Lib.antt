@@ -1,0 +1,5 @@
+pub mod Facts
+pub mod Near
+pub mod RangeParts
+pub mod FormView
+pub mod Forms

@@ -1,0 +1,10 @@
+use Rattle.std.proofs.Common.{◌≡◌, length}
+use Rattle.kc_include.specs.Included.{without_blanks}
+use Rattle.kc_include.proofs.line.without_blanks.Given as goal
+
+-- blanks were passed
+abbrev pub invariant-blanks : goal.invariant-blanks
+invariant-blanks l = without_blanks l.bytes ≡ without_blanks l.rest
+
+abbrev pub decreases-blanks : goal.decreases-blanks
+decreases-blanks l = length l.rest

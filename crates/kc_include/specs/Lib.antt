@@ -1,0 +1,5 @@
+pub mod Included
+pub mod NameView
+pub mod PartView
+pub mod Limits
+pub mod RestView

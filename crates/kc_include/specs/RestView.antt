@@ -1,0 +1,7 @@
+-- For proofs: What is still to be read of a piece.
+use Rattle.std.specs.Prelude.{List, ℕ}
+use Rattle.kc_include.specs.Included.{read_as}
+use Rattle.kc_include.specs.declared.device.Rest.{Rest}
+
+abbrev pub ahead : Rest → List ℕ
+ahead rest = read_as rest.empty_lines rest.bytes.now

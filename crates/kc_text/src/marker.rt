@@ -1,0 +1,74 @@
+//! The markers of a flat file, as the C preprocessor writes them.
+
+ghost use Rattle.std.specs.Prelude.{◌≡◌, ◌++◌, ◌<◌, ◌^◌, ℕ, List, MatchOption, codes};
+ghost use Rattle.kc_language.specs.Expansion.{IsMarker};
+ghost use Rattle.kc_text.specs.Markers.{IsDigitFront, IsQuotedName};
+
+use crate::numbers::natural;
+use bstr::ByteSlice;
+
+// The number of a line is below this.
+const LINE_NUMBERS: u128 = 1 << 32;
+
+/// What a marker says: the next line is the one of this number of this file.
+#[derive(Clone, Copy, Debug)]
+pub struct Marker<'a> {
+    pub number: u32,
+    pub file: &'a [u8],
+}
+
+// How many decimal digits a text begins with.
+fn digits_len(text: &[u8]) -> usize
+    ensures { IsDigitFront text.now result }
+{
+    let mut n = 0;
+    'digits: while n < text.len() && (text[n] as char).to_digit(10).is_some() {
+        n += 1;
+    }
+    n
+}
+
+// The name, where the text is a blank and the name in double quotes, of which the name holds none.
+fn quoted_name(text: &[u8]) -> Option<&[u8]>
+    ensures { MatchOption result ((name : List ℕ) → IsQuotedName text.now name → ⊥) (λ name. IsQuotedName text.now name.now) }
+{
+    match text {
+        [b' ', b'"', name @ .., b'"'] if name.find_byte(b'"').is_none() => Some(name),
+        _ => None,
+    }
+}
+
+// What stands behind `# ` at the front.
+fn after_sign(line: &[u8]) -> Option<&[u8]>
+    ensures { MatchOption result ((body : List ℕ) → line.now ≡ codes "# " ++ body → ⊥) (λ body. line.now ≡ codes "# " ++ body.now) }
+{
+    match line {
+        [b'#', b' ', body @ ..] => Some(body),
+        _ => None,
+    }
+}
+
+/// The marker that a line is: `# `, a decimal number below 2^32, a blank, and a name in double quotes that holds none. Any
+/// other line is `None`. It takes no memory.
+///
+/// The form is that of the C preprocessor's line markers, without flags.
+pub fn marker_of(line: &[u8]) -> Option<Marker<'_>>
+    ensures { MatchOption result ((n : ℕ) (name : List ℕ) → IsMarker line.now n name → ⊥) (λ m. IsMarker line.now m.number m.file.now) }
+{
+    let body = match after_sign(line) {
+        Some(body) => body,
+        None => return None,
+    };
+    let (digits, rest) = body.split_at(digits_len(body));
+    let file = match quoted_name(rest) {
+        Some(file) => file,
+        None => return None,
+    };
+    match natural(digits, 10, LINE_NUMBERS) {
+        Some(number) => Some(Marker {
+            number: number as u32,
+            file,
+        }),
+        None => None,
+    }
+}

@@ -1,0 +1,10 @@
+.config: \
+ dir/Kconfig \
+ dir/lib/Kconfig \
+ dir/net/Kconfig
+
+dir/Kconfig:
+
+dir/lib/Kconfig:
+
+dir/net/Kconfig:

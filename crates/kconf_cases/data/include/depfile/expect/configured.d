@@ -1,0 +1,13 @@
+.config: \
+ ./Kconfig \
+ board \
+ inc/a.config \
+ inc/b.config
+
+./Kconfig:
+
+board:
+
+inc/a.config:
+
+inc/b.config:

@@ -1,0 +1,3 @@
+CONFIG_S=y
+#include <c.config>
+CONFIG_B=y
