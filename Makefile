@@ -7,9 +7,10 @@ PREFIX ?= /usr/local
 build:
 	cd crates/kconf && rt run -- --help > /dev/null
 
-# Installs the program, the companions, man pages and completions below $(PREFIX). DESTDIR is put before it, for packages.
+# Installs the program, the companions with their module, man pages and completions below $(PREFIX). DESTDIR is put before it, for packages.
 install: build
 	install -D -m 755 -t $(DESTDIR)$(PREFIX)/bin crates/kconf/out/kconf tools/kconf-flatten tools/kconf-tree
+	install -D -m 644 -t $(DESTDIR)$(PREFIX)/lib/kconf tools/kconf_companion.py
 	install -D -m 644 -t $(DESTDIR)$(PREFIX)/share/man/man1 man/kconf.1 man/kconf-flatten.1 man/kconf-tree.1
 	install -D -m 644 -t $(DESTDIR)$(PREFIX)/share/zsh/site-functions completions/_kconf completions/_kconf-flatten completions/_kconf-tree
 	for it in kconf kconf-flatten kconf-tree; do \
@@ -49,7 +50,7 @@ case:
 cases:
 	crates/kconf_cases/run.py $(KCONF)
 
-# Tests the companions on small trees: kconf on their flat files beside kconfiglib on the trees themselves, and kconf-tree.
+# Tests the companions on small trees: kconf --flat on their flat files beside kconfiglib on the trees themselves, and kconf-tree.
 flatten-test: build
 	tools/tests/flatten.py
 	tools/tests/tree.py

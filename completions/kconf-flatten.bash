@@ -5,16 +5,13 @@ _kconf_flatten() {
         --root)
             COMPREPLY=($(compgen -d -- "$word"))
             return ;;
-        --out | --depfile | --record | --where | --missing-ok)
+        --out | --depfile | --record | --missing-ok)
             COMPREPLY=($(compgen -f -- "$word"))
-            return ;;
-        --dollar)
-            COMPREPLY=()
             return ;;
     esac
     if [[ $word == -* ]]; then
         COMPREPLY=($(compgen -W \
-            '--root --relative-source --missing-ok --dollar --out --depfile --record --quiet --where --help' -- "$word"))
+            '--root --relative-source --missing-ok --out --depfile --record --quiet --silent --help' -- "$word"))
     else
         COMPREPLY=($(compgen -f -- "$word"))
     fi

@@ -1,22 +1,24 @@
-# bash completion for kconf-tree
+# bash completion for kconf-tree: its own arguments up to KCONFIG, then those of kconf
 _kconf_tree() {
-    local word=${COMP_WORDS[COMP_CWORD]} before=${COMP_WORDS[COMP_CWORD-1]}
+    local word=${COMP_WORDS[COMP_CWORD]} before=${COMP_WORDS[COMP_CWORD-1]} at
+    for ((at = 1; at < COMP_CWORD; at++)); do
+        case ${COMP_WORDS[at]} in
+            -C | --missing-ok) ((at++)) ;;
+            -* | = | *=*) ;;
+            *)
+                [[ ${COMP_WORDS[at+1]} == = || ${COMP_WORDS[at-1]} == = ]] && continue
+                declare -F _kconf > /dev/null || . "${BASH_SOURCE[0]%/*}/kconf" 2> /dev/null || . "${BASH_SOURCE[0]%/*}/kconf.bash" 2> /dev/null
+                declare -F _kconf > /dev/null && _kconf
+                return ;;
+        esac
+    done
     case $before in
-        --root)
+        -C)
             COMPREPLY=($(compgen -d -- "$word"))
-            return ;;
-        --config | --out | --header | --savedefconfig | --list-new | --list-gone | --depfile | --fragment | --missing-ok)
-            COMPREPLY=($(compgen -f -- "$word"))
-            return ;;
-        --prefix)
-            COMPREPLY=($(compgen -W 'CONFIG_ BR2_' -- "$word"))
-            return ;;
-        --explain | --explain-depth)
             return ;;
     esac
     if [[ $word == -* ]]; then
-        COMPREPLY=($(compgen -W \
-            '--relative-source --missing-ok --root --config --out --header --savedefconfig --list-new --with-help --list-gone --depfile --prefix --must-exist --strict --strict-tree --warn-lost --explain-lost --explain --explain-depth --replace --check --fragment --help --version' -- "$word"))
+        COMPREPLY=($(compgen -W '-C --refresh --verbose --relative-source --missing-ok --help --version' -- "$word"))
     else
         COMPREPLY=($(compgen -f -- "$word"))
     fi

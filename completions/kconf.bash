@@ -2,7 +2,7 @@
 _kconf() {
     local word=${COMP_WORDS[COMP_CWORD]} before=${COMP_WORDS[COMP_CWORD-1]}
     case $before in
-        --root)
+        --root | --include)
             COMPREPLY=($(compgen -d -- "$word"))
             return ;;
         --config | --out | --header | --savedefconfig | --list-new | --list-gone | --depfile | --each-from | --fragment)
@@ -16,7 +16,7 @@ _kconf() {
     esac
     if [[ $word == -* ]]; then
         COMPREPLY=($(compgen -W \
-            '--root --config --out --header --savedefconfig --list-new --with-help --list-gone --depfile --prefix --must-exist --strict --strict-tree --warn-lost --explain-lost --explain --explain-depth --replace --check --each --each-from --fragment --help --version' -- "$word"))
+            '--root --flat --include --config --out --header --savedefconfig --list-new --with-help --list-gone --depfile --prefix --raw-strings --must-exist --strict --strict-tree --quiet-tree --hints --warn-lost --explain-lost --explain --explain-depth --replace --check --diff --each --each-from --fragment --help --version' -- "$word"))
     else
         COMPREPLY=($(compgen -f -- "$word"))
     fi

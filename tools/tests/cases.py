@@ -640,18 +640,7 @@ config SAME
 endmenu
 comment "$"
 """,
-        {"S": (None, '"q"')},
-        told={"literal $": 6}, options=("--dollar", "@"),
-        like="""
-menu "menu "
-config S
-	string "prompt"
-	default "a@b"
-config SAME
-	def_bool S = "a@b"
-endmenu
-comment ""
-"""),
+        {"S": (None, '"q"', '"a$b"')}),
     Case(
         "a condition that is always n",
         """
@@ -772,8 +761,6 @@ config SET
 ]
 
 BAD = [
-    Bad("a literal $ in a value", 'config S\n\tstring "s"\n\tdefault "a$b"\n',
-        "Kconfig:1: error: a $ in \"a$b\""),
     Bad("a file that is not there", 'config A\n\tbool\nsource "none"\n',
         "Kconfig:3: 'none' not found"),
     Bad("a line that is no Kconfig", "config A\n\tbool\n\tfoo bar baz\n",
@@ -827,8 +814,9 @@ BAD = [
         files={"more/other": ""}, status=3),
     Bad("a text with a line feed", 'config S\n\tstring "$(TEXT)"\n',
         "Kconfig:1: error: a text with a line feed", environment={"TEXT": "a\nb"}),
-    Bad("a $ in the text of --dollar", "", "kconf-flatten: error: the TEXT of --dollar contains a $",
-        options=("--dollar", "a$"), status=2),
+    Bad("a command where no file can be made", 'config A\n\tbool "$(shell,echo a)"\n',
+        "Kconfig:2: error: a macro runs a command, and commands cannot make files in /dev/null/none: Not a directory",
+        environment={"TMPDIR": "/dev/null/none"}),
     Bad("a name that make cannot read", 'source "a=b"\n',
         "kconf-flatten: error: make cannot read the name ", files={"a=b": ""},
         options=("--depfile", "/dev/null")),

@@ -1,4 +1,4 @@
-"""What the tests of kconf-flatten share: a tree under kconfiglib, its flat file under kconf."""
+"""What the tests of kconf-flatten share: a tree under kconfiglib, its flat file under kconf --flat."""
 
 import itertools
 import os
@@ -81,7 +81,7 @@ def tree_titles(folder, tree):
 def kconf_lines(folder, flat, config):
     """The lines of the .config that kconf writes for the flat file; None where it is refused."""
     out = os.path.join(folder, "out.config")
-    words = [KCONF, "--root", os.path.dirname(flat), "--config", config, "--out", out]
+    words = [KCONF, "--flat", "--root", os.path.dirname(flat), "--config", config, "--out", out]
     run = subprocess.run([*words, os.path.basename(flat)], text=True, check=False,
                          stdout=subprocess.PIPE, stderr=subprocess.PIPE)
     if run.returncode != 0:

@@ -165,7 +165,7 @@ config SELECTS
 
 
 def run_places():
-    """Messages of kconf get the places of the tree; others stay."""
+    """Diagnostics of kconf have the places of the tree; those of input files stay."""
     with compare.scratch() as folder:
         source, flat = os.path.join(folder, "tree"), os.path.join(folder, "flat")
         compare.write_files(source, {"Kconfig": PLACES_TREE, "more": PLACES_MORE})
@@ -173,16 +173,66 @@ def run_places():
         config = os.path.join(folder, "given.config")
         compare.write_files(folder, {"given.config": "CONFIG_X=y\n"})
         _, notes = compare.kconf_lines(folder, flat, config)
-        words = [compare.PYTHON, compare.FLATTEN, "--where", flat]
-        run = subprocess.run(words, input=notes, text=True, stdout=subprocess.PIPE, check=False)
         expected = [
             "more:9: warning K3: NO_TYPE has no type",
-            "more:14: warning K4: A is not bool or tristate, the select has no effect",
-            "Kconfig:6: warning K6: MEMBER is a choice member, the select has no effect",
+            "more:16: warning K4: A is not bool or tristate, the select has no effect",
+            "Kconfig:8: warning K6: MEMBER is a choice member, the select has no effect",
             f"{config}:1: warning K7: unknown symbol X"]
-        if run.stdout.splitlines() != expected:
-            return [f"{run.stdout.splitlines()} and not {expected}"]
+        if notes.splitlines() != expected:
+            return [f"{notes.splitlines()} and not {expected}"]
     return []
+
+
+# What the source of a tree's own conf holds, and the words of the dialect that it stands for.
+OWN_CONFS = [
+    ({}, "plain"),
+    ({"util/kconfig/confdata.c": """case S_STRING:
+		if (*p++ != '"')
+			break;
+		memmove(p2, p2 + 1, strlen(p2));
+	case S_INT:"""}, "plain"),
+    ({"scripts/kconfig/confdata.c": """case S_STRING:
+		if (*p++ != '"')
+			break;
+	case S_INT:""",
+      "scripts/kconfig/Makefile": "\t$(Q)$(CPP) -nostdinc -P -I $(srctree) -undef -x assembler-with-cpp x -o y\n"},
+     "raw-strings include"),
+    ({"scripts/kconfig/confdata.c": "", "scripts/kconfig/symbol.c": 'newval.val = "0";\n'
+      "static void sym_calc_choice(struct menu *choice)\n"}, "zero new-choices"),
+]
+
+
+def run_dialects():
+    """The first line of the flat file names the dialect of the tree's own conf."""
+    faults = []
+    for files, expected in OWN_CONFS:
+        with compare.scratch() as folder:
+            source, flat = os.path.join(folder, "tree"), os.path.join(folder, "flat")
+            compare.write_files(source, {"Kconfig": "config A\n\tbool\n", **files})
+            compare.flatten(source, flat)
+            with open(flat, encoding="utf-8") as lines:
+                first = next(lines)
+        if first != f"# kconf-flatten {expected}\n":
+            faults.append(f"the first line is {first!r} and not that of {expected}")
+    return faults
+
+
+def run_of_libraries():
+    """kconfiglib is found in an active virtual environment, and another version than 14.1 is refused."""
+    faults = []
+    for version, status in (("(14, 1, 0)", 0), ("(13, 0, 0)", 3)):
+        with compare.scratch() as folder:
+            place = "environment/lib/python3.11/site-packages/kconfiglib.py"
+            with open(compare.kconfiglib.__file__, encoding="utf-8") as file:
+                text = re.sub(r"(?m)^VERSION = .*$", f"VERSION = {version}", file.read())
+            compare.write_files(folder, {place: text, "tree/Kconfig": "config A\n\tbool\n"})
+            words = [compare.PYTHON, "-IS", compare.FLATTEN, "--root", os.path.join(folder, "tree"),
+                     "--out", os.path.join(folder, "flat"), "Kconfig"]
+            environment = {**os.environ, "VIRTUAL_ENV": os.path.join(folder, "environment")}
+            run = subprocess.run(words, env=environment, text=True, capture_output=True, check=False)
+            if run.returncode != status or ("version 14.1 is needed" in run.stderr) != (status == 3):
+                faults.append(f"version {version}: status {run.returncode} and {run.stderr!r}")
+    return faults
 
 
 def run_without_kconfiglib():
@@ -223,7 +273,9 @@ def main():
     for bad in cases.BAD:
         failed += report(bad.name, run_bad(bad), out)
     failed += report("places", run_places(), out)
+    failed += report("dialects", run_dialects(), out)
     failed += report("without kconfiglib", run_without_kconfiglib(), out)
+    failed += report("versions of kconfiglib", run_of_libraries(), out)
     trees, runs, faults = random_trees.run()
     failed += report("random trees", faults, out)
     print(f"{len(cases.CASES)} trees with {all_combinations} combinations, {len(cases.BAD)} refused,"
