@@ -35,7 +35,8 @@ class Bench:
         self.conf = f"{trees}/conf/u-boot-2025.01/conf"
         for folder in ("in", "out", "own"):
             (self.work / folder).mkdir()
-        shutil.copyfile(self.flat, self.work / "Kconfig")
+        # The programs read the flat file as an ordinary tree, in which kconf accepts no $.
+        (self.work / "Kconfig").write_text(pathlib.Path(self.flat).read_text(errors="surrogateescape").replace("$", ""), errors="surrogateescape")
         (self.work / "auto.conf").touch()
         self.boards = [self.preprocessed(path) for path in sorted(self.tree.glob("configs/*_defconfig"))]
 

@@ -267,7 +267,7 @@ def causes():
 def widths():
     """Complaints about lines of more than 120 columns outside tables."""
     lines = ((page, at, line) for page in pages() for at, line in enumerate(read(page).split("\n"), 1))
-    return [f"{page}:{at}: {len(line)} columns" for page, at, line in lines if len(line) > 120 and not line.lstrip().startswith("|")]
+    return [f"{page}:{at}: {len(line)} columns" for page, at, line in lines if len(line) > 120 and not line.startswith("|")]
 
 
 def chart():

@@ -3,9 +3,11 @@
 
 A symbol without a value from the input is new if some line that is added for it changes its value. So each possible line is
 tried: for a bool y and n, for a tristate m too, for a string two texts, for an int or hex many numbers, also with a zero more in
-front. A member of a choice is new if no member was chosen, it has a line in the `.config`, and choosing some member changes which
-one is selected. The lines that are gone are those of the warnings K7, first those that are on. The trees are those of
-bench/fuzz.py. The first difference is printed with its tree, and the status is then 1.
+front. A member of a choice is new if no line chose the selected member, it has a line in the `.config`, and choosing some member
+changes which one is selected. An int or hex whose value is no number has a comment. The list is then read again after the other
+lines: nothing is warned of, the values stay, and only the comments are listed. If a tristate that is new loses its value, no value
+is compared: its default was above its visibility. The lines that are gone are those of the warnings K7, first those that are on.
+The trees are those of bench/fuzz.py. The first difference is printed with its tree, and the status is then 1.
 """
 
 import importlib.util
@@ -71,15 +73,38 @@ def types(text):
 
 
 def given(lines, kinds):
-    """The symbols to which a line gives a value, and those to which one gives y."""
-    values = {}
+    """The symbols to which a line gives a value, and those to which one gives y, in the order of these lines."""
+    values, chosen = {}, []
     for line in lines:
         if match := re.match(r"# CONFIG_(\w+) is not set$", line):
             if kinds.get(match[1]) in ("bool", "tristate"):
                 values.setdefault(match[1], set()).add("n")
         elif (match := re.match(r"CONFIG_(\w+)=(.*)$", line)) and match[1] in kinds and re.match(VALID[kinds[match[1]]], match[2]):
             values.setdefault(match[1], set()).add(match[2][0])
-    return set(values), {name for name, found in values.items() if "y" in found and kinds[name] in ("bool", "tristate")}
+            if match[2][0] == "y" and kinds[match[1]] in ("bool", "tristate"):
+                chosen.append(match[1])
+    return set(values), chosen
+
+
+def listed_line(name, line, kind):
+    """The line of a new symbol in the list."""
+    is_number = kind not in ("int", "hex") or re.match(VALID[kind], line.split("=", 1)[1])
+    return line if is_number else f"# CONFIG_{name} has no value"
+
+
+def fed_back(kconf, folder, lines, values, listed, kinds):
+    """What differs if the list is read after the other lines, or None."""
+    later, told = run(kconf, folder, lines + listed, True)
+    warned = [line for line in told.splitlines() if (match := re.match(r"in:(\d+): ", line)) and int(match[1]) > len(lines)]
+    if warned:
+        return f"the list is warned of: {warned}"
+    names = [match[1] for line in listed if (match := re.match(r"(?:# )?CONFIG_(\w+)(?:=| is not set)", line))]
+    if any(kinds[name] == "tristate" and later.get(name) != values.get(name) for name in names):
+        return None
+    if later != values:
+        return f"with the list: {later}"
+    left, comments = (folder / "new").read_text().splitlines(), [line for line in listed if line.endswith(" has no value")]
+    return f"still listed: {left}" if left != comments else None
 
 
 def compare(kconf, folder, text, lines):
@@ -103,17 +128,19 @@ def compare(kconf, folder, text, lines):
             continue
         if name in choice_of:
             members = choice_of[name]
-            tries = [f"CONFIG_{member}=y" for member in members if not set(members) & chosen]
+            picked = ([name for name in chosen if name in members] or [None])[-1]
+            is_answered = picked is not None and values.get(picked) == f"CONFIG_{picked}=y"
+            tries = [f"CONFIG_{member}=y" for member in members if not is_answered]
             watched = members
         else:
             tries = [f"CONFIG_{name}={answer}" for answer in ANSWERS[kinds[name]]]
             watched = [name]
         now = [values.get(it) for it in watched]
         if any([run(kconf, folder, lines + [tried])[0].get(it) for it in watched] != now for tried in tries):
-            new.append(line)
+            new.append(listed_line(name, line, kinds[name]))
     if listed != new:
         return f"listed {listed}, but by trying {new}", None
-    return None, len(new)
+    return fed_back(kconf, folder, lines, values, listed, kinds), len(new)
 
 
 def main():

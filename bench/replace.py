@@ -10,6 +10,7 @@ allow is skipped, and the reason is printed. The script ends with status 1 if a 
 names it.
 """
 
+import errno
 import os
 import pwd
 import random
@@ -23,6 +24,8 @@ import tempfile
 import threading
 import time
 import traceback
+
+from refusing import FTRUNCATE, refusing
 
 TOP = os.path.dirname(os.path.dirname(os.path.abspath(__file__)))
 KCONF = os.path.abspath(sys.argv[1]) if len(sys.argv) > 1 else TOP + "/crates/kconf/out/kconf"
@@ -371,9 +374,9 @@ def another_users_link_in_a_sticky_folder_is_not_followed(folder):
     want("the files", (folder.get("secret"), folder.get("new")), ("old\n", None))
 
 
-def mounted(folder, script):
+def mounted(folder, script, before=None):
     """Runs a script of the shell, whose $0 is the program, where it may mount."""
-    ran = subprocess.run(["unshare", "-rm", "sh", "-c", script, KCONF], cwd=folder.path, capture_output=True, text=True)
+    ran = subprocess.run(["unshare", "-rm", "sh", "-c", script, KCONF], cwd=folder.path, capture_output=True, text=True, preexec_fn=before)
     if ran.returncode in (1, 77) and ("unshare" in ran.stderr or "mount" in ran.stderr):
         raise Skipped("nothing can be mounted here")
     return ran.returncode, ran.stderr
@@ -399,6 +402,14 @@ def a_file_that_is_mounted_is_written_where_it_lies(folder):
     want("it", mounted(folder, script), (0, ""))
     want("the text", folder.get("real"), folder.get("plain"))
     want("the inode", folder.marks("real")[0][0], before)
+
+
+def a_mounted_file_that_cannot_be_cut_stays(folder):
+    folder.put("real", "old\n")
+    folder.put("place", "")
+    script = 'mount --bind real place || exit 77; "$0" --config none --replace --out place Kconfig'
+    want("it", mounted(folder, script, refusing(FTRUNCATE, errno.EIO)), (3, "error E19: cannot write place\n"))
+    want("the text", folder.get("real"), "old\n")
 
 
 def a_refused_run_leaves_all(folder):
@@ -762,6 +773,7 @@ CHECKS = (
     a_process_substitution_is_written,
     a_regular_file_below_dev_is_replaced,
     a_file_that_is_mounted_is_written_where_it_lies,
+    a_mounted_file_that_cannot_be_cut_stays,
     no_secret_is_copied_over_a_mounted_file,
     no_secret_is_copied_between_file_systems,
     a_read_only_file_system_is_an_error,

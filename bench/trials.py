@@ -11,6 +11,7 @@ Each trial has a folder of its own. The script ends with status 1 where one does
 """
 
 import collections
+import errno
 import os
 import pathlib
 import pty
@@ -24,6 +25,8 @@ import subprocess
 import sys
 import tempfile
 import traceback
+
+from refusing import GETRANDOM, refusing
 
 TOP = pathlib.Path(__file__).resolve().parent.parent
 TREE = 'config A\n\tbool "a"\n\nconfig S\n\tstring "s"\n\tdefault "x"\n'
@@ -44,6 +47,7 @@ FRAGMENTS = 1_100  # more than there are descriptors
 TURNS = 1_000  # of each race
 STACK = 65_536  # bytes of it that suffice
 COLLIDING = 8_000  # names that collide if they are hashed without a key
+NEEDS_OUT = "error: the argument '--config <FILE>' needs '--out <FILE>' where FILE is no regular file\n\nFor more information, try '--help'.\n"
 
 
 class Wrong(Exception):
@@ -532,7 +536,7 @@ def what_was_read_from_a_pipe_is_not_written_there(place):
         for flags in ([], ["--replace"]):
             words = [place.kconf, *flags, "--config", "/dev/stdin", "--header", "h", "Kconfig"]
             ran = subprocess.run(words, cwd=place.path, input=text, capture_output=True, text=True, timeout=20)
-            want("without --out", (ran.returncode, ran.stderr), (3, "error E19: cannot write /dev/stdin\n"))
+            want("without --out", (ran.returncode, ran.stderr), (2, NEEDS_OUT))
             want("the header", place.get("h"), None)
             ran = subprocess.run([*words, "--out", "o"], cwd=place.path, input=text, capture_output=True, text=True, timeout=20)
             want("with --out", (ran.returncode, ran.stderr), (0, ""))
@@ -627,6 +631,13 @@ def names_that_collide_cost_no_more(place):
         spent.append(min(took))
     print(f"  {COLLIDING:,} names took {spent[0]:.3f} s of processor time, and as many that collide without a key {spent[1]:.3f} s")
     want("under three times", spent[1] < 3 * spent[0], True)
+
+
+def without_random_bytes_the_answer_is_the_same(place):
+    words = [place.kconf, "--config", "none", "--out", "o", "Kconfig"]
+    ran = subprocess.run(words, cwd=place.path, capture_output=True, text=True, preexec_fn=refusing(GETRANDOM, errno.ENOSYS))
+    want("it", (ran.returncode, ran.stderr), (0, ""))
+    want("its text", place.get("o"), CONFIG)
 
 
 def the_recipe_for_untrusted_input_writes_into_its_new_folder(place):
@@ -792,6 +803,7 @@ AS_ROOT = (
     a_small_stack_suffices,
     control_bytes_do_not_reach_a_terminal,
     names_that_collide_cost_no_more,
+    without_random_bytes_the_answer_is_the_same,
     the_recipe_for_untrusted_input_writes_into_its_new_folder,
     a_pipe_of_the_tree_has_a_bound,
     help_that_is_not_written_is_told_by_the_status,

@@ -38,7 +38,7 @@ RUN = {
 # The crates of the sums at the end of --run, each with its name.
 PARTS = (
     ("the language", ("kc_language", "kc_options", "kc_conf")),
-    ("the I/O layer and the command line", ("kc_io", "kc_load", "kc_words", "kc_disk")),
+    ("the I/O layer and the command line", ("kc_io", "kc_include", "kc_load", "kc_words", "kc_disk")),
 )
 HEADS = {"-- Trusted: ": True, "-- For proofs: ": False}
 WORD = re.compile(r"[A-Za-z_][\w'«»-]*(?:\.[A-Za-z_0-9][\w'-]*)*")

@@ -1,11 +1,10 @@
-"""All boards of U-Boot: kconf-tree from each board's defconfig, and kconf --each from all, beside U-Boot's own tool, byte for byte."""
+"""All boards of U-Boot by one run of kconf-tree --each, beside U-Boot's own tool: each minimal file byte for byte."""
 
 import concurrent.futures
-import os
 import subprocess
+import time
 
 from conf import AT_ONCE, environment
-from each import Each
 
 
 class Boards:
@@ -13,7 +12,6 @@ class Boards:
 
     def __init__(self, tree, companion, kconf, work):
         self.tree, self.companion, self.kconf, self.work = tree, companion, kconf, work
-        self.ours = {"KCONF": str(kconf), "XDG_CACHE_HOME": str(work / "cache")}
         work.mkdir(parents=True, exist_ok=True)
 
     def made(self, defconfig, end):
@@ -21,10 +19,10 @@ class Boards:
         return self.work / f"{defconfig.name}{end}"
 
     def own(self, defconfig):
-        """The minimal file of U-Boot's own tool, as its Makefile runs it; a later run uses what is there."""
+        """Writes the minimal file of U-Boot's own tool, as its Makefile runs it; a later run uses what is there."""
         generated, full, writing, minimal = (self.made(defconfig, end) for end in (".generated", ".theirs", ".writing", ".theirs.min"))
         if minimal.exists():
-            return minimal.read_bytes()
+            return
         cpp = ["cpp", "-nostdinc", "-P", "-I", ".", "-undef", "-x", "assembler-with-cpp", str(defconfig), "-o", str(generated)]
         self.run(cpp, {})
         auto = self.tree.tool.program.with_name("auto.conf")
@@ -34,15 +32,18 @@ class Boards:
         self.run([str(self.tree.tool.program), f"--savedefconfig={writing}", self.tree.kconfig], settings)
         full.unlink()
         writing.rename(minimal)
-        return minimal.read_bytes()
 
-    def here(self, defconfig):
-        """The minimal file of kconf-tree."""
-        full, minimal = self.made(defconfig, ".ours"), self.made(defconfig, ".ours.min")
-        command = [self.companion, "--must-exist", "--config", str(defconfig), "--out", str(full)]
-        self.run([*command, "--savedefconfig", str(minimal), self.tree.kconfig], {**self.tree.settings, **self.ours})
-        full.unlink()
-        return minimal.read_bytes()
+    def here(self, defconfigs):
+        """Writes the minimal files of all boards by one run of kconf-tree; answers how long it took."""
+        began = time.monotonic()
+        self.each(defconfigs)
+        return time.monotonic() - began
+
+    def each(self, defconfigs):
+        """Runs kconf-tree --each over boards."""
+        (self.work / "names").write_text("".join(f"{path}\n" for path in defconfigs))
+        command = [self.companion, "-C", str(self.tree.folder), self.tree.kconfig, "--each", "--savedefconfig", f"{self.work}/{{/}}.ours.min"]
+        self.run([*command, "--each-from", str(self.work / "names")], {"KCONF": str(self.kconf), "XDG_CACHE_HOME": str(self.work / "cache")})
 
     def run(self, command, settings):
         """Runs a command in the tree; a failure ends the board."""
@@ -50,34 +51,16 @@ class Boards:
         if ran.returncode:
             raise RuntimeError(f"{command[0]}: status {ran.returncode}: {ran.stderr.decode(errors='replace')[-300:]}")
 
-    def one(self, defconfig):
-        """Whether the minimal file of a board is that of its own tool; or what failed."""
-        try:
-            is_same = self.own(defconfig) == self.here(defconfig)
-        except RuntimeError as fault:
-            return str(fault)
-        if is_same:
-            os.unlink(self.made(defconfig, ".ours.min"))
-        return is_same
-
-    def all(self, flat, causes):
-        """Compares all boards and prints the counts; answers whether each minimal file is the same, and all is well with --each."""
+    def all(self, count=None):
+        """Compares all boards, or about that many, and prints the counts; answers whether each minimal file is the same."""
         defconfigs = sorted(self.tree.folder.glob("configs/*_defconfig"))
+        times = self.here(defconfigs), self.here(defconfigs)
+        chosen = defconfigs[:: len(defconfigs) // count] if count else defconfigs
         with concurrent.futures.ThreadPoolExecutor(AT_ONCE) as pool:
-            found = dict(zip(defconfigs, pool.map(self.one, defconfigs)))
-        failed = {path: what for path, what in found.items() if isinstance(what, str)}
-        other = [path for path, is_same in found.items() if not is_same]
-        for path, what in failed.items():
-            print(f"  {path.name}: {what}")
+            list(pool.map(self.own, chosen))
+        other = [path for path in chosen if self.made(path, ".ours.min").read_bytes() != self.made(path, ".theirs.min").read_bytes()]
         for path in other:
             print(f"  {path.name}: the minimal file is another")
-        same = len(found) - len(failed) - len(other)
-        print(f"u-boot: on {same} of {len(found)} boards the minimal file of kconf-tree is byte for byte that of savedefconfig", flush=True)
-        is_well = self.each([path for path in found if path not in failed], flat, causes)
-        return is_well and not failed and not other
-
-    def each(self, defconfigs, flat, causes):
-        """Compares kconf --each over all boards with single runs and with U-Boot's own tool; answers whether all is well."""
-        configurations = {path.name: self.made(path, ".generated").read_bytes() for path in defconfigs}
-        own = {(path.name, "min"): self.made(path, ".theirs.min") for path in defconfigs}
-        return Each(self.tree, self.kconf, flat, self.work / "each").all(configurations, own, causes)
+        print(f"u-boot: one run of kconf-tree --each over {len(defconfigs)} boards took {times[0]:.1f} s and {times[1]:.1f} s; on "
+              f"{len(chosen) - len(other)} of {len(chosen)} boards the minimal file is byte for byte that of savedefconfig", flush=True)
+        return not other

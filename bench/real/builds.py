@@ -107,7 +107,7 @@ def linux(tree, flat, start, folder, known, kconf, library):
     """
     shutil.rmtree(folder, ignore_errors=True)
     folder.mkdir(parents=True)
-    run([str(kconf), "--config", str(start), "--out", ".config", "--header", "kconf.h", "--root", str(flat.parent), flat.name], folder)
+    run([str(kconf), "--flat", "--config", str(start), "--out", ".config", "--header", "kconf.h", "--root", str(flat.parent), flat.name], folder)
     before = dotconfig.lines(folder / ".config")
     make = ["make", "-j", jobs(), f"O={folder}", f"ARCH={tree.settings['ARCH']}", f"CC={tree.settings['CC']}", "HOSTCC=gcc"]
     run([*make, "olddefconfig"], tree.folder)

@@ -4,10 +4,11 @@ import re
 
 
 def lines(path, prefix="CONFIG_"):
-    """The value of each symbol that has a line in a .config, as it stands there; of a line `is not set`, n."""
+    """The value of each symbol that has a line in a .config, as it stands there; of a line `is not set`, n, and of one `has no value`, none."""
     found = {}
     given = re.compile(rf"{prefix}([A-Za-z0-9_]+)=(.*)")
     unset = re.compile(rf"# {prefix}([A-Za-z0-9_]+) is not set")
+    empty = re.compile(rf"# {prefix}([A-Za-z0-9_]+) has no value")
     with open(path, encoding="utf-8", errors="surrogateescape", newline="\n") as file:
         for line in file:
             line = line.rstrip("\n")
@@ -15,6 +16,8 @@ def lines(path, prefix="CONFIG_"):
                 found[match[1]] = match[2]
             elif match := unset.fullmatch(line):
                 found[match[1]] = "n"
+            elif match := empty.fullmatch(line):
+                found[match[1]] = ""
     return found
 
 

@@ -1,6 +1,6 @@
 """`kconf --each` over all configurations of a tree at once: byte for byte what single runs write, and what the tree's own tool does.
 
-A configuration is laid down in the form for kconf, as kconf-tree does it. Then
+Of each configuration
 - each is run alone, with --must-exist, and all are run by --each: full file, header, minimal file and diagnostics (but the names
   before their lines) have to be the same, and the status the greatest of those of the single runs;
 - --each --check has to answer 0 over the files just written, and to name exactly those in which one byte was changed;
@@ -10,49 +10,16 @@ A configuration is laid down in the form for kconf, as kconf-tree does it. Then
 """
 
 import concurrent.futures
-import dataclasses
-import pathlib
-import re
 import shutil
 import subprocess
 
 import texts
 from conf import AT_ONCE, environment
-from trees import DOLLAR
 
 OUTPUTS = {"--out": "config", "--header": "h", "--savedefconfig": "min"}
 FILES = {"config": "full", "min": "minimal"}
 # Every third configuration gets one changed byte in one of its files.
 CHANGED = 3
-
-
-@dataclasses.dataclass
-class Form:
-    """How the strings of a tree's .config are turned for kconf, and back: see Strings in docs/trees.md."""
-
-    is_raw: bool = False
-    has_dollar: bool = False
-
-    def for_kconf(self, text):
-        """The text of a configuration with each string as kconf reads it."""
-
-        def string(found):
-            value = found[2]
-            if self.is_raw:
-                value = value.replace(b"\\", b"\\\\").replace(b'"', b'\\"')
-            if self.has_dollar:
-                value = value.replace(b"$", DOLLAR.encode())
-            return found[1] + b'"' + value + b'"'
-
-        return re.sub(rb'(?m)^(\w+=)"(.*)"(?=\r?$)', string, text)
-
-    def for_tree(self, text):
-        """The text of a written file with each string as the tree's own tool writes it."""
-        if self.has_dollar:
-            text = text.replace(DOLLAR.encode(), b"$")
-        if self.is_raw:
-            text = re.sub(rb'(?m)^(\w+=)"(.*)"$', lambda found: found[1] + b'"' + re.sub(rb"\\(.)", rb"\1", found[2]) + b'"', text)
-        return text
 
 
 class Each:
@@ -61,20 +28,19 @@ class Each:
     def __init__(self, tree, kconf, flat, work):
         self.tree, self.kconf, self.work = tree, kconf, work
         (self.root, self.kconfig), self.names, self.faults = flat, [], []
-        self.form = Form(tree.name == "u-boot", DOLLAR in (tree.flattened or []))
         shutil.rmtree(work, ignore_errors=True)
         for folder in ("in", "alone", "each", "fresh"):
             (work / folder).mkdir(parents=True)
 
     def lay(self, configurations):
-        """Writes the configurations, given by name, in the form for kconf."""
+        """Writes the configurations, given by name."""
         self.names = list(configurations)
         for name, text in configurations.items():
-            (self.work / "in" / name).write_bytes(self.form.for_kconf(text))
+            (self.work / "in" / name).write_bytes(text)
 
     def run(self, *words):
         """Runs kconf: the status and the lines of its diagnostics."""
-        command = [str(self.kconf), "--root", str(self.root), "--prefix", self.tree.prefix, *words]
+        command = [str(self.kconf), "--root", str(self.root), *self.tree.options(), *words]
         ran = subprocess.run(command, cwd=self.work, stdin=subprocess.DEVNULL, capture_output=True, env=environment({}), check=False)
         return ran.returncode, ran.stderr.splitlines(keepends=True)
 
@@ -151,9 +117,7 @@ class Each:
         """Compares with the files of the tree's own tool, given by name and end: how many are the same, and of how many."""
         counts = {}
         for (name, end), path in own.items():
-            made = self.work / f"each/{name}.{end}.tree"
-            made.write_bytes(self.form.for_tree((self.work / f"each/{name}.{end}").read_bytes()))
-            found = texts.differing(made, path)
+            found = texts.differing(self.work / f"each/{name}.{end}", path)
             same, of = counts.get(end, (0, 0))
             counts[end] = same + (not found), of + 1
             for side, line in found:

@@ -15,7 +15,7 @@ import tempfile
 import time
 
 COUNT = 200
-HEAD = re.compile(r"(\w+)(?:=(.*))? \((\w+)\): (.*)|(\w+): not defined, or without a type")
+HEAD = re.compile(r"(\w+)(?:=(.*))? \((\w+)\): (.*)|(\w+): (?:not a symbol, only mentioned|a symbol without a type)")
 FACT = re.compile(r" +(\S+):(\d+): (.*)")
 TARGET = re.compile(r"(not )?(selected|implied) by (\w+)=(\S*?)(?: if (.*))?: ([nmy])")
 
@@ -204,7 +204,7 @@ def explanations(text):
     """The lines about each symbol: those of a symbol that holds another one down lose two spaces."""
     made, is_inside = [], False
     for line in text.splitlines():
-        is_head = re.fullmatch(r"(?:  )?(?:\w+=.* \((?:bool|tristate|string|int|hex)\): .*|\w+: not defined, or without a type)", line)
+        is_head = re.fullmatch(r"(?:  )?(?:\w+=.* \((?:bool|tristate|string|int|hex)\): .*|\w+: (?:not a symbol, only mentioned|a symbol without a type))", line)
         if is_head:
             is_inside = line.startswith("  ")
             made.append([])
@@ -243,7 +243,13 @@ def seconds(command):
 
 
 def all_of(kconf, flat, config, seed):
-    """Checks one tree with one configuration, prints what came, and tells whether nothing is wrong."""
+    """Checks one tree with one configuration, prints what came, and tells whether nothing is wrong.
+
+    kconf reads the flat file without --flat, so that each fact has its line in it. For that no $ may stand in quotes.
+    """
+    text = flat.read_text(errors="surrogateescape").replace("$", "")
+    flat = flat.with_suffix(".plain")
+    flat.write_text(text, errors="surrogateescape")
     facts = Facts(flat, config)
     symbols, lines, wrong = check(kconf, flat, config, facts, [*asked(facts, seed), "--explain-depth", "0"])
     more, more_lines, more_wrong = check(kconf, flat, config, facts, asked(facts, seed + 1))
@@ -260,11 +266,11 @@ def all_of(kconf, flat, config, seed):
 def story(tree, kconf, companion, config, work):
     """Runs the last command of docs/why.md in the tree, and tells whether it prints what the page says."""
     page = (pathlib.Path(__file__).resolve().parents[2] / "docs/why.md").read_text()
-    told = page.rpartition("--explain HYPERV_NET Kconfig\n")[2].partition("```")[0]
+    told = page.rpartition("--explain HYPERV_NET\n")[2].partition("```")[0]
     copy = tree.folder / "config.amd64_none_amd64"
     copy.write_bytes(config.read_bytes())
-    settings = {**os.environ, **tree.settings, "KCONF": str(kconf), "XDG_CACHE_HOME": str(work / "cache")}
-    ran = subprocess.run([companion, "--config", copy.name, "--explain", "HYPERV_NET", "Kconfig"], cwd=tree.folder, stdin=subprocess.DEVNULL,
+    settings = {**os.environ, "KCONF": str(kconf), "XDG_CACHE_HOME": str(work / "cache")}
+    ran = subprocess.run([companion, "Kconfig", "--config", copy.name, "--explain", "HYPERV_NET"], cwd=tree.folder, stdin=subprocess.DEVNULL,
                          capture_output=True, text=True, env=settings, check=False)
     copy.unlink()
     print("  docs/why.md: " + ("as it says" if ran.stdout == told and ran.returncode == 0 else f"differs, status {ran.returncode}\n{ran.stdout}"))

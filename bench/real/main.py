@@ -13,7 +13,9 @@ import builds
 import companion
 import each
 import explain
+import ignored
 import new
+import road
 import trees
 from conf import environment
 from debian import say
@@ -80,11 +82,12 @@ def one_tree(name, place, kconf, known, causes, reasons):
     print(f"{name}: {tree.kconfig}", flush=True)
     root, kconfig = flat(tree, place)
     causes.read(root / kconfig)
-    runs = Runs(tree, kconf, kconf_tree(), (root, kconfig), place.folder / "runs" / name, known)
+    runs = Runs(tree, kconf, (root, kconfig), place.folder / "runs" / name, known)
     summary = told(tree, runs.all(place.none), known, causes)
     configurations, own = runs.given()
     summary.faults += not each.Each(tree, kconf, (root, kconfig), place.folder / "each" / name).all(configurations, own, causes)
-    lists = new.New(tree, kconf, kconf_tree(), (root, kconfig), place.folder / "new" / name)
+    summary.faults += not ignored.Ignored(tree, kconf, (root, kconfig), place.folder / "ignored" / name).all(configurations)
+    lists = new.New(tree, kconf, (root, kconfig), place.folder / "new" / name)
     summary.faults += not lists.all(configurations, own, new.older(name, place), reasons)
     if name in EXPLAINED:
         summary.faults += not explained(tree, place, kconf, root / kconfig)
@@ -129,7 +132,7 @@ def main():
     programs(place)
     library(place)
     known, causes, reasons = Known(), Causes(), new.Reasons()
-    names = sys.argv[1:] or [*trees.TREES, "boards"]
+    names = sys.argv[1:] or [*trees.TREES, "road", "boards"]
     summaries = [one_tree(name, place, kconf, known, causes, reasons) for name in names if name in trees.TREES]
     table(summaries)
     for entry in known.unmet(names) + causes.unmet(names) + reasons.unmet(names):
@@ -144,7 +147,9 @@ def main():
             done.append(companion.trials(trees.TREES[name](place), kconf_tree(), kconf, place.folder / "companion" / name))
     if "boards" in names:
         tree = trees.u_boot(place)
-        done.append(boards.Boards(tree, kconf_tree(), kconf, place.folder / "boards").all(flat(tree, place), causes))
+        done.append(boards.Boards(tree, kconf_tree(), kconf, place.folder / "boards").all())
+    if "road" in names:
+        done.append(road.all_of(place, kconf_tree(), kconf, known))
     sys.exit(not all(done) or any(it.faults or it.unknown_lines or it.differing > it.known for it in summaries))
 
 

@@ -21,7 +21,6 @@ import subprocess
 
 import dotconfig
 from conf import AT_ONCE, environment
-from trees import DOLLAR
 
 CHOICE = re.compile(r"(?ms)^\s*choice$.*?^\s*endchoice$")
 ENTRY = re.compile(r"(?m)^\s*(?:menu)?config (\w+)$")
@@ -90,7 +89,6 @@ class Input:
             "<optional>": members[:1] and members[0].startswith("KCONF_NO_"),
             "<only member>": [member for member in members if member in self.full] == [name],
             "<answered>": any(self.full.get(member) == "y" for member in chosen),
-            "<answered by a hidden member>": chosen and all(member not in self.full for member in chosen),
             "<beside an n>": not chosen and any(self.given.get(member) == "n" for member in members),
         }
         return [word for word, is_so in words.items() if is_so]
@@ -119,24 +117,20 @@ def older(name, place):
 class New:
     """The lists of one tree, in a folder of their own."""
 
-    def __init__(self, tree, kconf, companion, flat, work):
-        self.tree, self.kconf, self.companion, self.work = tree, kconf, companion, work
+    def __init__(self, tree, kconf, flat, work):
+        self.tree, self.kconf, self.work = tree, kconf, work
         self.root, self.kconfig = flat
         files = [self.root / self.kconfig] if tree.flattened is not None else sorted(tree.folder.rglob("Kconfig"))
-        self.facts = Facts.of("\n".join(file.read_text(errors="replace") for file in files))
+        text = "\n".join(file.read_text(errors="replace") for file in files)
+        self.facts = Facts.of(re.sub(r"(?m)^# .*\n", "", text))
         shutil.rmtree(work, ignore_errors=True)
         work.mkdir(parents=True)
 
     def ours(self, start):
         """Runs kconf; the list and the full file."""
         made, full = start.with_suffix(".new"), start.with_suffix(".full")
-        words = ["--prefix", self.tree.prefix, "--config", str(start), "--out", str(full), "--list-new", str(made)]
-        command, told = [str(self.kconf), *words, "--root", str(self.root), self.kconfig], {}
-        if self.tree.flattened is not None:
-            options = [word for word in self.tree.flattened if word not in ("--dollar", DOLLAR)]
-            command = [self.companion, *options, *words, self.tree.kconfig]
-            told = {**self.tree.settings, "KCONF": str(self.kconf), "XDG_CACHE_HOME": str(self.work / "cache")}
-        ran = subprocess.run(command, cwd=self.tree.folder, stdin=subprocess.DEVNULL, capture_output=True, env=environment(told), check=False)
+        words = [*self.tree.options(), "--config", str(start), "--out", str(full), "--list-new", str(made), "--root", str(self.root), self.kconfig]
+        ran = subprocess.run([str(self.kconf), *words], stdin=subprocess.DEVNULL, capture_output=True, env=environment({}), check=False)
         if ran.returncode:
             raise RuntimeError(f"status {ran.returncode}: {ran.stderr.decode(errors='replace').splitlines()[-1:]}")
         return dotconfig.lines(made, self.tree.prefix), dotconfig.lines(full, self.tree.prefix)

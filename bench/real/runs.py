@@ -9,7 +9,6 @@ import subprocess
 import dotconfig
 import texts
 from conf import AT_ONCE, environment
-from trees import DOLLAR
 
 MODES = [("allyesconfig", 0), ("allnoconfig", 0)] + [("randconfig", seed) for seed in range(1, 6)]
 
@@ -47,15 +46,15 @@ class Summary:
 class Runs:
     """The runs of one tree, over its flat file where it has one."""
 
-    def __init__(self, tree, kconf, companion, flat, work, known):
-        self.tree, self.kconf, self.companion, self.work, self.known = tree, kconf, companion, work, known
+    def __init__(self, tree, kconf, flat, work, known):
+        self.tree, self.kconf, self.work, self.known = tree, kconf, work, known
         self.root, self.kconfig = flat
         shutil.rmtree(work, ignore_errors=True)
         work.mkdir(parents=True)
 
     def ours(self, config, made, *more):
         """Runs kconf from one .config to another; its notes where it fails."""
-        command = [str(self.kconf), "--root", str(self.root), "--prefix", self.tree.prefix, "--config", str(config), "--out", f"{made}.config", *more]
+        command = [str(self.kconf), "--root", str(self.root), *self.tree.options(), "--config", str(config), "--out", f"{made}.config", *more]
         ran = subprocess.run([*command, self.kconfig], stdin=subprocess.DEVNULL, capture_output=True, env=environment({}), check=False)
         if ran.returncode:
             return [f"kconf ended with status {ran.returncode}: {ran.stderr.decode(errors='replace').splitlines()[-1:]}"]
@@ -81,10 +80,6 @@ class Runs:
         if pathlib.Path(f"{made}.config").read_bytes() != pathlib.Path(f"{made}.again.config").read_bytes():
             outcome.faults.append("the minimal file does not restore the .config")
 
-    def here(self, config):
-        """The lines of a .config of ours, each literal $ as the tree has it."""
-        return {name: value.replace(DOLLAR, "$") for name, value in dotconfig.lines(config, self.tree.prefix).items()}
-
     def one(self, number, name, none):
         """One run."""
         outcome = Outcome(name)
@@ -96,38 +91,20 @@ class Runs:
             if not outcome.faults:
                 self.files(made, outcome)
                 self.tree.tool.completed(start, theirs)
-                here, there = self.here(f"{made}.config"), dotconfig.lines(theirs, self.tree.prefix)
+                here, there = dotconfig.lines(f"{made}.config", self.tree.prefix), dotconfig.lines(theirs, self.tree.prefix)
                 names, outcome.compared = dotconfig.differing(here, there)
                 outcome.differs = [(symbol, here.get(symbol, "no line"), there.get(symbol, "no line")) for symbol in names]
-                self.bytes(start, made, theirs, outcome)
+                self.bytes(made, theirs, outcome)
         except RuntimeError as error:
             outcome.faults.append(str(error))
         return outcome
 
-    def with_companion(self, start, made, outcome):
-        """Runs kconf-tree from a start, and looks whether it gives the values that the steps by hand gave."""
-        options = [word for word in self.tree.flattened if word not in ("--dollar", DOLLAR)]
-        command = [self.companion, *options, "--prefix", self.tree.prefix, "--config", str(start)]
-        command += ["--out", f"{made}.tree.config", "--savedefconfig", f"{made}.tree.min", self.tree.kconfig]
-        told = {**self.tree.settings, "KCONF": str(self.kconf), "XDG_CACHE_HOME": str(self.work / "cache")}
-        ran = subprocess.run(command, cwd=self.tree.folder, stdin=subprocess.DEVNULL, capture_output=True, env=environment(told), check=False)
-        if ran.returncode:
-            raise RuntimeError(f"kconf-tree ended with status {ran.returncode}: {ran.stderr.decode(errors='replace').splitlines()[-1:]}")
-        by_hand, found = self.here(f"{made}.config"), dotconfig.lines(f"{made}.tree.config", self.tree.prefix)
-        for name in sorted(by_hand.keys() | found.keys()):
-            pair = by_hand.get(name, "no line"), found.get(name, "no line")
-            if pair[0] != pair[1] and not self.known.reason(self.tree.name, name, *pair):
-                outcome.faults.append(f"{name} is {pair[0]} by hand and {pair[1]} by kconf-tree")
-
-    def bytes(self, start, made, theirs, outcome):
+    def bytes(self, made, theirs, outcome):
         """Compares the full and the minimal file byte for byte with those of the tree's own tool."""
-        ours = f"{made}.tree" if self.tree.flattened is not None else str(made)
-        if self.tree.flattened is not None:
-            self.with_companion(start, made, outcome)
-        outcome.files["full"] = texts.differing(f"{ours}.config", theirs)
+        outcome.files["full"] = texts.differing(f"{made}.config", theirs)
         minimal = theirs.with_suffix(".theirs.min")
         if self.tree.tool.minimal(theirs, minimal):
-            outcome.files["minimal"] = texts.differing(f"{ours}.min", minimal)
+            outcome.files["minimal"] = texts.differing(f"{made}.min", minimal)
 
     def given(self):
         """The configurations of the runs by number, and by number and end the full and the minimal files of the tree's own tool."""

@@ -8,9 +8,6 @@ import re
 import conf
 from debian import Debian, say, unpack_archive
 
-# What stands for a literal $ in a flat file; it is turned back before values are compared.
-DOLLAR = "(dollar)"
-
 
 @dataclasses.dataclass
 class Tree:
@@ -24,6 +21,11 @@ class Tree:
     prefix: str = "CONFIG_"
     flattened: list | None = None
     starts: dict = dataclasses.field(default_factory=dict)
+
+    def options(self):
+        """The options of kconf for this tree, or for its flat file."""
+        raw = ["--raw-strings"] if self.name == "u-boot" else []
+        return ["--prefix", self.prefix, *(["--flat", *raw] if self.flattened is not None else [])]
 
 
 class Place:
@@ -95,7 +97,7 @@ def uclibc(place):
     root = "extra/Configs/Config.in"
     tool = conf.Conf(place.conf(folder, "extra/config", ['-DCONFIG_=""']), folder, root, settings, conf.SHORT)
     starts = {f"{path.parent.name}/{path.name}": path for path in sorted(folder.glob("extra/Configs/defconfigs/*/*")) if path.is_file()}
-    return Tree("uclibc", folder, root, tool, settings, prefix="", flattened=["--dollar", DOLLAR], starts=starts)
+    return Tree("uclibc", folder, root, tool, settings, prefix="", flattened=[], starts=starts)
 
 
 def u_boot(place):
@@ -105,14 +107,14 @@ def u_boot(place):
     tool = conf.Conf(place.conf(folder, "scripts/kconfig"), folder, "Kconfig", settings)
     starts = configurations(folder, "configs/*_defconfig")
     starts = [item for item in starts.items() if not re.search(r"(?m)^#include", item[1].read_text(errors="replace"))]
-    return Tree("u-boot", folder, "Kconfig", tool, settings, flattened=["--dollar", DOLLAR], starts=dict(starts[::13]))
+    return Tree("u-boot", folder, "Kconfig", tool, settings, flattened=[], starts=dict(starts[::13]))
 
 
 def coreboot(place):
     folder = place.source("coreboot")
     settings = {"srctree": ".", "top": ".", "obj": "build", "objutil": "build/util", "HOSTCC": "gcc", "KERNELVERSION": "4.15"}
     tool = conf.Conf(place.conf(folder, "util/kconfig"), folder, "src/Kconfig", settings)
-    flattened = ["--missing-ok", "site-local/*", "--dollar", DOLLAR]
+    flattened = ["--missing-ok", "site-local/*"]
     return Tree("coreboot", folder, "src/Kconfig", tool, settings, flattened=flattened, starts=configurations(folder, "configs/config.*"))
 
 
@@ -159,18 +161,24 @@ def linux(place, name, architecture, cross, package):
         config.parent.mkdir(exist_ok=True)
         config.write_bytes(lzma.decompress(packed.read_bytes()))
         starts[packed.stem] = config
-    return Tree(name, folder, "Kconfig", tool, settings, flattened=["--dollar", DOLLAR], starts=starts)
+    return Tree(name, folder, "Kconfig", tool, settings, flattened=[], starts=starts)
 
 
-def linux_new(place):
-    """A kernel whose own conf is newer than 6.12, from Debian's testing release."""
+def linux_new_tree(place):
+    """The source of a kernel whose own conf is newer than 6.12, from Debian's testing release."""
     folder = place.tree("linux-7.2")
     if not folder.exists():
         unpack_archive(place.package("linux-source-7.2", release="forky") / "usr/src/linux-source-7.2.tar.xz", folder)
+    return folder
+
+
+def linux_new(place):
+    """The newest kernel of the tests."""
+    folder = linux_new_tree(place)
     settings = linux_settings(folder, "x86", "")
     program = conf.build(folder / "scripts/kconfig", place.folder / "conf/linux-7.2", ["-I", str(folder / "scripts/include")])
     tool = conf.Conf(program, folder, "Kconfig", settings)
-    return Tree("linux-7.2", folder, "Kconfig", tool, settings, flattened=["--dollar", DOLLAR], starts=configurations(folder, "arch/x86/configs/*"))
+    return Tree("linux-7.2", folder, "Kconfig", tool, settings, flattened=[], starts=configurations(folder, "arch/x86/configs/*"))
 
 
 def linux_x86(place):

@@ -10,7 +10,7 @@
  * whatever KIND says.
  * When the program ends, the file that REPORT names gets one line: how many calls of the kind there were, how many writes
  * standard error took, how many writes to it were to end within a line, how often the file of the refused call had been opened by
- * then, and what that call was for: '<' or '>' and the name of a file that was opened to read or to write, '>' and the place of a
+ * then (for a look by a path: to be read), and what that call was for: '<' or '>' and the name of a file that was opened to read or to write, '>' and the place of a
  * file that was to be moved, or ">&2" for standard error. Each further line names a file that was to be made where none may be, in
  * order, up to the refused call.
  */
@@ -63,7 +63,7 @@ __attribute__((destructor)) static void end(void) {
 /* Keeps which call is refused, and what came before it. */
 static void strike(const char *file) {
     snprintf(struck, sizeof struck, "%s", file);
-    for (int at = 0; at < opened_count; at++) struck_opens += !strcmp(opens[at], file);
+    for (int at = 0; at < opened_count; at++) struck_opens += !strcmp(opens[at], file) || (*opens[at] == '<' && !strcmp(opens[at] + 1, file));
     struck_made = made_count;
 }
 

@@ -52,10 +52,15 @@ def is_repeated(case, kind, struck):
     return kind.name == "interrupted read" and os.path.normpath(struck.lstrip("<")) in tree
 
 
-def error_line(case, kind, struck):
+def is_look_at_input(case, kind, struck, opens):
+    """Whether the call was a look at an input by its path, which comes before it is opened."""
+    return kind.name == "look" and opens == 0 and os.path.normpath(struck) in map(os.path.normpath, case.inputs())
+
+
+def error_line(case, kind, struck, opens):
     """The error line that has to come, and whether it tells of an output."""
     output = output_of(case, struck)
-    is_output = output is not None and not struck.startswith("<")
+    is_output = output is not None and not struck.startswith("<") and not is_look_at_input(case, kind, struck, opens)
     if kind.is_memory():
         return f"{case.lead}error E20: out of memory\n", is_output
     if is_output:
@@ -168,7 +173,7 @@ def judge_left(case, run, kind):
         return "it did not end with status 3, and nothing on standard output"
     if run.struck == ">&2":
         return judge_notes_refused(case, run, kind)
-    line, is_output = error_line(case, kind, run.struck)
+    line, is_output = error_line(case, kind, run.struck, run.opens)
     if not run.notes.endswith(line.encode()):
         return f"its last note is not: {line.strip()}"
     told = run.notes[: len(run.notes) - len(line.encode())]

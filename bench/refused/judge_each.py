@@ -57,7 +57,8 @@ def struck_turns(case, run, kind, notes):
     path = run.struck.lstrip("<>")
     if path in case.fragments:
         readers = [at for at in numbers if case.turns[at].reads_fragments()]
-        return set(readers[run.opens - 1 :] if kind.is_lasting else readers[run.opens - 1 : run.opens])
+        first = run.opens - run.struck.startswith("<")
+        return set(readers[first:] if kind.is_lasting else readers[first : first + 1])
     return {at for at in numbers if path == case.turns[at].name or path in case.alone(case.turns[at]).places()}
 
 
@@ -102,6 +103,16 @@ def judge_undisturbed(alone, left):
     return judge.judge_whole(alone, left, Kind("none"))
 
 
+def judge_later(alone, left, kind):
+    """What is wrong with a turn behind that in which a call was refused, and all later ones for the same file. A file beside its place
+    may have the same name in it."""
+    why = judge_undisturbed(alone, left)
+    found = re.search(rb"E19: cannot write ([^\n]*)\n$", left.notes)
+    if not (why and found and kind.is_lasting and alone.replaces()):
+        return why
+    return judge.judge_left(alone, dataclasses.replace(left, struck=">" + found[1].decode()), kind)
+
+
 def judge_turns(case, run, kind, notes, end):
     """What is wrong with the turns, where memory ran out before that of the number `end`; None where nothing is."""
     struck = struck_turns(case, run, kind, notes)
@@ -114,7 +125,7 @@ def judge_turns(case, run, kind, notes, end):
         elif at in struck:
             why = judge.judge_left(alone, left, kind)
         else:
-            why = judge_undisturbed(alone, left)
+            why = judge_later(alone, left, kind)
         if why:
             return f"{turn.name}: {why}"
         off += not is_over and left.left() != right(alone)

@@ -62,8 +62,9 @@ REPLACING = [
 CLOSED = ["growth", "open", "read", "write"]
 # What each output holds before a run, where the case says nothing else.
 BEFORE = b"from the run before\n"
-# The mode of each file that is there before a run.
-MODE = 0o640
+# The mode of each file that is there before a run, and that of a file that replaces it: its group may do what others may.
+MODE = 0o661
+REPLACED = 0o601
 
 
 def before(case):
@@ -138,12 +139,12 @@ class Run:
         return [str(path.relative_to(self.work)) for path in self.work.rglob("*.kconf-*")]
 
     def is_exposed(self, name):
-        """Whether a file that replaces another, or is to replace it, has another mode. What stands beside may have less access."""
+        """Whether a file that replaces another, or is to replace it, gives other access. What stands beside may give less."""
         output = self.temporary_files.get(name, name)
         if before(self.case).get(output) is None or not (self.work / name).exists():
             return False
         mode = (self.work / name).stat().st_mode & 0o7777
-        return mode != MODE if name == output else bool(mode & ~MODE)
+        return mode not in (MODE, REPLACED) if name == output else bool(mode & ~REPLACED)
 
     def marks(self):
         """What tells one file of an output from another, and when it was written last."""

@@ -127,7 +127,7 @@ static int make_beside(size_t at) {
     file = open(beside[at], O_WRONLY | O_CREAT | O_EXCL, MODE);
     if (file < 0) return beside[at][0] = 0, -1;
     made += 1;
-    has_failed = fchmod(file, 0640) || put(file, output->bytes, output->count) || fsync(file);
+    has_failed = fchmod(file, 0601) || put(file, output->bytes, output->count) || fsync(file);
     close(file);
     return has_failed ? -1 : 0;
 }
