@@ -21,7 +21,8 @@ use Rattle.kc_read.specs.PartsOfExpansion.{symbol_cause, defined, located_number
 use Rattle.kc_language.specs.Statements.{Cause, LineContext, After, begins_with, ReadsLine, ReadsRest, ReadsWhole, ReadsCondition, ReadsValue, ReadsPrompt, finish, is_good_name, keyword_of, keyword_words, operand_of, option_line, placement_cause, plain_text, named_target, text_of, word_of, InputPrompt, Named, Located, numbered, ConfigLine, IfLine, EndIfLine, CommentLine, SourceLine, MenuLine, EndMenuLine, ChoiceLine, EndChoiceLine, MainMenuLine, TypeLine, PromptLine, DefaultLine, DefLine, DependsLine, VisibleLine, SelectLine, ImplyLine, RangeLine, HelpLine, ModulesLine, IgnoredLine, statements}
 use Rattle.kc_read.specs.PartsOfStatements.{ReadsTarget, ReadsType, choice_line, expected}
 use Rattle.kc_language.specs.Statements.{in_place, keyword_or_refusal}
-use Rattle.kc_read.specs.PartsOfStatements.{ReadsPlaced, attribute_words, block_words, left_out_words, type_words, good_name, keyword_in}
+use Rattle.kc_read.specs.PartsOfStatements.{ReadsPlaced, good_name, keyword_in}
+use Rattle.kc_read.proofs.KeywordLemmas.{attribute_words, block_words, left_out_words, type_words}
 use Rattle.kc_read.specs.Progress.{defined_after, naming_cause}
 use Rattle.kc_language.specs.Symbols.{stated_type}
 use Rattle.kc_build.specs.SymbolRows.{AreTypesDefined}

@@ -66,12 +66,21 @@ fn needs_out(alloc: Global) -> UsageError
     }
 }
 
-// Whether one of the arguments begins like the option for the `.config`.
-fn names_config(arguments: &[String]) -> bool {
+// Whether a word may name a `.config` that is a pipe or a terminal: the one behind `--config`, or what stands behind its `=`.
+fn may_have_no_place(rt: &HostRuntime, arguments: &[String]) -> bool {
+    let mut is_next = false;
     for argument in arguments {
-        if argument.as_str().as_bytes().starts_with(b"--config") {
-            return true;
+        let word = argument.as_str();
+        let named = if is_next {
+            Some(word)
+        } else {
+            word.strip_prefix("--config=")
+        };
+        match named {
+            Some(name) if has_no_place(rt, name) => return true,
+            _ => {}
         }
+        is_next = word == "--config";
     }
     false
 }
@@ -90,7 +99,7 @@ fn is_written_in_place(options: &Options) -> bool
 fn writes_where_it_reads(rt: &HostRuntime, arguments: &[String]) -> bool
     ensures { result ≡ true → WritesWhereItReads arguments.now }
 {
-    if !names_config(arguments) {
+    if !may_have_no_place(rt, arguments) {
         return false;
     }
     match request_of(rt.alloc(), arguments) {

@@ -186,9 +186,8 @@ places_given tree places given = record {
       then Some a.symbol else None) given)) 0 places.choices;
 }
 
--- What files gave so far: values, with --warn-lost the line that gave each last and the last whose value was not allowed (K8), and whether all lines
--- were taken as written. With --list-gone the texts of the gone lines, those that are on first. Whether K16 is asked for. And what the names of
--- fragments begin with: with --each the configuration.
+-- What files gave so far: values; with --warn-lost the line that gave each last, the last that was not allowed (K8), and K16; whether all lines were
+-- taken as written; with --list-gone the gone lines, those that are on first; and the configuration, which with --each leads the names of fragments.
 pub record UserInput : Type 0 where
   pub places : Places
   pub lines : List (Option StreamLocation)

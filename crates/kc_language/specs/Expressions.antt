@@ -1,6 +1,5 @@
 -- Trusted: 4. Expressions: the numbers of names, what an expression is and its value, and which tokens form an expression.
--- Sources: the kernel's kconfig-language document ("Menu dependencies") for the grammar and the operators; kconfiglib for comparisons and for
--- a lone `m` of a condition. The numbers of names, leading zeros and the limit of levels are our own.
+-- Sources: the kernel's kconfig-language document ("Menu dependencies"), and kconfiglib for comparisons and a lone `m` of a condition. The rest is our own.
 use Rattle.std.specs.{Char.{is_ascii_alphanumeric}, Cmp.Lexicographic.{slice_cmp}, List.{flat_map, fold, list_any, position_or_len}, Option.{option_to_list}, Ordering.{int_cmp, nat_cmp}, Prelude.{Bool, List, None, Option, Some, [], bytes_eq, codes, false, if◌then◌else◌, is_some, max, pos, suc, true, unwrap_or, ℕ, ℤ, ◌&&◌, ◌++◌, ◌==◌, ◌||◌, ◌∷◌, ◌≡◌, ◌≢◌, ◌≤◌}, declared.cmp.Ordering.{Ordering, TheVariants.{Equal, Greater, Less}}}
 use Rattle.kc_language.specs.{Text.{byte, has_hex_prefix, hex_of, int_of, most_open, unescape}, Tokens.{AQuoted, AWord, AnOp, Lexeme}, declared.{expressions.Connective.{Connective, TheVariants.{And, Or}}, expressions.SymId.SymId, expressions.SymbolType.{SymbolType, TheVariants.{Hex, Int, Str}}, expressions.Tri.{Tri, TheVariants.{M, N, Y}}, tokens.Op.Op}}
 

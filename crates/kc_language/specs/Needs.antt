@@ -14,9 +14,8 @@ module _ (tree : TreeFacts) where
   abbrev pub guarded_names : {X : Type 0} → (X → List SymId) → List (Guarded X) → List SymId
   guarded_names names gs = flat_map (λ g. names g.what ++ condition_names g.when) gs
 
-  -- A symbol with a type names what the conditions of its prompts name, and the values and conditions of its defaults. A bool or tristate also
-  -- names its dependencies, each symbol that selects or implies it with the condition of that line, and, if a tristate, the modules symbol.
-  -- An int or hex also names the bounds and conditions of its ranges.
+  -- A symbol with a type names what its prompts and defaults name. A bool or tristate also names its dependencies, each symbol that selects or
+  -- implies it, with the condition, and, if a tristate, the modules symbol. An int or hex also names the bounds and conditions of its ranges.
   abbrev pub names_of_all : SymbolFacts → List SymId
   names_of_all f = flat_map condition_names f.prompts ++ guarded_names (symbols tree.modules) f.defaults
 

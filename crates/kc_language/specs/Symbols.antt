@@ -243,9 +243,8 @@ module _ (ss : List Numbered) where
   menu_entry_at i = unwrap_or (option_map (λ j. unwrap_or (option_map (begun (choice_number j)) (slice_get ss j)) MenuEntry.Other)
       (last_of (filter (λ j. elim (slice_get ss j) [ None ↦ false | Some s ↦ is_no_attribute s ]) (numbers (suc i))))) MenuEntry.Other
 
-  -- The warnings about statement i, which is s. K1: a type that is not the type of the symbol. K2: a prompt, while another stands among the
-  -- attributes right before it. K3: the first definition of a symbol that is no member of a choice and has no type. K4: a `select` or `imply` of a
-  -- string, int or hex symbol. K5: a default of a choice that names a symbol, but no member. K6: a `select` or `imply` of a member of a choice.
+  -- The warnings about statement i, which is s. K1: a type that is not the symbol's. K2: a prompt after another one of the entry. K3: the first definition
+  -- of a symbol without a type, in no choice. K4, K6: a `select` or `imply` of a text or number, of a choice member. K5: a choice's default that is no member.
   abbrev pub line_warnings : ℕ → Numbered → List LineWarning
   line_warnings i s = flat_map (λ t. flat_map (λ k. when (not (same_type k (type_of t))) (LineWarning.TypeRedefined t)) (listed (stated_type s)))
       (listed (entry_symbol (menu_entry_at i)))

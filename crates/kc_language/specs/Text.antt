@@ -1,5 +1,4 @@
--- Trusted: 1. Text: bytes, limits, escapes and numbers.
--- Our own: the public documents are silent on these. A text is a list of bytes, and `byte "A"` is the one byte of `A`, 65.
+-- Trusted: 1. Text: bytes, limits, escapes and numbers, all our own. A text is a list of bytes, and `byte "A"` is the one byte of `A`, 65.
 use Rattle.std.specs.{Char.{is_digit}, List.{flat_map, list_all}, Prelude.{Bool, List, None, Option, Some, [], codes, drop, if◌then◌else◌, length, nat_lt, neg_ℤ, option_map, pos, slice_index, ℕ, ℤ, ◌&&◌, ◌++◌, ◌+◌, ◌==◌, ◌^◌, ◌||◌, ◌∷◌, ◌≡◌}, Str.Parse.{digits_value, starts_with_minus}}
 use Prim.Native.String.{String}
 

@@ -241,8 +241,7 @@ pub record HasPlainTitles (tree : TreeFacts) (prefix : List ℕ) (solution : Sol
   pub main_menu : IsNotUnsetLine prefix (codes "# " ++ tree.main_menu)
   pub entries : (i : ℕ) (e : Shown) → slice_get tree.entries i ≡ Some e → HasPlainTitle prefix solution e
 
--- With plain numbers and titles, reading the `.config` gives the solution back if and only if no symbol changes on rereading: no visible tristate
--- outside a choice is above both its visibility and what it is selected to.
+-- With plain numbers and titles, reading the `.config` gives the solution back if and only if no symbol changes on rereading (`changes_on_reread`).
 abbrev pub ConfigGivesBack : TreeFacts → Notation → Places → (ℕ → SymbolValue) → Type 0
 ConfigGivesBack tree notation places V =
     HasPlainNumbers tree V → HasPlainTitles tree notation.prefix (valuation_view tree (place_at places) V) → (stream : List ℕ) →

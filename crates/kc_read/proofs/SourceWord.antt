@@ -11,10 +11,10 @@ use Rattle.kc_language.specs.declared.statements.Keyword.TheVariants as key
 use Rattle.kc_language.specs.Statements.{Named, InputPrompt, IfLine, EndIfLine, CommentLine, SourceLine, MenuLine, EndMenuLine, EndChoiceLine, MainMenuLine, TypeLine, PromptLine, DefaultLine, DefLine, DependsLine, VisibleLine, SelectLine, ImplyLine, RangeLine, HelpLine, ModulesLine, ConfigLine, IgnoredLine, Cause, LineContext, After, ReadsWhole, ReadsCondition, ReadsTextLine, ReadsSource, ReadsPrompt, ReadsValue, ReadsRest, ReadsLine, finish, text_of, word_of, named_target, operand_of, is_good_name, option_line, keyword_of, placement_cause, begins_with}
 use Rattle.kc_read.specs.PartsOfStatements.{ReadsConfig, ReadsType, ReadsTarget, choice_line, expected}
 use Rattle.kc_language.specs.Statements.{keyword_or_refusal, in_place}
-use Rattle.kc_read.specs.PartsOfStatements.{ReadsRange, ReadsPlaced, good_name, block_words, type_words, attribute_words, left_out_words, keyword_in}
+use Rattle.kc_read.specs.PartsOfStatements.{ReadsRange, ReadsPlaced, good_name, keyword_in}
 use Rattle.kc_language.specs.declared.diagnostics.Cause.TheVariants as cause
 use Rattle.kc_read.proofs.FileLemmas.{same_name_eq}
-use Rattle.kc_read.proofs.KeywordLemmas.{keyword_in_turn}
+use Rattle.kc_read.proofs.KeywordLemmas.{attribute_words, block_words, left_out_words, type_words, keyword_in_turn}
 use Rattle.kc_read.proofs.OneExpansion.{source_line}
 
 -- ---- The word

@@ -13,6 +13,8 @@ use Rattle.kc_language.specs.Tokens.{Lexeme}
 use Rattle.kc_language.specs.declared.tokens.TextFault.{TextFault}
 use Rattle.kc_language.specs.declared.tokens.TextFault.TheVariants as fault
 use Rattle.kc_read.specs.RefusalView.{refusal_view}
+use Rattle.kc_read.specs.Progress.{context_in}
+use Rattle.kc_read.specs.declared.reader.Position.{Position}
 
 -- the number of a line that is too long
 abbrev pub long_line : TextFault → ℕ
@@ -37,6 +39,10 @@ IsStep flat file known names c old new (step.Renumbered n) = MarksNext flat old 
 IsStep flat file known names c old new (step.Moved n name) = MarksNext flat old new n name.items × (same_name name.items file ≡ false) × (names ≡ known)
 IsStep flat file known names c old new (step.Next n s) = (x : Named) × (n ≡ old.number) × NextStatement flat old new c (Ok x) × IsMade known names s x
 
+-- the same at a position: in its tree and its file, after what was read
+abbrev pub IsStepAt : Position → List (List ℕ) → List (List ℕ) → UnreadLines → UnreadLines → Step → Type 0
+IsStepAt p known names old new s = IsStep p.is_flat p.frame.now.file.value.items known names (context_in p.frame.now p.progress.now) old new s
+
 -- the first fault of the line
 pub data StepFault (flat : Bool) (c : LineContext) (old : UnreadLines) : Cause → Type 0 where
   too_long : IsTooLong old → StepFault flat c old cause.LineTooLong
@@ -45,3 +51,6 @@ pub data StepFault (flat : Bool) (c : LineContext) (old : UnreadLines) : Cause �
 
 abbrev pub IsStepRefusal : Bool → List ℕ → LineContext → UnreadLines → Refusal → Type 0
 IsStepRefusal flat file c old r = r.cause ≢ cause.Memory → (why : Cause) × StepFault flat c old why × (refusal_view r ≡ refused why file old.number)
+
+abbrev pub IsStepRefusalAt : Position → UnreadLines → Refusal → Type 0
+IsStepRefusalAt p old r = IsStepRefusal p.is_flat p.frame.now.file.value.items (context_in p.frame.now p.progress.now) old r

@@ -1,9 +1,9 @@
 -- Trusted: Parts of the definitions of Statements, by names of their own.
-use Rattle.std.specs.List.{list_any}
+use Rattle.std.specs.List.{filter, list_any}
 use Rattle.std.specs.Map.{lookup}
-use Rattle.std.specs.Prelude.{Bool, Err, List, None, Ok, Option, Result, Some, [], codes, drop, false, if◌then◌else◌, true, ℕ, ◌==◌, ◌||◌, ◌∷◌, ◌≡◌, ◌⊎◌}
+use Rattle.std.specs.Prelude.{Bool, Err, List, None, Ok, Option, Result, Some, [], codes, drop, false, if◌then◌else◌, length, nat_le, true, ℕ, ◌==◌, ◌||◌, ◌∷◌, ◌≡◌, ◌⊎◌}
 use Rattle.kc_language.specs.Expressions.{Disjunction, Form, if_word, same_name}
-use Rattle.kc_language.specs.Statements.{After, Cause, ChoiceLine, ConfigLine, DependsLine, Front, IsMore, LineContext, Named, RangeLine, ReadsCondition, ReadsPrompt, ReadsRest, ReadsWhole, StartsExpression, TypeLine, VisibleLine, begins_with, finish, in_place, is_good_name, named_target, operand_of, placement_cause, word_of}
+use Rattle.kc_language.specs.Statements.{After, Cause, ChoiceLine, ConfigLine, DependsLine, Front, IsMore, LineContext, Named, RangeLine, ReadsCondition, ReadsPrompt, ReadsRest, ReadsWhole, StartsExpression, TypeLine, VisibleLine, begins_with, finish, in_place, is_good_name, keyword_words, named_target, operand_of, placement_cause, word_of}
 use Rattle.kc_language.specs.Text.{byte}
 use Rattle.kc_language.specs.Tokens.{Lexeme}
 use Rattle.kc_language.specs.declared.expressions.SymbolType.{SymbolType}
@@ -36,63 +36,27 @@ help_word = codes "help"
 abbrev pub old_help_word : List ℕ
 old_help_word = codes "---help---"
 
--- the words that begin a line: of blocks and entries
-abbrev pub block_words : List (List ℕ × Keyword)
-block_words =
-    (codes "config", key.Config) ∷
-    (codes "menuconfig", key.Config) ∷
-    (if_word, key.If) ∷
-    (codes "endif", key.EndIf) ∷
-    (codes "comment", key.Comment) ∷
-    (source_word, key.Source) ∷
-    (codes "menu", key.Menu) ∷
-    (codes "endmenu", key.EndMenu) ∷
-    (codes "choice", key.Choice) ∷
-    (codes "endchoice", key.EndChoice) ∷
-    (codes "mainmenu", key.MainMenu) ∷
-    []
+-- the words that may begin a line, of a length that passes
+abbrev pub words_of_length : (ℕ → Bool) → List (List ℕ × Keyword)
+words_of_length passes = filter (λ k. passes (length k.0)) keyword_words
 
--- of types
-abbrev pub type_words : List (List ℕ × Keyword)
-type_words =
-    (codes "bool", key.Type symbol_type.Bool) ∷
-    (codes "tristate", key.Type symbol_type.Tristate) ∷
-    (codes "string", key.Type symbol_type.Str) ∷
-    (codes "int", key.Type symbol_type.Int) ∷
-    (codes "hex", key.Type symbol_type.Hex) ∷
-    (codes "def_bool", key.Def symbol_type.Bool) ∷
-    (codes "def_tristate", key.Def symbol_type.Tristate) ∷
-    []
+abbrev pub short_words : List (List ℕ × Keyword)
+short_words = words_of_length (λ n. nat_le n 4)
 
--- of attributes
-abbrev pub attribute_words : List (List ℕ × Keyword)
-attribute_words =
-    (codes "default", key.Default) ∷
-    (codes "depends", key.Depends) ∷
-    (help_word, key.Help) ∷
-    (codes "select", key.Select) ∷
-    (codes "prompt", key.Prompt) ∷
-    (codes "imply", key.Imply) ∷
-    (codes "range", key.Range) ∷
-    (codes "visible", key.Visible) ∷
-    (modules_word, key.Modules) ∷
-    (codes "option", key.«Option») ∷
-    (old_help_word, key.Help) ∷
-    []
+abbrev pub five_words : List (List ℕ × Keyword)
+five_words = words_of_length (λ n. n == 5)
 
--- of what is left out
-abbrev pub left_out_words : List (List ℕ × Keyword)
-left_out_words =
-    (codes "rsource", key.LeftOut) ∷
-    (codes "osource", key.LeftOut) ∷
-    (codes "orsource", key.LeftOut) ∷
-    (codes "boolean", key.LeftOut) ∷
-    (codes "def_int", key.LeftOut) ∷
-    (codes "def_hex", key.LeftOut) ∷
-    (codes "def_string", key.LeftOut) ∷
-    (codes "transitional", key.LeftOut) ∷
-    (codes "optional", key.LeftOut) ∷
-    []
+abbrev pub six_words : List (List ℕ × Keyword)
+six_words = words_of_length (λ n. n == 6)
+
+abbrev pub seven_words : List (List ℕ × Keyword)
+seven_words = words_of_length (λ n. n == 7)
+
+abbrev pub eight_words : List (List ℕ × Keyword)
+eight_words = words_of_length (λ n. n == 8)
+
+abbrev pub long_words : List (List ℕ × Keyword)
+long_words = words_of_length (λ n. nat_le 9 n)
 
 -- the kinds of an entry: a menu's, and any of a symbol's, a choice's, a menu's or a comment's
 abbrev pub is_menu : EntryKind → Bool

@@ -16,100 +16,84 @@ pub(crate) fn same_word(word: &[u8], other: &[u8]) -> bool
     word.len() == other.len() && word == other
 }
 
-// The words that begin statements.
-fn block_word(word: &[u8]) -> Option<Keyword>
-    ensures { result ≡ spec_parts.keyword_in spec_parts.block_words word.now }
+// The words of four bytes or fewer.
+fn short_word(word: &[u8]) -> Option<Keyword>
+    ensures { result ≡ spec_parts.keyword_in spec_parts.short_words word.now }
 {
-    if same_word(word, b"config") {
-        Some(Keyword::Config)
-    } else if same_word(word, b"menuconfig") {
-        Some(Keyword::Config)
-    } else if same_word(word, b"if") {
-        Some(Keyword::If)
-    } else if same_word(word, b"endif") {
-        Some(Keyword::EndIf)
-    } else if same_word(word, b"comment") {
-        Some(Keyword::Comment)
-    } else if same_word(word, b"source") {
-        Some(Keyword::Source)
-    } else if same_word(word, b"menu") {
-        Some(Keyword::Menu)
-    } else if same_word(word, b"endmenu") {
-        Some(Keyword::EndMenu)
-    } else if same_word(word, b"choice") {
-        Some(Keyword::Choice)
-    } else if same_word(word, b"endchoice") {
-        Some(Keyword::EndChoice)
-    } else if same_word(word, b"mainmenu") {
-        Some(Keyword::MainMenu)
-    } else {
-        None
-    }
-}
-
-// The words that begin types.
-fn type_word(word: &[u8]) -> Option<Keyword>
-    ensures { result ≡ spec_parts.keyword_in spec_parts.type_words word.now }
-{
-    if same_word(word, b"bool") {
+    if same_word(word, b"help") {
+        Some(Keyword::Help)
+    } else if same_word(word, b"bool") {
         Some(Keyword::Type(SymbolType::Bool))
-    } else if same_word(word, b"tristate") {
-        Some(Keyword::Type(SymbolType::Tristate))
-    } else if same_word(word, b"string") {
-        Some(Keyword::Type(SymbolType::Str))
     } else if same_word(word, b"int") {
         Some(Keyword::Type(SymbolType::Int))
     } else if same_word(word, b"hex") {
         Some(Keyword::Type(SymbolType::Hex))
-    } else if same_word(word, b"def_bool") {
-        Some(Keyword::Def(SymbolType::Bool))
-    } else if same_word(word, b"def_tristate") {
-        Some(Keyword::Def(SymbolType::Tristate))
+    } else if same_word(word, b"if") {
+        Some(Keyword::If)
+    } else if same_word(word, b"menu") {
+        Some(Keyword::Menu)
     } else {
         None
     }
 }
 
-// The words that begin other attributes.
-fn attribute_word(word: &[u8]) -> Option<Keyword>
-    ensures { result ≡ spec_parts.keyword_in spec_parts.attribute_words word.now }
+// The words of five bytes.
+fn word_of_five(word: &[u8]) -> Option<Keyword>
+    ensures { result ≡ spec_parts.keyword_in spec_parts.five_words word.now }
+{
+    if same_word(word, b"imply") {
+        Some(Keyword::Imply)
+    } else if same_word(word, b"range") {
+        Some(Keyword::Range)
+    } else if same_word(word, b"endif") {
+        Some(Keyword::EndIf)
+    } else {
+        None
+    }
+}
+
+// The words of six bytes.
+fn word_of_six(word: &[u8]) -> Option<Keyword>
+    ensures { result ≡ spec_parts.keyword_in spec_parts.six_words word.now }
+{
+    if same_word(word, b"select") {
+        Some(Keyword::Select)
+    } else if same_word(word, b"prompt") {
+        Some(Keyword::Prompt)
+    } else if same_word(word, b"option") {
+        Some(Keyword::Option)
+    } else if same_word(word, b"string") {
+        Some(Keyword::Type(SymbolType::Str))
+    } else if same_word(word, b"config") {
+        Some(Keyword::Config)
+    } else if same_word(word, b"source") {
+        Some(Keyword::Source)
+    } else if same_word(word, b"choice") {
+        Some(Keyword::Choice)
+    } else {
+        None
+    }
+}
+
+// The words of seven bytes.
+fn word_of_seven(word: &[u8]) -> Option<Keyword>
+    ensures { result ≡ spec_parts.keyword_in spec_parts.seven_words word.now }
 {
     if same_word(word, b"default") {
         Some(Keyword::Default)
     } else if same_word(word, b"depends") {
         Some(Keyword::Depends)
-    } else if same_word(word, b"help") {
-        Some(Keyword::Help)
-    } else if same_word(word, b"select") {
-        Some(Keyword::Select)
-    } else if same_word(word, b"prompt") {
-        Some(Keyword::Prompt)
-    } else if same_word(word, b"imply") {
-        Some(Keyword::Imply)
-    } else if same_word(word, b"range") {
-        Some(Keyword::Range)
     } else if same_word(word, b"visible") {
         Some(Keyword::Visible)
     } else if same_word(word, b"modules") {
         Some(Keyword::Modules)
-    } else if same_word(word, b"option") {
-        Some(Keyword::Option)
-    } else if same_word(word, b"---help---") {
-        Some(Keyword::Help)
-    } else {
-        None
-    }
-}
-
-// The words that are left out.
-fn left_out_word(word: &[u8]) -> Option<Keyword>
-    ensures { result ≡ spec_parts.keyword_in spec_parts.left_out_words word.now }
-{
-    if same_word(word, b"rsource") {
+    } else if same_word(word, b"comment") {
+        Some(Keyword::Comment)
+    } else if same_word(word, b"endmenu") {
+        Some(Keyword::EndMenu)
+    } else if same_word(word, b"rsource") {
         Some(Keyword::LeftOut)
     } else if same_word(word, b"osource") {
-        Some(Keyword::LeftOut)
-    } else if same_word(word, b"orsource") {
         Some(Keyword::LeftOut)
     } else if same_word(word, b"boolean") {
         Some(Keyword::LeftOut)
@@ -117,9 +101,22 @@ fn left_out_word(word: &[u8]) -> Option<Keyword>
         Some(Keyword::LeftOut)
     } else if same_word(word, b"def_hex") {
         Some(Keyword::LeftOut)
-    } else if same_word(word, b"def_string") {
-        Some(Keyword::LeftOut)
-    } else if same_word(word, b"transitional") {
+    } else {
+        None
+    }
+}
+
+// The words of eight bytes.
+fn word_of_eight(word: &[u8]) -> Option<Keyword>
+    ensures { result ≡ spec_parts.keyword_in spec_parts.eight_words word.now }
+{
+    if same_word(word, b"tristate") {
+        Some(Keyword::Type(SymbolType::Tristate))
+    } else if same_word(word, b"def_bool") {
+        Some(Keyword::Def(SymbolType::Bool))
+    } else if same_word(word, b"mainmenu") {
+        Some(Keyword::MainMenu)
+    } else if same_word(word, b"orsource") {
         Some(Keyword::LeftOut)
     } else if same_word(word, b"optional") {
         Some(Keyword::LeftOut)
@@ -128,18 +125,37 @@ fn left_out_word(word: &[u8]) -> Option<Keyword>
     }
 }
 
-/// What a first word says. Most lines are attributes, so their words are looked at first.
+// The words of nine bytes or more.
+fn long_word(word: &[u8]) -> Option<Keyword>
+    ensures { result ≡ spec_parts.keyword_in spec_parts.long_words word.now }
+{
+    if same_word(word, b"---help---") {
+        Some(Keyword::Help)
+    } else if same_word(word, b"def_tristate") {
+        Some(Keyword::Def(SymbolType::Tristate))
+    } else if same_word(word, b"menuconfig") {
+        Some(Keyword::Config)
+    } else if same_word(word, b"endchoice") {
+        Some(Keyword::EndChoice)
+    } else if same_word(word, b"def_string") {
+        Some(Keyword::LeftOut)
+    } else if same_word(word, b"transitional") {
+        Some(Keyword::LeftOut)
+    } else {
+        None
+    }
+}
+
+/// What a first word says. Its length leaves few words that it may be.
 pub(crate) fn keyword_of(word: &[u8]) -> Option<Keyword>
     ensures { result ≡ spec.keyword_of word.now }
 {
-    if let Some(keyword) = attribute_word(word) {
-        return Some(keyword);
+    match word.len() {
+        0..=4 => short_word(word),
+        5 => word_of_five(word),
+        6 => word_of_six(word),
+        7 => word_of_seven(word),
+        8 => word_of_eight(word),
+        _ => long_word(word),
     }
-    if let Some(keyword) = type_word(word) {
-        return Some(keyword);
-    }
-    if let Some(keyword) = block_word(word) {
-        return Some(keyword);
-    }
-    left_out_word(word)
 }

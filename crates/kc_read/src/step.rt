@@ -7,9 +7,8 @@ ghost use Rattle.kc_text.specs.Lexemes.{lexemes};
 ghost use Rattle.kc_language.specs.Expansion.{text_cause};
 ghost use Rattle.kc_read.specs.PartsOfExpansion.{is_help};
 ghost use Rattle.kc_read.specs.LineReads.{cause_of};
-ghost use Rattle.kc_read.specs.Progress.{context_in};
 ghost use Rattle.kc_read.specs.RefusalView.{IsMemory, out_of_memory, refusal_view};
-ghost use Rattle.kc_read.specs.NextStep.{IsMarked, IsStep, IsStepRefusal, long_line};
+ghost use Rattle.kc_read.specs.NextStep.{IsMarked, IsStepAt, IsStepRefusalAt, long_line};
 
 use crate::line_parts::begins_with;
 use crate::reader::{Position, read_line};
@@ -107,9 +106,9 @@ fn step_of_line<'l>(
     requires { lines.old.refusal ≡ None }
     // Whatever the lines were before.
     ensures step { IfOk result (λ s. (before : UnreadLines) → number ≡ before.number → TakesLine before lines.old line.now
-        → IsStep position.now.is_flat position.now.frame.now.file.value.items names.old names.new (context_in position.now.frame.now position.now.progress.now) before lines.new s) }
+        → IsStepAt position.now names.old names.new before lines.new s) }
     ensures refused { IfErr result (λ r. (before : UnreadLines) → number ≡ before.number → TakesLine before lines.old line.now
-        → IsStepRefusal position.now.is_flat position.now.frame.now.file.value.items (context_in position.now.frame.now position.now.progress.now) before r) }
+        → IsStepRefusalAt position.now before r) }
     ensures memory { IfErr result IsMemory }
     ensures names { Extends names.old names.new }
 {
@@ -143,8 +142,8 @@ fn next_joined(
     names: &mut Names,
 ) -> Result<Step, Refusal>
     requires { lines.old.refusal ≡ None }
-    ensures step { IfOk result (IsStep position.now.is_flat position.now.frame.now.file.value.items names.old names.new (context_in position.now.frame.now position.now.progress.now) lines.old lines.new) }
-    ensures refused { IfErr result (IsStepRefusal position.now.is_flat position.now.frame.now.file.value.items (context_in position.now.frame.now position.now.progress.now) lines.old) }
+    ensures step { IfOk result (IsStepAt position.now names.old names.new lines.old lines.new) }
+    ensures refused { IfErr result (IsStepRefusalAt position.now lines.old) }
     ensures memory { IfErr result IsMemory }
     ensures names { Extends names.old names.new }
 {
@@ -177,8 +176,8 @@ pub(crate) fn next_step<'a>(
     names: &mut Names,
 ) -> Result<Step, Refusal>
     requires { lines.old.refusal ≡ None }
-    ensures step { IfOk result (IsStep position.now.is_flat position.now.frame.now.file.value.items names.old names.new (context_in position.now.frame.now position.now.progress.now) lines.old lines.new) }
-    ensures refused { IfErr result (IsStepRefusal position.now.is_flat position.now.frame.now.file.value.items (context_in position.now.frame.now position.now.progress.now) lines.old) }
+    ensures step { IfOk result (IsStepAt position.now names.old names.new lines.old lines.new) }
+    ensures refused { IfErr result (IsStepRefusalAt position.now lines.old) }
     ensures memory { IfErr result IsMemory }
     ensures names { Extends names.old names.new }
 {

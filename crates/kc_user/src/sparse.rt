@@ -47,6 +47,16 @@ impl<T: Drop> SparseVec<T> {
         Ok(SparseVec { numbers, values })
     }
 
+    /// The same, with room for so many values: they are not moved while there are no more. Its only error is to be out of memory,
+    /// which leaves nothing.
+    pub fn with_room(alloc: Global, count: usize, room: usize) -> Result<SparseVec<T>, AllocError>
+        ensures { IfOk result (λ places. places ≡ replicate count None) }
+    {
+        let numbers = vec![in alloc; 0; count]?;
+        let values = Vec::with_capacity(alloc, room)?;
+        Ok(SparseVec { numbers, values })
+    }
+
     /// How many places there are.
     pub fn len(&self) -> usize
         ensures { result ≡ length self.now }

@@ -69,7 +69,7 @@ impl<'t> Table<'t> {
         ensures selections { IfOk result (λ t. t.selections.items ≡ replicate (length laid.now.layout.now.tables.choices.items) None) }
     {
         let LaidTree { tree, layout } = *laid;
-        let values = SparseVec::empty(alloc, tree.name_count())?;
+        let values = SparseVec::with_room(alloc, tree.name_count(), layout.defined().len())?;
         let contexts = vec![in alloc; None; layout.context_count()]?;
         let selections = vec![in alloc; None; layout.choices().len()]?;
         Ok(Table {

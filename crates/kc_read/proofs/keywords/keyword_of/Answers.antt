@@ -1,18 +1,25 @@
-use Rattle.std.proofs.Common.{refl}
-use Rattle.kc_read.specs.PartsOfStatements.{attribute_words, type_words, block_words, left_out_words}
-use Rattle.kc_read.proofs.KeywordLemmas.{in_first, in_second, in_third}
+use Rattle.std.proofs.Common.{◌≡◌, ◌∙◌, sym, ap, refl, ℕ, ◌==◌, ◌≤◌, nat_le, length}
+use native.Mathlib.Omega.{arith}
+use Rattle.std.proofs.lemmas.Bool.{le-leb}
+use Rattle.kc_read.proofs.KeywordLemmas.{of_length}
 use Rattle.kc_read.proofs.keywords.keyword_of.Goals as goal
 
-pub returns-in-Some : goal.returns-in-Some
-returns-in-Some c =
-    in_first attribute_words type_words block_words left_out_words c.args.word.now c.in-Some.keyword _ _ _ c.attribute_word.ensures refl refl c.in-Some.is
+-- src/keywords.rt:150:1
+pub returns-in-5 : goal.returns-in-5
+returns-in-5 c = c.word_of_five.ensures ∙ of_length (λ n. n == 5) c.args.word.now (ap (λ n. n == 5) c.in-5.is)
 
-pub returns-in-Some-type_word : goal.returns-in-Some-type_word
-returns-in-Some-type_word c =
-    in_second attribute_words type_words block_words left_out_words c.args.word.now c.in-Some-type_word.keyword _ _ _
-    c.attribute_word.ensures c.type_word.ensures refl c.in_default.is c.in-Some-type_word.is
+-- src/keywords.rt:150:1
+pub returns-in-6 : goal.returns-in-6
+returns-in-6 c = c.word_of_six.ensures ∙ of_length (λ n. n == 6) c.args.word.now (ap (λ n. n == 6) c.in-6.is)
 
-pub returns-in-Some-block_word : goal.returns-in-Some-block_word
-returns-in-Some-block_word c =
-    in_third attribute_words type_words block_words left_out_words c.args.word.now c.in-Some-block_word.keyword _ _ _
-    c.attribute_word.ensures c.type_word.ensures c.block_word.ensures c.in_default.is c.in_default-type_word.is c.in-Some-block_word.is
+-- src/keywords.rt:150:1
+pub returns-in-7 : goal.returns-in-7
+returns-in-7 c = c.word_of_seven.ensures ∙ of_length (λ n. n == 7) c.args.word.now (ap (λ n. n == 7) c.in-7.is)
+
+-- src/keywords.rt:150:1
+pub returns-in-8 : goal.returns-in-8
+returns-in-8 c = c.word_of_eight.ensures ∙ of_length (λ n. n == 8) c.args.word.now (ap (λ n. n == 8) c.in-8.is)
+
+-- src/keywords.rt:150:1
+pub returns-in-0-to-4 : goal.returns-in-0-to-4
+returns-in-0-to-4 c = c.short_word.ensures ∙ of_length (λ n. nat_le n 4) c.args.word.now (le-leb (length c.args.word.now) 4 (omega arith))
