@@ -22,7 +22,6 @@ use Rattle.kc_language.specs.Statements.{Cause, LineContext, After, begins_with,
 use Rattle.kc_read.specs.PartsOfStatements.{ReadsTarget, ReadsType, choice_line, expected}
 use Rattle.kc_language.specs.Statements.{in_place, keyword_or_refusal}
 use Rattle.kc_read.specs.PartsOfStatements.{ReadsPlaced, good_name, keyword_in}
-use Rattle.kc_read.proofs.KeywordLemmas.{attribute_words, block_words, left_out_words, type_words}
 use Rattle.kc_read.specs.Progress.{defined_after, naming_cause}
 use Rattle.kc_language.specs.Symbols.{stated_type}
 use Rattle.kc_build.specs.SymbolRows.{AreTypesDefined}
@@ -65,26 +64,13 @@ key_in (j ∷ more) w k a e = by (same_name w j.0) (key_in more w k a.1) e
     by true rest q = subst AllowsKey (let same : j.1 ≡ k = cc in same) a.0
     by false rest q = rest q
 
-allow_both : (js ks : List (List ℕ × Keyword)) → AllowKeys js → AllowKeys ks → AllowKeys (js ++ ks)
-allow_both [] ks a b = b
-allow_both (j ∷ js) ks a b = (a.0, allow_both js ks a.1 b)
-
-allow_types : AllowKeys type_words
-allow_types = (λ e. cc, (λ e. cc, (λ e. cc, (λ e. cc, (λ e. cc, (λ e. cc, (λ e. cc, tt)))))))
-
-allow_blocks : AllowKeys block_words
-allow_blocks = (tt, (tt, (tt, (tt, (tt, (tt, (tt, (tt, (tt, (tt, (tt, tt)))))))))))
-
-allow_attributes : AllowKeys attribute_words
-allow_attributes = (tt, (tt, (tt, (tt, (tt, (tt, (tt, (tt, (tt, (tt, (tt, tt)))))))))))
-
-allow_left_out : AllowKeys left_out_words
-allow_left_out = (tt, (tt, (tt, (tt, (tt, (tt, (tt, (tt, (tt, tt)))))))))
+allow_words : AllowKeys keyword_words
+allow_words =
+    (tt, (tt, (tt, (λ e. cc, (tt, (tt, (tt, (tt, (λ e. cc, (λ e. cc, (λ e. cc, (λ e. cc, (tt, (tt, (tt, (λ e. cc, (tt, (tt, (tt, (tt, (tt,
+    (tt, (tt, (tt, (tt, (tt, (λ e. cc, (tt, (tt, (tt, (tt, (tt, (tt, (tt, (tt, (tt, (tt, (tt, tt))))))))))))))))))))))))))))))))))))))
 
 key_of : (w : List ℕ) (k : Keyword) → keyword_of w ≡ Some k → AllowsKey k
-key_of w k e =
-    key_in keyword_words w k (allow_both attribute_words (type_words ++ block_words ++ left_out_words) allow_attributes
-    (allow_both type_words (block_words ++ left_out_words) allow_types (allow_both block_words left_out_words allow_blocks allow_left_out))) e
+key_of w k e = key_in keyword_words w k allow_words e
 
 -- A line that is read gives such a statement.
 after : {A : Type 0} (o : Result A Cause) (Next : A → Result Named Cause → Type 0) (s : Named) → After o Next (Ok s) → ((a : A) → Next a (Ok s) → IsAllowed s) → IsAllowed s

@@ -127,15 +127,14 @@ names_in_statement s = elim s [
 -- The words that may begin a line. The last nine belong to other tools or versions, and are refused with E7.
 abbrev pub keyword_words : List (List ℕ × Keyword)
 keyword_words =
-    (codes "default", key.Default) ∷ (codes "depends", key.Depends) ∷ (codes "help", key.Help) ∷ (codes "select", key.Select) ∷
-    (codes "prompt", key.Prompt) ∷ (codes "imply", key.Imply) ∷ (codes "range", key.Range) ∷ (codes "visible", key.Visible) ∷
-    (codes "modules", key.Modules) ∷ (codes "option", key.«Option») ∷ (codes "---help---", key.Help) ∷
-    (codes "bool", key.Type SymbolType.Bool) ∷ (codes "tristate", key.Type SymbolType.Tristate) ∷ (codes "string", key.Type SymbolType.Str) ∷
-    (codes "int", key.Type SymbolType.Int) ∷ (codes "hex", key.Type SymbolType.Hex) ∷
-    (codes "def_bool", key.Def SymbolType.Bool) ∷ (codes "def_tristate", key.Def SymbolType.Tristate) ∷
-    (codes "config", key.Config) ∷ (codes "menuconfig", key.Config) ∷ (codes "if", key.If) ∷ (codes "endif", key.EndIf) ∷
-    (codes "comment", key.Comment) ∷ (codes "source", key.Source) ∷ (codes "menu", key.Menu) ∷ (codes "endmenu", key.EndMenu) ∷
-    (codes "choice", key.Choice) ∷ (codes "endchoice", key.EndChoice) ∷ (codes "mainmenu", key.MainMenu) ∷
+    (codes "config", key.Config) ∷ (codes "depends", key.Depends) ∷ (codes "default", key.Default) ∷ (codes "bool", key.Type SymbolType.Bool) ∷
+    (codes "help", key.Help) ∷ (codes "select", key.Select) ∷ (codes "if", key.If) ∷ (codes "endif", key.EndIf) ∷
+    (codes "tristate", key.Type SymbolType.Tristate) ∷ (codes "string", key.Type SymbolType.Str) ∷ (codes "int", key.Type SymbolType.Int) ∷
+    (codes "hex", key.Type SymbolType.Hex) ∷ (codes "range", key.Range) ∷ (codes "prompt", key.Prompt) ∷ (codes "imply", key.Imply) ∷
+    (codes "def_bool", key.Def SymbolType.Bool) ∷ (codes "source", key.Source) ∷ (codes "menu", key.Menu) ∷ (codes "endmenu", key.EndMenu) ∷
+    (codes "menuconfig", key.Config) ∷ (codes "choice", key.Choice) ∷ (codes "endchoice", key.EndChoice) ∷ (codes "comment", key.Comment) ∷
+    (codes "visible", key.Visible) ∷ (codes "modules", key.Modules) ∷ (codes "option", key.«Option») ∷
+    (codes "def_tristate", key.Def SymbolType.Tristate) ∷ (codes "mainmenu", key.MainMenu) ∷ (codes "---help---", key.Help) ∷
     map (λ w. (w, key.LeftOut)) (codes "rsource" ∷ codes "osource" ∷ codes "orsource" ∷ codes "boolean" ∷ codes "def_int" ∷ codes "def_hex" ∷
     codes "def_string" ∷ codes "transitional" ∷ codes "optional" ∷ [])
 

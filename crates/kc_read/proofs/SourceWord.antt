@@ -1,20 +1,18 @@
 -- The lines that begin with the word `source`, and no others, are `source` lines.
-use Rattle.std.proofs.Common.{◌≡◌, inl, inr, ℕ, Bool, true, false, cond, List, [], ◌∷◌, drop, codes, Option, Some, None, Result, Ok, Err, refl, ap, ◌∙◌, subst}
+use Rattle.std.proofs.Common.{◌≡◌, ◌×◌, ◌⊎◌, Unit, tt, inl, inr, ℕ, Bool, true, false, cond, List, [], ◌∷◌, drop, codes, Option, Some, None, Result, Ok, Err, refl, ap, ◌∙◌, subst}
 use Rattle.std.proofs.lemmas.Bool.{cases_Bool}
-use Rattle.std.specs.Option.{option_or}
 use Rattle.kc_language.specs.Tokens.{Lexeme, AWord, AQuoted, AnOp}
 use Rattle.kc_language.specs.declared.expressions.SymbolType.{SymbolType}
 use Rattle.kc_language.specs.declared.expressions.SymbolType.TheVariants as symbol_type
 use Rattle.kc_language.specs.Expressions.{Disjunction, if_word, same_name}
 use Rattle.kc_language.specs.declared.statements.Keyword.{Keyword}
 use Rattle.kc_language.specs.declared.statements.Keyword.TheVariants as key
-use Rattle.kc_language.specs.Statements.{Named, InputPrompt, IfLine, EndIfLine, CommentLine, SourceLine, MenuLine, EndMenuLine, EndChoiceLine, MainMenuLine, TypeLine, PromptLine, DefaultLine, DefLine, DependsLine, VisibleLine, SelectLine, ImplyLine, RangeLine, HelpLine, ModulesLine, ConfigLine, IgnoredLine, Cause, LineContext, After, ReadsWhole, ReadsCondition, ReadsTextLine, ReadsSource, ReadsPrompt, ReadsValue, ReadsRest, ReadsLine, finish, text_of, word_of, named_target, operand_of, is_good_name, option_line, keyword_of, placement_cause, begins_with}
+use Rattle.kc_language.specs.Statements.{Named, InputPrompt, IfLine, EndIfLine, CommentLine, SourceLine, MenuLine, EndMenuLine, EndChoiceLine, MainMenuLine, TypeLine, PromptLine, DefaultLine, DefLine, DependsLine, VisibleLine, SelectLine, ImplyLine, RangeLine, HelpLine, ModulesLine, ConfigLine, IgnoredLine, Cause, LineContext, After, ReadsWhole, ReadsCondition, ReadsTextLine, ReadsSource, ReadsPrompt, ReadsValue, ReadsRest, ReadsLine, finish, text_of, word_of, named_target, operand_of, is_good_name, option_line, keyword_of, keyword_words, placement_cause, begins_with}
 use Rattle.kc_read.specs.PartsOfStatements.{ReadsConfig, ReadsType, ReadsTarget, choice_line, expected}
 use Rattle.kc_language.specs.Statements.{keyword_or_refusal, in_place}
 use Rattle.kc_read.specs.PartsOfStatements.{ReadsRange, ReadsPlaced, good_name, keyword_in}
 use Rattle.kc_language.specs.declared.diagnostics.Cause.TheVariants as cause
 use Rattle.kc_read.proofs.FileLemmas.{same_name_eq}
-use Rattle.kc_read.proofs.KeywordLemmas.{attribute_words, block_words, left_out_words, type_words, keyword_in_turn}
 use Rattle.kc_read.proofs.OneExpansion.{source_line}
 
 -- ---- The word
@@ -27,60 +25,28 @@ other_word : (b : Bool) (k : Keyword) (o : Option Keyword) → is_source_key (So
 other_word true k o e f = e
 other_word false k o e f = f
 
-not_source : (b : Bool) (o : Option Keyword) → b ≡ false → is_source_key o ≡ false → is_source_key (cond b (Some key.Source) o) ≡ false
-not_source true o e f = absurd (let h : true ≡ false = e in cc)
-not_source false o e f = f
+-- each word is `source`, or the keyword is another one
+abbrev AreOthers : List (List ℕ × Keyword) → Type 0
+AreOthers [] = Unit {0}
+AreOthers (k ∷ more) = ((is_source_key (Some k.1) ≡ false) ⊎ (k.0 ≡ codes "source")) × AreOthers more
 
-either_word : (o p : Option Keyword) → is_source_key o ≡ false → is_source_key p ≡ false → is_source_key (option_or o p) ≡ false
-either_word None p e f = f
-either_word (Some k) p e f = e
+other_in : (ks : List (List ℕ × Keyword)) (w : List ℕ) → AreOthers ks → same_name w (codes "source") ≡ false → is_source_key (keyword_in ks w) ≡ false
+other_in [] w a e = refl
+other_in (k ∷ more) w a e = by a.0
+  where
+    by : ((is_source_key (Some k.1) ≡ false) ⊎ (k.0 ≡ codes "source")) → is_source_key (cond (same_name w k.0) (Some k.1) (keyword_in more w)) ≡ false
+    by (inl other) = other_word (same_name w k.0) k.1 (keyword_in more w) other (other_in more w a.1 e)
+    by (inr same) = ap (λ b. is_source_key (cond b (Some k.1) (keyword_in more w))) (ap (same_name w) same ∙ e) ∙ other_in more w a.1 e
 
-block_other : (w : List ℕ) → same_name w (codes "source") ≡ false → is_source_key (keyword_in block_words w) ≡ false
-block_other w e = other_word (same_name w (codes "config")) key.Config _ refl
-    (other_word (same_name w (codes "menuconfig")) key.Config _ refl
-    (other_word (same_name w (codes "if")) key.If _ refl
-    (other_word (same_name w (codes "endif")) key.EndIf _ refl
-    (other_word (same_name w (codes "comment")) key.Comment _ refl
-    (not_source (same_name w (codes "source")) _ e (other_word (same_name w (codes "menu")) key.Menu _ refl
-    (other_word (same_name w (codes "endmenu")) key.EndMenu _ refl
-    (other_word (same_name w (codes "choice")) key.Choice _ refl
-    (other_word (same_name w (codes "endchoice")) key.EndChoice _ refl (other_word (same_name w (codes "mainmenu")) key.MainMenu _ refl (refl)))))))))))
-
-type_other : (w : List ℕ) → is_source_key (keyword_in type_words w) ≡ false
-type_other w = other_word (same_name w (codes "bool")) (key.Type symbol_type.Bool) _ refl
-    (other_word (same_name w (codes "tristate")) (key.Type symbol_type.Tristate) _ refl
-    (other_word (same_name w (codes "string")) (key.Type symbol_type.Str) _ refl
-    (other_word (same_name w (codes "int")) (key.Type symbol_type.Int) _ refl
-    (other_word (same_name w (codes "hex")) (key.Type symbol_type.Hex) _ refl
-    (other_word (same_name w (codes "def_bool")) (key.Def symbol_type.Bool) _ refl
-    (other_word (same_name w (codes "def_tristate")) (key.Def symbol_type.Tristate) _ refl (refl)))))))
-
-attribute_other : (w : List ℕ) → is_source_key (keyword_in attribute_words w) ≡ false
-attribute_other w = other_word (same_name w (codes "default")) key.Default _ refl
-    (other_word (same_name w (codes "depends")) key.Depends _ refl
-    (other_word (same_name w (codes "help")) key.Help _ refl
-    (other_word (same_name w (codes "select")) key.Select _ refl
-    (other_word (same_name w (codes "prompt")) key.Prompt _ refl
-    (other_word (same_name w (codes "imply")) key.Imply _ refl
-    (other_word (same_name w (codes "range")) key.Range _ refl
-    (other_word (same_name w (codes "visible")) key.Visible _ refl
-    (other_word (same_name w (codes "modules")) key.Modules _ refl
-    (other_word (same_name w (codes "option")) key.«Option» _ refl (other_word (same_name w (codes "---help---")) key.Help _ refl (refl)))))))))))
-
-left_out_other : (w : List ℕ) → is_source_key (keyword_in left_out_words w) ≡ false
-left_out_other w = other_word (same_name w (codes "rsource")) key.LeftOut _ refl
-    (other_word (same_name w (codes "osource")) key.LeftOut _ refl
-    (other_word (same_name w (codes "orsource")) key.LeftOut _ refl
-    (other_word (same_name w (codes "boolean")) key.LeftOut _ refl
-    (other_word (same_name w (codes "def_int")) key.LeftOut _ refl
-    (other_word (same_name w (codes "def_hex")) key.LeftOut _ refl
-    (other_word (same_name w (codes "def_string")) key.LeftOut _ refl
-    (other_word (same_name w (codes "transitional")) key.LeftOut _ refl (other_word (same_name w (codes "optional")) key.LeftOut _ refl (refl)))))))))
+are_others : AreOthers keyword_words
+are_others =
+    (inl refl, (inl refl, (inl refl, (inl refl, (inl refl, (inl refl, (inl refl, (inl refl, (inl refl, (inl refl, (inl refl, (inl refl,
+    (inl refl, (inl refl, (inl refl, (inl refl, (inr refl, (inl refl, (inl refl, (inl refl, (inl refl, (inl refl, (inl refl, (inl refl,
+    (inl refl, (inl refl, (inl refl, (inl refl, (inl refl, (inl refl, (inl refl, (inl refl, (inl refl, (inl refl, (inl refl, (inl refl,
+    (inl refl, (inl refl, tt))))))))))))))))))))))))))))))))))))))
 
 keyword_other : (w : List ℕ) → same_name w (codes "source") ≡ false → is_source_key (keyword_of w) ≡ false
-keyword_other w e =
-    ap is_source_key (keyword_in_turn attribute_words type_words block_words left_out_words w)
-    ∙ either_word _ _ (attribute_other w) (either_word _ _ (type_other w) (either_word _ _ (block_other w e) (left_out_other w)))
+keyword_other w e = other_in keyword_words w are_others e
 
 -- ---- What is read
 

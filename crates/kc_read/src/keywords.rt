@@ -20,16 +20,16 @@ pub(crate) fn same_word(word: &[u8], other: &[u8]) -> bool
 fn short_word(word: &[u8]) -> Option<Keyword>
     ensures { result ≡ spec_parts.keyword_in spec_parts.short_words word.now }
 {
-    if same_word(word, b"help") {
-        Some(Keyword::Help)
-    } else if same_word(word, b"bool") {
+    if same_word(word, b"bool") {
         Some(Keyword::Type(SymbolType::Bool))
+    } else if same_word(word, b"help") {
+        Some(Keyword::Help)
+    } else if same_word(word, b"if") {
+        Some(Keyword::If)
     } else if same_word(word, b"int") {
         Some(Keyword::Type(SymbolType::Int))
     } else if same_word(word, b"hex") {
         Some(Keyword::Type(SymbolType::Hex))
-    } else if same_word(word, b"if") {
-        Some(Keyword::If)
     } else if same_word(word, b"menu") {
         Some(Keyword::Menu)
     } else {
@@ -41,12 +41,12 @@ fn short_word(word: &[u8]) -> Option<Keyword>
 fn word_of_five(word: &[u8]) -> Option<Keyword>
     ensures { result ≡ spec_parts.keyword_in spec_parts.five_words word.now }
 {
-    if same_word(word, b"imply") {
-        Some(Keyword::Imply)
+    if same_word(word, b"endif") {
+        Some(Keyword::EndIf)
     } else if same_word(word, b"range") {
         Some(Keyword::Range)
-    } else if same_word(word, b"endif") {
-        Some(Keyword::EndIf)
+    } else if same_word(word, b"imply") {
+        Some(Keyword::Imply)
     } else {
         None
     }
@@ -56,20 +56,20 @@ fn word_of_five(word: &[u8]) -> Option<Keyword>
 fn word_of_six(word: &[u8]) -> Option<Keyword>
     ensures { result ≡ spec_parts.keyword_in spec_parts.six_words word.now }
 {
-    if same_word(word, b"select") {
+    if same_word(word, b"config") {
+        Some(Keyword::Config)
+    } else if same_word(word, b"select") {
         Some(Keyword::Select)
-    } else if same_word(word, b"prompt") {
-        Some(Keyword::Prompt)
-    } else if same_word(word, b"option") {
-        Some(Keyword::Option)
     } else if same_word(word, b"string") {
         Some(Keyword::Type(SymbolType::Str))
-    } else if same_word(word, b"config") {
-        Some(Keyword::Config)
+    } else if same_word(word, b"prompt") {
+        Some(Keyword::Prompt)
     } else if same_word(word, b"source") {
         Some(Keyword::Source)
     } else if same_word(word, b"choice") {
         Some(Keyword::Choice)
+    } else if same_word(word, b"option") {
+        Some(Keyword::Option)
     } else {
         None
     }
@@ -79,18 +79,18 @@ fn word_of_six(word: &[u8]) -> Option<Keyword>
 fn word_of_seven(word: &[u8]) -> Option<Keyword>
     ensures { result ≡ spec_parts.keyword_in spec_parts.seven_words word.now }
 {
-    if same_word(word, b"default") {
-        Some(Keyword::Default)
-    } else if same_word(word, b"depends") {
+    if same_word(word, b"depends") {
         Some(Keyword::Depends)
+    } else if same_word(word, b"default") {
+        Some(Keyword::Default)
+    } else if same_word(word, b"endmenu") {
+        Some(Keyword::EndMenu)
+    } else if same_word(word, b"comment") {
+        Some(Keyword::Comment)
     } else if same_word(word, b"visible") {
         Some(Keyword::Visible)
     } else if same_word(word, b"modules") {
         Some(Keyword::Modules)
-    } else if same_word(word, b"comment") {
-        Some(Keyword::Comment)
-    } else if same_word(word, b"endmenu") {
-        Some(Keyword::EndMenu)
     } else if same_word(word, b"rsource") {
         Some(Keyword::LeftOut)
     } else if same_word(word, b"osource") {
@@ -129,14 +129,14 @@ fn word_of_eight(word: &[u8]) -> Option<Keyword>
 fn long_word(word: &[u8]) -> Option<Keyword>
     ensures { result ≡ spec_parts.keyword_in spec_parts.long_words word.now }
 {
-    if same_word(word, b"---help---") {
-        Some(Keyword::Help)
-    } else if same_word(word, b"def_tristate") {
-        Some(Keyword::Def(SymbolType::Tristate))
-    } else if same_word(word, b"menuconfig") {
+    if same_word(word, b"menuconfig") {
         Some(Keyword::Config)
     } else if same_word(word, b"endchoice") {
         Some(Keyword::EndChoice)
+    } else if same_word(word, b"def_tristate") {
+        Some(Keyword::Def(SymbolType::Tristate))
+    } else if same_word(word, b"---help---") {
+        Some(Keyword::Help)
     } else if same_word(word, b"def_string") {
         Some(Keyword::LeftOut)
     } else if same_word(word, b"transitional") {
