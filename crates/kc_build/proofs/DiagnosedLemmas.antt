@@ -19,20 +19,21 @@ use Rattle.kc_read.specs.declared.refusal.Refusal.{Refusal}
 use Rattle.kc_language.specs.declared.symbols.ChoiceId.{ChoiceId}
 use Rattle.kc_tree.specs.declared.rows.Symbol.{Symbol}
 use Rattle.kc_language.specs.Symbols.{TreeFacts, listed, prompt_of, choice_of, enclosing_choice, type_of, is_first_definition_at, bad_defaults, bad_members, menu_entry_at, refused_at, line_warnings}
-use Rattle.kc_build.specs.PartsOfSymbols.{is_member, unless_refused, whole_list_refusals, warnings}
-use Rattle.kc_build.specs.PartsOfSymbols.{first_of, is_bad_default, is_bad_member, line_of, menu_entry_before, prompt_before, line_warnings_by, warned_at}
+use Rattle.kc_read.specs.PartsOfSymbols.{is_member, unless_refused, whole_list_refusals, warnings}
+use Rattle.kc_read.specs.PartsOfSymbols.{first_of, is_bad_default, is_bad_member, line_of, menu_entry_before, prompt_before, line_warnings_by, warned_at}
 use Rattle.kc_build.specs.declared.diagnostics.Diagnostics.{Diagnostics}
 use Rattle.kc_build.specs.declared.diagnostics.EntrySummary.{EntrySummary}
 use Rattle.kc_language.specs.declared.symbols.MenuEntry.{MenuEntry}
 use Rattle.kc_build.specs.Diagnosed.{Diagnosis, AreLinesDiagnosed, lines_diagnosed, diagnosis_view, line_diagnosed}
-use Rattle.kc_build.specs.SymbolRows.{AreBelow, AreSymbols, IsEntrySummary, choice_by, type_by, member_by, line_warnings_in}
+use Rattle.kc_read.specs.ListFacts.{AreBelow}
+use Rattle.kc_build.specs.SymbolRows.{AreSymbols, IsEntrySummary, choice_by, type_by, member_by, line_warnings_in}
 use Rattle.kc_build.specs.WholeListRefusals.{entry_refusal}
 use Rattle.kc_build.specs.WalkResult.{IsDiagnosed}
 use Rattle.kc_build.proofs.TypeLemmas.{choices_known, types_known}
-use Rattle.kc_build.proofs.ListLemmas.{there_in}
-use Rattle.kc_build.proofs.MemberLemmas.{below_or_past, member_is}
-use Rattle.kc_build.proofs.MenuEntryLemmas.{has_prompt, entry_goes_on, entry_here, prompt_begins, prompt_goes_on}
-use Rattle.kc_build.proofs.PlaceLemmas.{filter-next, flat_map-next}
+use Rattle.kc_read.proofs.PlaceLemmas.{there_in}
+use Rattle.kc_read.proofs.MemberLemmas.{below_or_past, member_is}
+use Rattle.kc_read.proofs.MenuEntryLemmas.{has_prompt, entry_goes_on, entry_here, prompt_begins, prompt_goes_on}
+use Rattle.kc_read.proofs.PlaceLemmas.{filter-next, flat_map-next}
 
 -- The places below one, of those that are kept among all.
 below_it : (n i : ℕ) → n < i → nat_lt n i ≡ true

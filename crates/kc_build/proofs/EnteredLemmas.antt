@@ -9,7 +9,7 @@ use Rattle.kc_read.specs.StatementViews.{head_view}
 use Rattle.kc_language.specs.Statements.{Numbered, MainMenuLine}
 use Rattle.kc_language.specs.Expansion.{Closes, bracket_at, bracket, last_of}
 use Rattle.kc_language.specs.Symbols.{shown_at}
-use Rattle.kc_build.specs.PartsOfSymbols.{symbol_of, title_of}
+use Rattle.kc_read.specs.PartsOfSymbols.{symbol_of, title_of}
 use Rattle.kc_build.specs.Walks.{Enters}
 use Rattle.kc_build.specs.declared.walk.EntryWalk.{EntryWalk}
 use Rattle.kc_build.proofs.CloserLemmas.{extends_equal}

@@ -19,14 +19,14 @@ use Rattle.kc_tree.specs.Layouts.{DefinitionFacts, facts_at, facts_by, facts_of,
 use Rattle.kc_tree.specs.Contexts.{mode_view}
 use Rattle.kc_tree.specs.Spans.{definition_ids}
 use Rattle.kc_language.specs.Symbols.{is_symbol_of, choice_of, definitions_of, type_of, symbol_at, symbol_facts}
-use Rattle.kc_build.specs.PartsOfSymbols.{impliers_of, selectors_of}
+use Rattle.kc_read.specs.PartsOfSymbols.{impliers_of, selectors_of}
 use Rattle.kc_build.specs.Before.{definition_facts_at, definition_line, definitions_before}
 use Rattle.kc_build.specs.SymbolRows.{AreSymbols, SymbolRow, definition_number, row_of, row_view}
 use Rattle.kc_read.proofs.EnclosingLemmas.{numbers_from, numbers-from}
-use Rattle.kc_build.proofs.ElementLemmas.{same_is}
-use Rattle.kc_build.proofs.ListLemmas.{end_get, front_get, there_in}
-use Rattle.kc_build.proofs.MemberLemmas.{below_or_past}
-use Rattle.kc_build.proofs.PlaceLemmas.{get-map_numbers}
+use Rattle.kc_read.proofs.ElementLemmas.{same_is}
+use Rattle.kc_read.proofs.PlaceLemmas.{end_get, front_get, there_in}
+use Rattle.kc_read.proofs.MemberLemmas.{below_or_past}
+use Rattle.kc_read.proofs.PlaceLemmas.{get-map_numbers}
 
 -- Lists.
 pub map-twice : {A B C : Type 0} (g : B → C) (f : A → B) (xs : List A) → map g (map f xs) ≡ map (λ x. g (f x)) xs

@@ -21,11 +21,12 @@ use Rattle.kc_tree.specs.declared.rows.Symbol.{Symbol}
 use Rattle.kc_tree.specs.Chains.{chain_of, chains_of}
 use Rattle.kc_tree.specs.Layouts.{DefinitionFacts, definition_facts, impliers_at, selector_at, selector_facts, selectors_at, with_when}
 use Rattle.kc_language.specs.Symbols.{Guarded, listed, naming_at, symbol_at, target_of}
-use Rattle.kc_build.specs.PartsOfSymbols.{imply_of, guarded_symbol, select_of}
+use Rattle.kc_read.specs.PartsOfSymbols.{imply_of, guarded_symbol, select_of}
 use Rattle.kc_language.specs.declared.symbols.SelectOrImply.{SelectOrImply}
 use Rattle.kc_language.specs.declared.symbols.SelectOrImply.TheVariants as select_or_imply
 use Rattle.kc_language.specs.Symbols as facts
-use Rattle.kc_build.specs.SymbolRows.{AreSymbols, AreBelow, can_be_target, choice_by, type_by}
+use Rattle.kc_build.specs.SymbolRows.{AreSymbols, can_be_target, choice_by, type_by}
+use Rattle.kc_read.specs.ListFacts.{AreBelow}
 use Rattle.kc_build.specs.SelectorRows.{HaveSources, added_line, added_lines, implies_of, selector_row, rows_to, selects_of}
 use Rattle.kc_build.proofs.GrownLemmas.{filter_map_alike, get_front, get_last}
 use Rattle.kc_build.proofs.TypeLemmas.{choices_known, types_known}

@@ -22,7 +22,7 @@ use Rattle.kc_language.specs.declared.symbols.MenuEntry.{MenuEntry}
 use Rattle.kc_language.specs.declared.symbols.MenuEntry.TheVariants as menu_entry
 use Rattle.kc_build.specs.Diagnosed.{Diagnosis, line_diagnosed, lines_diagnosed}
 use Rattle.kc_language.specs.Symbols.{has_text, prompt_of, same_type, begun}
-use Rattle.kc_build.specs.PartsOfSymbols.{is_single, has_type, is_bad_default, is_bad_member, line_of, line_warnings_by}
+use Rattle.kc_read.specs.PartsOfSymbols.{is_single, has_type, is_bad_default, is_bad_member, line_of, line_warnings_by}
 use Rattle.kc_build.specs.Passes.{statements_of}
 use Rattle.kc_build.specs.Quiet.{are_quiet, may_have_default, is_quiet_attribute, is_quiet_line}
 use Rattle.kc_build.specs.SymbolRows.{choice_by, type_by, member_by}

@@ -10,9 +10,9 @@ use Rattle.kc_read.specs.StatementViews.{attribute_view}
 use Rattle.kc_language.specs.Statements.{Numbered}
 use Rattle.kc_language.specs.Expansion.{last_of}
 use Rattle.kc_language.specs.Symbols.{listed}
-use Rattle.kc_build.specs.PartsOfSymbols.{first_of}
+use Rattle.kc_read.specs.PartsOfSymbols.{first_of}
 use Rattle.kc_build.specs.Passes.{statements_of}
-use Rattle.kc_build.proofs.PlaceLemmas.{statement_at, length-statements_of}
+use Rattle.kc_build.proofs.StatementLemmas.{statement_at, length-statements_of}
 
 drop-get : {X : Type 0} (xs : List X) (i : ℕ) (x : X) → slice_get xs i ≡ Some x → drop i xs ≡ x ∷ drop (suc i) xs
 drop-get [] i x h = cc

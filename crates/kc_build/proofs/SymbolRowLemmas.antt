@@ -16,12 +16,14 @@ use Rattle.kc_language.specs.Statements.{Numbered}
 use Rattle.kc_language.specs.declared.symbols.ChoiceId.{ChoiceId}
 use Rattle.kc_tree.specs.declared.rows.Symbol.{Symbol}
 use Rattle.kc_language.specs.Symbols.{is_symbol_of, choice_of, enclosing_choice, definitions_of, type_of, symbol_at, stated_type}
-use Rattle.kc_build.specs.PartsOfSymbols.{first_of, symbol_of}
-use Rattle.kc_build.specs.SymbolRows.{AreSymbols, AreTypesDefined, SymbolRow, definition_number, row_of, row_view}
+use Rattle.kc_read.specs.PartsOfSymbols.{first_of, symbol_of}
+use Rattle.kc_build.specs.SymbolRows.{AreSymbols, SymbolRow, definition_number, row_of, row_view}
+use Rattle.kc_read.specs.ListFacts.{AreTypesDefined}
 use Rattle.kc_build.specs.Passes.{change, changed}
-use Rattle.kc_build.specs.SymbolWalk.{AreRowsBefore, HaveMemberTypes, defined_before, entry_type, first_given_type, row_before, row_by, with_member_type, unknown, with_definition}
+use Rattle.kc_build.specs.SymbolWalk.{AreRowsBefore, HaveMemberTypes, entry_type, first_given_type, row_before, row_by, with_member_type, unknown, with_definition}
+use Rattle.kc_read.specs.ListFacts.{defined_before}
 use Rattle.kc_build.proofs.EnterLemmas.{attribute_symbol, get_behind, over}
-use Rattle.kc_build.proofs.PlaceLemmas.{length-map_numbers}
+use Rattle.kc_read.proofs.PlaceLemmas.{length-map_numbers}
 use Rattle.kc_build.proofs.TableLemmas.{defined_next, not_defined, same_numbers}
 use Rattle.kc_build.specs.Walks.{IsHead, index_after}
 use Rattle.kc_tree.specs.Contexts.{mode_view}

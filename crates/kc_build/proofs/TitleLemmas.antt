@@ -15,10 +15,10 @@ use Rattle.kc_tree.specs.declared.rows.TitleId.{TitleId}
 use Rattle.kc_tree.specs.Contexts.{condition_in}
 use Rattle.kc_tree.specs.Layouts.{shown_of, shown_when as shown_in, title_condition, title_text, with_conjuncts}
 use Rattle.kc_language.specs.Symbols.{Condition, CommentShown, MenuShown, Shown, block_conjuncts, choice_number, dependency, shown_at, of_block, own_dependencies, own_visible}
-use Rattle.kc_build.specs.PartsOfSymbols.{shown_number}
-use Rattle.kc_build.specs.PartsOfSymbols.{depends_form, shown_when, symbol_of, title_of, visible_form, enclosing_visible}
+use Rattle.kc_read.specs.PartsOfSymbols.{shown_number}
+use Rattle.kc_read.specs.PartsOfSymbols.{depends_form, shown_when, symbol_of, title_of, visible_form, enclosing_visible}
 use Rattle.kc_build.specs.Growth.{IsGrown, Stands}
-use Rattle.kc_build.specs.Scopes.{block_visible}
+use Rattle.kc_read.specs.Scopes.{block_visible}
 use Rattle.kc_build.specs.WalkResult.{IsEntryThere, IsTitleThere}
 use Rattle.kc_build.specs.Stacks.{AreOpen, block_facts_at, block_view}
 use Rattle.kc_build.specs.Walks.{Enters, IsHead, IsWalk, index_after}

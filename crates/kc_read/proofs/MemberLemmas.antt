@@ -10,11 +10,11 @@ use Rattle.kc_language.specs.Statements.{Numbered}
 use Rattle.kc_language.specs.Expansion.{numbers}
 use Rattle.kc_language.specs.Expressions.{same_symbol}
 use Rattle.kc_language.specs.Symbols.{is_symbol_of, listed, is_first_definition, symbol_at, enclosing_choice, choice_of, type_of, definitions_of, indices, is_first_definition_at, bad_members}
-use Rattle.kc_build.specs.PartsOfSymbols.{is_member}
-use Rattle.kc_build.specs.PartsOfSymbols.{symbol_of, first_of, is_member_index, first_of_symbol, is_bad_member}
+use Rattle.kc_read.specs.PartsOfSymbols.{is_member}
+use Rattle.kc_read.specs.PartsOfSymbols.{symbol_of, first_of, is_member_index, first_of_symbol, is_bad_member}
 use Rattle.kc_read.proofs.EnclosingLemmas.{there}
-use Rattle.kc_build.proofs.PlaceLemmas.{filter-next}
-use Rattle.kc_build.proofs.FirstLemmas.{some_places, first-is}
+use Rattle.kc_read.proofs.PlaceLemmas.{filter-next}
+use Rattle.kc_read.proofs.FirstLemmas.{some_places, first-is}
 
 -- some element passes among those that a function gives of the elements that are kept
 kept_any : {A B : Type 0} (p : B → Bool) (f : A → Option B) (q : A → Bool) (b : Bool) (o : Option B) (x : A) (xs : List A) → q x ≡ b → f x ≡ o →

@@ -24,8 +24,8 @@ use Rattle.kc_language.specs.Statements.{in_place, keyword_or_refusal}
 use Rattle.kc_read.specs.PartsOfStatements.{ReadsPlaced, attribute_words, block_words, left_out_words, type_words, good_name, keyword_in}
 use Rattle.kc_read.specs.Progress.{defined_after, naming_cause}
 use Rattle.kc_language.specs.Symbols.{stated_type}
-use Rattle.kc_build.specs.SymbolRows.{AreTypesDefined}
-use Rattle.kc_build.proofs.ElementLemmas.{get_snoc}
+use Rattle.kc_read.specs.ListFacts.{AreTypesDefined}
+use Rattle.kc_read.proofs.ElementLemmas.{get_snoc}
 
 -- a statement defines no name that no symbol may have
 abbrev Allows : Option (List ℕ) → Type 0

@@ -1,15 +1,10 @@
--- Lists over the places of a list, one place more.
-use Rattle.std.proofs.Common.{◌≡◌, ℕ, zero, suc, ◌+◌, ◌<◌, Bool, if◌then◌else◌, List, [], ◌∷◌, ◌++◌, length, filter, map, Option, Some, refl, ap, sym, ◌∙◌, arith, add-one, get_or, length-append}
-use Rattle.std.specs.List.{slice_get, filter_map, flat_map, cons_option}
+-- Lists over the places of a list, one place more; and what stands at a place of a longer list.
+use Rattle.std.proofs.Common.{◌≡◌, ℕ, zero, suc, ◌+◌, ◌<◌, Bool, if◌then◌else◌, List, [], ◌∷◌, ◌++◌, length, filter, map, Option, Some, cond, refl, ap, ◌∙◌, arith, add-one, length-append}
+use Rattle.std.specs.List.{slice_get, filter_map, flat_map, cons_option, count_by, fold}
 use Rattle.std.proofs.lemmas.List.{map-append, append-nil, length-map}
 use Rattle.std.proofs.lemmas.List.Elements.{filter-append, filter_map-append}
 use Rattle.std.proofs.lemmas.Grind.{flat_map-append}
-use Rattle.std.specs.Prelude.{option_map}
-use Rattle.std.proofs.lemmas.Option.{slice_get-map, slice_get-get_or}
-use Rattle.kc_read.specs.declared.entries.AttributeLine.{AttributeLine}
-use Rattle.kc_read.specs.StatementViews.{attribute_view}
 use Rattle.kc_language.specs.Expansion.{numbers}
-use Rattle.kc_build.specs.Passes.{statements_of}
 use Rattle.kc_read.proofs.EnclosingLemmas.{numbers_from, numbers-from}
 
 pub numbers-next : (i : ℕ) → numbers (i + 1) ≡ numbers i ++ i ∷ []
@@ -46,11 +41,23 @@ pub view_next : {A B : Type 0} (v : A → B) (f : ℕ → B) (i : ℕ) (out new 
 view_next v f i out new x h e n =
     ap (map v) n ∙ map-append v out (x ∷ []) ∙ map-next f i (map v out) (v x) h e
 
--- The same of lines.
--- the statement of a line that was read by its place
-pub statement_at : (ls : List AttributeLine) (i : ℕ) (x : AttributeLine) → i < length ls → x ≡ get_or ls i x → slice_get (statements_of ls) i ≡ Some (attribute_view x.attribute)
-statement_at ls i x h e =
-    slice_get-map (λ (l : AttributeLine). attribute_view l.attribute) ls i ∙ ap (option_map (λ (l : AttributeLine). attribute_view l.attribute)) (slice_get-get_or ls i x h ∙ ap Some (sym e))
+pub front_get : {X : Type 0} (xs ys : List X) (i : ℕ) (x : X) → slice_get xs i ≡ Some x → slice_get (xs ++ ys) i ≡ Some x
+front_get [] ys i x e = absurd cc
+front_get (y ∷ xs) ys zero x e = e
+front_get (y ∷ xs) ys (suc i) x e = front_get xs ys i x e
 
-pub length-statements_of : (ls : List AttributeLine) → length (statements_of ls) ≡ length ls
-length-statements_of ls = length-map ls (λ (l : AttributeLine). attribute_view l.attribute)
+pub end_get : {X : Type 0} (xs : List X) (x : X) → slice_get (xs ++ x ∷ []) (length xs) ≡ Some x
+end_get [] x = refl
+end_get (y ∷ xs) x = end_get xs x
+
+pub there_in : {X : Type 0} (xs : List X) (i : ℕ) → i < length xs → (x : X) × (slice_get xs i ≡ Some x)
+there_in [] i h = absurd (omega arith)
+there_in (x ∷ xs) zero h = (x, refl)
+there_in (x ∷ xs) (suc i) h = there_in xs i (omega arith)
+
+fold_snoc : (g : ℕ → ℕ → ℕ) (a : ℕ) (xs : List ℕ) (x : ℕ) → fold g a (xs ++ x ∷ []) ≡ g (fold g a xs) x
+fold_snoc g a [] x = refl
+fold_snoc g a (y ∷ xs) x = fold_snoc g (g a y) xs x
+
+pub count_next : (p : ℕ → Bool) (n : ℕ) → count_by p (numbers (suc n)) ≡ count_by p (numbers n) + cond (p n) 1 0
+count_next p n = fold_snoc (λ (a x : ℕ). a + cond (p x) 1 0) 0 (numbers n) n
