@@ -35,9 +35,9 @@ use Rattle.kc_build.specs.declared.blocks.BlockScope.{BlockScope}
 use Rattle.kc_build.specs.declared.walk.EntryWalk.{EntryWalk}
 use Rattle.kc_build.proofs.CloserLemmas.{extends_equal, no_fewer}
 use Rattle.kc_build.proofs.DefineLemmas.{by_asked, prompt_by_line, line_prompt, prompt_visible}
-use Rattle.kc_build.proofs.GrownLemmas.{AreKept, Extends, carries_grown, choice_extends, further, get_front, get_pushed_if, grown_push, kept_by, kept_carries, map_alike, open_extends, plain_carries, modeless_extends, pushed}
+use Rattle.kc_build.proofs.GrownLemmas.{AreKept, Extends, carries_grown, choice_extends, further, get_pushed_if, grown_push, kept_by, kept_carries, map_alike, open_extends, plain_carries, modeless_extends, pushed}
 use Rattle.kc_build.proofs.HeldLemmas.{carries_entry}
-use Rattle.kc_read.proofs.PlaceLemmas.{count_next}
+use Rattle.kc_read.proofs.PlaceLemmas.{count_next, get_front}
 use Rattle.kc_build.proofs.OpenLemmas.{open_opens}
 use Rattle.kc_build.proofs.OpenerLemmas.{block_inside}
 use Rattle.kc_build.proofs.TitleLemmas.{dependency_is}

@@ -1,5 +1,5 @@
 -- For proofs: The rows of the symbols, entry by entry.
-use Rattle.std.specs.Prelude.{◌≡◌, ℕ, List, [], ◌∷◌, ◌++◌, filter, map, if◌then◌else◌, is_some, Option, Some, None, unwrap_or}
+use Rattle.std.specs.Prelude.{◌≡◌, ℕ, List, [], ◌∷◌, ◌++◌, map, if◌then◌else◌, is_some, Option, Some, None, unwrap_or}
 use Rattle.std.specs.List.{filter_map}
 use Rattle.std.specs.Option.{option_or}
 use Rattle.kc_language.specs.declared.expressions.SymbolType.{SymbolType}
@@ -8,7 +8,7 @@ use Rattle.kc_language.specs.declared.expressions.SymId.{SymId}
 use Rattle.kc_language.specs.Expressions.{symbol}
 use Rattle.kc_language.specs.Expansion.{attributes, numbers}
 use Rattle.kc_language.specs.Statements.{Numbered}
-use Rattle.kc_language.specs.Symbols.{is_symbol_of, enclosing_choice, symbol_at, stated_type}
+use Rattle.kc_language.specs.Symbols.{enclosing_choice, stated_type}
 use Rattle.kc_read.specs.PartsOfSymbols.{first_of}
 use Rattle.kc_tree.specs.declared.rows.Symbol.{Symbol}
 use Rattle.kc_read.specs.ListFacts.{defined_before}

@@ -1,11 +1,12 @@
 -- Lists over the places of a list, one place more; and what stands at a place of a longer list.
-use Rattle.std.proofs.Common.{◌≡◌, ℕ, zero, suc, ◌+◌, ◌<◌, Bool, if◌then◌else◌, List, [], ◌∷◌, ◌++◌, length, filter, map, Option, Some, cond, refl, ap, ◌∙◌, arith, add-one, length-append}
+use Rattle.std.proofs.Common.{◌≡◌, ℕ, zero, suc, ◌+◌, ◌<◌, Bool, if◌then◌else◌, List, [], ◌∷◌, ◌++◌, length, filter, map, Option, Some, cond, refl, ap, ◌∙◌, arith, add-one, length-append, ◌≤◌, drop, sym, get_or}
 use Rattle.std.specs.List.{slice_get, filter_map, flat_map, cons_option, count_by, fold}
-use Rattle.std.proofs.lemmas.List.{map-append, append-nil, length-map}
+use Rattle.std.proofs.lemmas.List.{map-append, append-nil, length-map, drop-drop}
 use Rattle.std.proofs.lemmas.List.Elements.{filter-append, filter_map-append}
 use Rattle.std.proofs.lemmas.Grind.{flat_map-append}
 use Rattle.kc_language.specs.Expansion.{numbers}
 use Rattle.kc_read.proofs.EnclosingLemmas.{numbers_from, numbers-from}
+use Rattle.std.proofs.lemmas.Option.{slice_get-get_or}
 
 pub numbers-next : (i : ℕ) → numbers (i + 1) ≡ numbers i ++ i ∷ []
 numbers-next i = rw add-one refl
@@ -55,9 +56,40 @@ there_in [] i h = absurd (omega arith)
 there_in (x ∷ xs) zero h = (x, refl)
 there_in (x ∷ xs) (suc i) h = there_in xs i (omega arith)
 
+pub get_front : {X : Type 0} (xs ys : List X) (i : ℕ) → i < length xs → slice_get (xs ++ ys) i ≡ slice_get xs i
+get_front [] ys i h = absurd (omega arith)
+get_front (x ∷ xs) ys zero h = refl
+get_front (x ∷ xs) ys (suc i) h = get_front xs ys i (omega arith)
+
+pub drop-get : {X : Type 0} (xs : List X) (i : ℕ) (x : X) → slice_get xs i ≡ Some x → drop i xs ≡ x ∷ drop (suc i) xs
+drop-get [] i x h = cc
+drop-get (y ∷ xs) zero x h = cc
+drop-get (y ∷ xs) (suc i) x h = drop-get xs i x h
+
+pub drop_at : {X : Type 0} (xs : List X) (i : ℕ) (x : X) → i < length xs → x ≡ get_or xs i x → drop i xs ≡ x ∷ drop (i + 1) xs
+drop_at xs i x h e = drop-get xs i x (slice_get-get_or xs i x h ∙ ap Some (sym e)) ∙ (rw add-one refl)
+
+pub drop_past : {X : Type 0} (xs : List X) (i : ℕ) → length xs ≤ i → drop i xs ≡ []
+drop_past [] zero h = refl
+drop_past [] (suc i) h = refl
+drop_past (x ∷ xs) zero h = absurd (omega arith)
+drop_past (x ∷ xs) (suc i) h = drop_past xs i (omega arith)
+
+pub get-dropped : {X : Type 0} (xs : List X) (n : ℕ) (x : X) (ys : List X) → drop n xs ≡ x ∷ ys → slice_get xs n ≡ Some x
+get-dropped [] zero x ys e = cc
+get-dropped [] (suc n) x ys e = cc
+get-dropped (y ∷ xs) zero x ys e = cc
+get-dropped (y ∷ xs) (suc n) x ys e = get-dropped xs n x ys e
+
+pub drop-dropped : {X : Type 0} (xs : List X) (n : ℕ) (x : X) (ys : List X) → drop n xs ≡ x ∷ ys → drop (n + 1) xs ≡ ys
+drop-dropped xs n x ys e = sym (drop-drop 1 n xs) ∙ ap (drop 1) e
+
 fold_snoc : (g : ℕ → ℕ → ℕ) (a : ℕ) (xs : List ℕ) (x : ℕ) → fold g a (xs ++ x ∷ []) ≡ g (fold g a xs) x
 fold_snoc g a [] x = refl
 fold_snoc g a (y ∷ xs) x = fold_snoc g (g a y) xs x
 
+pub count_snoc : (p : ℕ → Bool) (xs : List ℕ) (n : ℕ) → count_by p (xs ++ n ∷ []) ≡ count_by p xs + cond (p n) 1 0
+count_snoc p xs n = fold_snoc (λ (a x : ℕ). a + cond (p x) 1 0) 0 xs n
+
 pub count_next : (p : ℕ → Bool) (n : ℕ) → count_by p (numbers (suc n)) ≡ count_by p (numbers n) + cond (p n) 1 0
-count_next p n = fold_snoc (λ (a x : ℕ). a + cond (p x) 1 0) 0 (numbers n) n
+count_next p n = count_snoc p (numbers n) n

@@ -34,6 +34,7 @@ use Rattle.kc_read.proofs.ReadTextLemmas.{IsInLines, expanded_lines}
 use Rattle.kc_read.proofs.ShownLemmas.{shows_each}
 use Rattle.kc_read.proofs.SymbolListLemmas.{defined-once, defined_line, prompted_is_defined, typed_is_defined}
 use Rattle.kc_read.proofs.TreeTextLemmas.{line_texts}
+use Rattle.kc_read.proofs.BlockLemmas.{first_nil}
 
 -- Names that differ stand at one place each.
 apart_at : (x name : List ℕ) (xs : List (List ℕ)) (i : ℕ) → AllByRecursion (λ y. same_name x y ≡ false) xs → slice_get xs i ≡ Some name → same_name x name ≡ false
@@ -78,10 +79,6 @@ good_is : (name : List ℕ) → is_good_name name ≡ true → IsSymbolName name
 good_is name h = name_by name (same_name name if_word || is_tristate_constant name) (nat_le 1 (length name)) (nat_le (length name) 255) (list_all is_name_byte name) refl refl refl h
 
 -- Where nothing is refused, no member is bad.
-append_none : {A : Type 0} (xs ys : List A) → xs ++ ys ≡ [] → xs ≡ []
-append_none [] ys h = refl
-append_none (x ∷ xs) ys h = absurd cc
-
 map_none : {A B : Type 0} (f : A → B) (xs : List A) → map f xs ≡ [] → xs ≡ []
 map_none f [] h = refl
 map_none f (x ∷ xs) h = absurd cc
@@ -112,8 +109,8 @@ module _ (names : List (List ℕ)) (ls : List (Located Numbered)) where
       let bad = All-head (λ (j : ℕ). bad_at j (slice_get numbered j) ≡ true) i is
       (subst (λ (js : List ℕ). All (λ (j : ℕ). bad_at j (slice_get numbered j) ≡ true) js) e
       (filter_passes (λ (j : ℕ). bad_at j (slice_get numbered j)) (indices numbered))) in
-      let all : flat_map (refused_at names ls cause.ChoiceMember) (i ∷ is) ≡ [] = append_none (flat_map (refused_at names ls cause.ChoiceMember) (i ∷ is)) rest h in
-      absurd (not_refused cause.ChoiceMember i bad (append_none (refused_at names ls cause.ChoiceMember i) (flat_map (refused_at names ls cause.ChoiceMember) is) all))
+      let all : flat_map (refused_at names ls cause.ChoiceMember) (i ∷ is) ≡ [] = first_nil (flat_map (refused_at names ls cause.ChoiceMember) (i ∷ is)) rest h in
+      absurd (not_refused cause.ChoiceMember i bad (first_nil (refused_at names ls cause.ChoiceMember i) (flat_map (refused_at names ls cause.ChoiceMember) is) all))
 
   pub none_bad : whole_list_refusals names ls ≡ [] → bad_members numbered ≡ []
   none_bad h = none_by (bad_members numbered) (flat_map (refused_at names ls cause.BadDefault) (bad_defaults numbered)) refl h

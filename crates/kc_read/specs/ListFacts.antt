@@ -1,5 +1,5 @@
 -- For proofs: What holds of the symbols, types, choices and menus of an expanded list.
-use Rattle.std.specs.Prelude.{◌≡◌, ◌<◌, ℕ, List, Option, Some, None, slice_get, is_some, true, filter}
+use Rattle.std.specs.Prelude.{◌≡◌, ◌<◌, ℕ, List, Some, None, slice_get, is_some, true, filter}
 use Rattle.kc_language.specs.declared.expressions.SymId.{SymId}
 use Rattle.kc_language.specs.declared.expressions.SymbolType.TheVariants as symbol_type
 use Rattle.kc_language.specs.Expressions.{symbol}
