@@ -18,20 +18,20 @@ use Rattle.kc_read.specs.RefusalView.{IsMemory, refusal_view}
 use Rattle.kc_build.specs.declared.listing.Listing.{Listing}
 use Rattle.kc_build.specs.PartsView.{parts_view}
 use Rattle.kc_language.specs.Symbols.{listed, defined_symbols, TreeFacts, facts_with, modules_symbol, tree_with, bad_defaults, bad_members, entry_name, menu_entry_at, entry_symbol, refused_at}
-use Rattle.kc_build.specs.PartsOfSymbols.{tree_of_log, unless_refused, whole_list_refusals}
-use Rattle.kc_build.specs.PartsOfSymbols.{tree_of_lines}
-use Rattle.kc_build.specs.SymbolRows.{AreBelow, AreChoicesApart, AreMenusOpened, AreTypesDefined}
+use Rattle.kc_read.specs.PartsOfSymbols.{tree_of_log, unless_refused, whole_list_refusals}
+use Rattle.kc_read.specs.PartsOfSymbols.{tree_of_lines}
+use Rattle.kc_read.specs.ListFacts.{AreBelow, AreChoicesApart, AreMenusOpened, AreTypesDefined}
 use Rattle.kc_build.specs.Listings.{IsListing}
 use Rattle.kc_build.specs.Passes.{statements_in}
 use Rattle.kc_tree.specs.TreeFacts.{IsWellFormed}
 use Rattle.kc_tree.specs.declared.layout.TreeParts.{TreeParts}
 use Rattle.kc_build.specs.Trees.{OneTree}
-use Rattle.kc_build.proofs.DefinedLemmas.{AreNames, expanded_allowed, expanded_known, numbered_typed}
-use Rattle.kc_build.proofs.ElementLemmas.{All-flat_map, All-map_each}
-use Rattle.kc_build.proofs.NestLemmas.{choice_alone, menu_closed}
-use Rattle.kc_build.proofs.NumberingLemmas.{numbered_below}
-use Rattle.kc_build.proofs.ShapeLemmas.{nested}
-use Rattle.kc_build.proofs.WholeLemmas.{IsShaped, shaped, well_formed}
+use Rattle.kc_read.proofs.DefinedLemmas.{AreNames, expanded_allowed, expanded_known, numbered_typed}
+use Rattle.kc_read.proofs.ElementLemmas.{All-flat_map, All-map_each}
+use Rattle.kc_read.proofs.NestLemmas.{choice_alone, menu_closed}
+use Rattle.kc_read.proofs.NumberingLemmas.{numbered_below}
+use Rattle.kc_read.proofs.ListShape.{nested}
+use Rattle.kc_read.proofs.WholeLemmas.{IsShaped, shaped, well_formed}
 
 -- Each refusal of the whole list is of a member or of a default.
 refusal_codes : (names : List (List ℕ)) (ls : List (Located Numbered)) → All (λ r. r.cause ≢ cause.Memory) (whole_list_refusals names ls)

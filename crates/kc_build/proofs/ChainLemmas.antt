@@ -7,7 +7,7 @@ use Rattle.std.proofs.lemmas.List.Elements.{All-nil, All-cons, All-head, All-tai
 use Rattle.kc_tree.specs.declared.rows.Selector.{Selector}
 use Rattle.kc_tree.specs.declared.rows.SelectorId.{SelectorId}
 use Rattle.kc_tree.specs.Chains.{chain_of, chains_from, chains_of}
-use Rattle.kc_build.proofs.GrownLemmas.{get_front, get_last}
+use Rattle.kc_read.proofs.PlaceLemmas.{get_front, end_get}
 
 -- behind the last element of a list with one more there is none
 pub get_past : {A : Type 0} (xs : List A) (y : A) (i : ℕ) → length xs < i → slice_get (xs ++ y ∷ []) i ≡ None
@@ -111,6 +111,6 @@ module _ {A : Type 0} (read : Option Selector → Option A) where
   pub to-new : (lines : List Selector) (r : Selector) (id : SelectorId) (x : A) → id.0 ≡ length lines → read (Some r) ≡ Some x → read_to (lines ++ r ∷ []) (Some id) ≡ read_to lines r.next ++ x ∷ []
   to-new lines r id x e s =
       let rest = read-keeps lines r (chain_of (chains_of lines) r.next) (chain-there lines r.next) in
-      let here : read (slice_get (lines ++ r ∷ []) (length lines)) ≡ Some x = ap read (get_last lines r) ∙ s in
+      let here : read (slice_get (lines ++ r ∷ []) (length lines)) ≡ Some x = ap read (end_get lines r) ∙ s in
       let both : read_chain (lines ++ r ∷ []) (length lines ∷ chain_of (chains_of lines) r.next) ≡ x ∷ read_chain lines (chain_of (chains_of lines) r.next) = rw (here, rest) refl in
       ap (λ (c : List ℕ). reverse (read_chain (lines ++ r ∷ []) c)) (chain-new lines r id e) ∙ ap reverse both ∙ reverse-append (x ∷ []) (read_chain lines (chain_of (chains_of lines) r.next))

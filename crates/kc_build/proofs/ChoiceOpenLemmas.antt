@@ -22,12 +22,12 @@ use Rattle.kc_tree.specs.declared.rows.Title.{Title}
 use Rattle.kc_tree.specs.Contexts.{HasNoMode, condition_in, in_choice, top}
 use Rattle.kc_tree.specs.Layouts.{choice_default_view, choice_facts as choice_in, prompt_view, with_when, with_conjuncts}
 use Rattle.kc_language.specs.Symbols.{Condition, ChoiceFacts, Guarded, listed, StatedDefault, prompt_of, block_conjuncts, choice_number, enclosing_choice, dependency, stated_default, of_block, prompt_at, single_symbol, symbol_at}
-use Rattle.kc_build.specs.PartsOfSymbols.{shown_number}
-use Rattle.kc_build.specs.PartsOfSymbols.{prompt_condition, depends_form, is_member_index, enclosing_visible}
+use Rattle.kc_read.specs.PartsOfSymbols.{shown_number}
+use Rattle.kc_read.specs.PartsOfSymbols.{prompt_condition, depends_form, is_member_index, enclosing_visible}
 use Rattle.kc_build.specs.Before.{choice_before, choices_before, members_before, named_default}
 use Rattle.kc_build.specs.EntryLines.{choice_default_line, named_line, named_symbol, prompt_line}
 use Rattle.kc_build.specs.Growth.{IsGrown, Stands}
-use Rattle.kc_build.specs.Scopes.{block_visible}
+use Rattle.kc_read.specs.Scopes.{block_visible}
 use Rattle.kc_build.specs.WalkResult.{IsEntryThere, IsTitleThere}
 use Rattle.kc_build.specs.Stacks.{AreTitlesWithin, block_facts_at, block_view}
 use Rattle.kc_build.specs.Walks.{Enters, index_after}
@@ -35,9 +35,9 @@ use Rattle.kc_build.specs.declared.blocks.BlockScope.{BlockScope}
 use Rattle.kc_build.specs.declared.walk.EntryWalk.{EntryWalk}
 use Rattle.kc_build.proofs.CloserLemmas.{extends_equal, no_fewer}
 use Rattle.kc_build.proofs.DefineLemmas.{by_asked, prompt_by_line, line_prompt, prompt_visible}
-use Rattle.kc_build.proofs.GrownLemmas.{AreKept, Extends, carries_grown, choice_extends, further, get_front, get_pushed_if, grown_push, kept_by, kept_carries, map_alike, open_extends, plain_carries, modeless_extends, pushed}
+use Rattle.kc_build.proofs.GrownLemmas.{AreKept, Extends, carries_grown, choice_extends, further, get_pushed_if, grown_push, kept_by, kept_carries, map_alike, open_extends, plain_carries, modeless_extends, pushed}
 use Rattle.kc_build.proofs.HeldLemmas.{carries_entry}
-use Rattle.kc_build.proofs.ListLemmas.{count_next}
+use Rattle.kc_read.proofs.PlaceLemmas.{count_next, get_front}
 use Rattle.kc_build.proofs.OpenLemmas.{open_opens}
 use Rattle.kc_build.proofs.OpenerLemmas.{block_inside}
 use Rattle.kc_build.proofs.TitleLemmas.{dependency_is}

@@ -11,8 +11,8 @@ use Rattle.kc_language.specs.Expansion.{bracket_at, Closes, bracket, numbers}
 use Rattle.kc_tree.specs.declared.rows.ShownEntry.TheVariants as entry
 use Rattle.kc_tree.specs.Layouts.{shown_of}
 use Rattle.kc_language.specs.Symbols.{Condition, EndShown, shown_at, shows_entry, of_block}
-use Rattle.kc_build.specs.PartsOfSymbols.{shown_number}
-use Rattle.kc_build.specs.PartsOfSymbols.{enclosing_block, symbol_of, title_of}
+use Rattle.kc_read.specs.PartsOfSymbols.{shown_number}
+use Rattle.kc_read.specs.PartsOfSymbols.{enclosing_block, symbol_of, title_of}
 use Rattle.kc_build.specs.WalkResult.{IsEntryThere, IsTitleThere}
 use Rattle.kc_build.specs.Stacks.{AreOpen, IsClosed}
 use Rattle.kc_build.specs.Walks.{Enters}
@@ -20,7 +20,7 @@ use Rattle.kc_build.specs.WalkSteps.{ends_of}
 use Rattle.kc_build.specs.declared.walk.EntryWalk.{EntryWalk}
 use Rattle.kc_read.proofs.EnclosingLemmas.{last_is_nested}
 use Rattle.kc_build.proofs.GrownLemmas.{Extends, carries_same, extends}
-use Rattle.kc_build.proofs.ListLemmas.{count_next}
+use Rattle.kc_read.proofs.PlaceLemmas.{count_next}
 use Rattle.kc_build.proofs.OpenLemmas.{open_closes}
 use Rattle.kc_build.proofs.OpenerLemmas.{AreSame, quiet_passes}
 use Rattle.kc_build.proofs.TitleLemmas.{AreRest}

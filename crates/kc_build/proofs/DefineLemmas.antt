@@ -25,7 +25,7 @@ use Rattle.kc_tree.specs.Contexts.{HasNoMode, condition_in}
 use Rattle.kc_tree.specs.Layouts.{definition_facts, prompt_view, default_view, range_view, with_conjuncts, with_when}
 use Rattle.kc_tree.specs.Spans.{slice_of}
 use Rattle.kc_language.specs.Symbols.{Condition, prompt_of}
-use Rattle.kc_build.specs.PartsOfSymbols.{depends_form}
+use Rattle.kc_read.specs.PartsOfSymbols.{depends_form}
 use Rattle.kc_build.specs.declared.blocks.BlockScope.{BlockScope}
 use Rattle.kc_build.specs.declared.walk.EntryWalk.{EntryWalk}
 use Rattle.kc_build.specs.EntryLines.{default_line, prompt_line, range_line}

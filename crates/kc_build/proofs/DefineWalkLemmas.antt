@@ -22,12 +22,12 @@ use Rattle.kc_tree.specs.Contexts.{condition_in}
 use Rattle.kc_tree.specs.Layouts.{DefinitionFacts, choice_default_view, choice_facts as choice_in, default_view, definition_facts, impliers_at, prompt_view, range_view, selectors_at, shown_of, with_when}
 use Rattle.kc_tree.specs.Spans.{slice_of}
 use Rattle.kc_language.specs.Symbols.{ChoiceFacts, Condition, Guarded, SymbolShown, StatedDefault, enclosing_choice, dependency, stated_default, is_first_definition, naming_at, symbol_at}
-use Rattle.kc_build.specs.PartsOfSymbols.{defaults_at, imply_of, guarded_range, select_of, symbol_of, first_of_symbol}
+use Rattle.kc_read.specs.PartsOfSymbols.{defaults_at, imply_of, guarded_range, select_of, symbol_of, first_of_symbol}
 use Rattle.kc_build.specs.declared.walk.EntryWalk.{EntryWalk}
 use Rattle.kc_language.specs.declared.symbols.SelectOrImply.TheVariants as select_or_imply
 use Rattle.kc_build.specs.Before.{choices_before, definition_facts_at, definitions_before, entries_before, impliers_before, selectors_before}
 use Rattle.kc_build.specs.EntryLines.{default_line, range_line}
-use Rattle.kc_build.specs.PartsOfSymbols as facts
+use Rattle.kc_read.specs.PartsOfSymbols as facts
 use Rattle.kc_build.specs.Passes.{change}
 use Rattle.kc_build.specs.SelectorRows.{AreAdded, HaveSources, added_lines, selects_of, implies_of}
 use Rattle.kc_build.specs.WalkResult.{AreRowsThere, HasHeads, IsEntryThere, IsSmall, IsSpanBelow, IsTitleThere}

@@ -6,7 +6,7 @@ use Rattle.std.specs.Option.{option_or, is_some}
 use Rattle.std.proofs.lemmas.Bool.Decides.{nat_tests}
 use Rattle.std.proofs.lemmas.Grind.{flat_map-append}
 use Rattle.std.proofs.lemmas.Option.{slice_get-map, slice_get_within}
-use Rattle.std.proofs.lemmas.List.{append-nil, length-map, length-append, length-drop, drop-drop}
+use Rattle.std.proofs.lemmas.List.{append-nil, length-map, length-append, length-drop}
 use Rattle.std.proofs.lemmas.List.Elements.{filter-append, All-nil, All-cons, All-head, All-tail, All-same}
 use Rattle.std.proofs.lemmas.List.Sums.{take_while-cons}
 use Rattle.kc_language.specs.declared.expressions.SymId.{SymId}
@@ -19,20 +19,23 @@ use Rattle.kc_read.specs.declared.refusal.Refusal.{Refusal}
 use Rattle.kc_language.specs.declared.symbols.ChoiceId.{ChoiceId}
 use Rattle.kc_tree.specs.declared.rows.Symbol.{Symbol}
 use Rattle.kc_language.specs.Symbols.{TreeFacts, listed, prompt_of, choice_of, enclosing_choice, type_of, is_first_definition_at, bad_defaults, bad_members, menu_entry_at, refused_at, line_warnings}
-use Rattle.kc_build.specs.PartsOfSymbols.{is_member, unless_refused, whole_list_refusals, warnings}
-use Rattle.kc_build.specs.PartsOfSymbols.{first_of, is_bad_default, is_bad_member, line_of, menu_entry_before, prompt_before, line_warnings_by, warned_at}
+use Rattle.kc_read.specs.PartsOfSymbols.{is_member, unless_refused, whole_list_refusals, warnings}
+use Rattle.kc_read.specs.PartsOfSymbols.{first_of, is_bad_default, is_bad_member, line_of, menu_entry_before, prompt_before, line_warnings_by, warned_at}
 use Rattle.kc_build.specs.declared.diagnostics.Diagnostics.{Diagnostics}
 use Rattle.kc_build.specs.declared.diagnostics.EntrySummary.{EntrySummary}
 use Rattle.kc_language.specs.declared.symbols.MenuEntry.{MenuEntry}
 use Rattle.kc_build.specs.Diagnosed.{Diagnosis, AreLinesDiagnosed, lines_diagnosed, diagnosis_view, line_diagnosed}
-use Rattle.kc_build.specs.SymbolRows.{AreBelow, AreSymbols, IsEntrySummary, choice_by, type_by, member_by, line_warnings_in}
+use Rattle.kc_read.specs.ListFacts.{AreBelow}
+use Rattle.kc_build.specs.SymbolRows.{AreSymbols, IsEntrySummary, choice_by, type_by, member_by, line_warnings_in}
 use Rattle.kc_build.specs.WholeListRefusals.{entry_refusal}
 use Rattle.kc_build.specs.WalkResult.{IsDiagnosed}
 use Rattle.kc_build.proofs.TypeLemmas.{choices_known, types_known}
-use Rattle.kc_build.proofs.ListLemmas.{there_in}
-use Rattle.kc_build.proofs.MemberLemmas.{below_or_past, member_is}
-use Rattle.kc_build.proofs.MenuEntryLemmas.{has_prompt, entry_goes_on, entry_here, prompt_begins, prompt_goes_on}
-use Rattle.kc_build.proofs.PlaceLemmas.{filter-next, flat_map-next}
+use Rattle.kc_read.proofs.PlaceLemmas.{there_in, get-dropped, drop-dropped}
+use Rattle.kc_read.proofs.MemberLemmas.{below_or_past, member_is}
+use Rattle.kc_read.proofs.MenuEntryLemmas.{has_prompt, entry_goes_on, entry_here, prompt_begins, prompt_goes_on}
+use Rattle.kc_read.proofs.PlaceLemmas.{filter-next, flat_map-next}
+use Rattle.kc_read.proofs.ListLemmas.{first_of-append}
+use Rattle.kc_read.proofs.BlockLemmas.{first_nil, second_nil}
 
 -- The places below one, of those that are kept among all.
 below_it : (n i : ℕ) → n < i → nat_lt n i ≡ true
@@ -76,10 +79,6 @@ module _ (q : ℕ → Bool) where
       by (inl l) ih = let e : i ≡ suc n = omega arith in rw e (all_below (suc n) (suc n) (omega arith))
       by (inr l) ih = kept_next i n ∙ ap (λ l. kept_below i n ++ l) (one_gone (λ j. nat_lt j i) (q n) n (not_below n i l)) ∙ append-nil (kept_below i n) ∙ ih l
 
-first_append : {A : Type 0} (xs ys : List A) → first_of (xs ++ ys) ≡ option_or (first_of xs) (first_of ys)
-first_append [] ys = refl
-first_append (x ∷ xs) ys = refl
-
 -- The first of what the kept places give, one place more.
 module _ {A : Type 0} (R : ℕ → List A) (q : ℕ → Bool) where
   found_one : (i : ℕ) (b c : Bool) (a : A) → q i ≡ c → c ≡ b → R i ≡ a ∷ [] → first_of (flat_map R (one_if (q i) i)) ≡ (if b then Some a else None)
@@ -91,7 +90,7 @@ module _ {A : Type 0} (R : ℕ → List A) (q : ℕ → Bool) where
   found_next i b o a e r h =
       ap (λ (p : Option A). option_or p (if b then Some a else None)) h
       ∙ ap (option_or (first_of (flat_map R (filter q (numbers i))))) (sym (found_one i b b a e refl r))
-      ∙ sym (first_append (flat_map R (filter q (numbers i))) (flat_map R (one_if (q i) i)))
+      ∙ sym (first_of-append (flat_map R (filter q (numbers i))) (flat_map R (one_if (q i) i)))
       ∙ ap first_of (sym (flat_map-append R (filter q (numbers i)) (one_if (q i) i)))
       ∙ ap (λ l. first_of (flat_map R l)) (sym (filter-next q i))
 
@@ -248,15 +247,6 @@ taken_pass : {A : Type 0} (p : A → Bool) (xs : List A) → All (λ x. p x ≡ 
 taken_pass p [] = All-nil (λ x. p x ≡ true)
 taken_pass p (x ∷ xs) = all_pass p (p x) x xs refl (taken_pass p xs)
 
-get_dropped : {A : Type 0} (xs : List A) (i : ℕ) (x : A) (ys : List A) → drop i xs ≡ x ∷ ys → slice_get xs i ≡ Some x
-get_dropped [] zero x ys h = cc
-get_dropped [] (suc i) x ys h = cc
-get_dropped (y ∷ xs) zero x ys h = cc
-get_dropped (y ∷ xs) (suc i) x ys h = get_dropped xs i x ys h
-
-drop_dropped : {A : Type 0} (xs : List A) (i : ℕ) (x : A) (ys : List A) → drop i xs ≡ x ∷ ys → drop (i + 1) xs ≡ ys
-drop_dropped xs i x ys h = sym (drop-drop 1 i xs) ∙ ap (drop 1) h
-
 module _ (names : List (List ℕ)) (ls : List (Located Numbered)) (symbols : List Symbol) (below : AreBelow (length symbols) (statements ls))
     (are : AreSymbols (statements ls) symbols) (summary : EntrySummary) where
   -- an attribute: whether a definition is the first, and in which choice it stands, does not count
@@ -286,7 +276,7 @@ module _ (names : List (List ℕ)) (ls : List (Located Numbered)) (symbols : Lis
   attributes_next [] rest i prompted d h a e p f = let same : i + 0 ≡ i = omega arith in rw same f
   attributes_next (l ∷ own) rest i prompted d h a e p f =
       let ss = statements ls in
-      let at = get_dropped ls i l (own ++ rest) h in
+      let at = get-dropped ls i l (own ++ rest) h in
       let read = statement_read names ls i l at in
       let one : is_attribute l.statement ≡ true = All-head (λ s. is_attribute s ≡ true) l.statement (map (λ l. l.statement) own) a in
       let more = All-tail (λ s. is_attribute s ≡ true) l.statement (map (λ l. l.statement) own) a in
@@ -295,7 +285,7 @@ module _ (names : List (List ℕ)) (ls : List (Located Numbered)) (symbols : Lis
       ∙ sym (prompt_goes_on ss i l.statement read one) in
       let there : i + length (l ∷ own) ≡ (i + 1) + length own = omega arith in
       rw there (attributes_next own rest (i + 1) (prompted || has_prompt l.statement) (line_diagnosed names symbols summary prompted l d)
-      (drop_dropped ls i l (own ++ rest) h) more (entry_goes_on ss i l.statement read one ∙ e) asked next)
+      (drop-dropped ls i l (own ++ rest) h) more (entry_goes_on ss i l.statement read one ∙ e) asked next)
     where
       turned : (a b : Bool) → (a || b) ≡ (b || a)
       turned true true = refl
@@ -366,14 +356,6 @@ module _ (names : List (List ℕ)) (ls : List (Located Numbered)) (symbols : Lis
       (entry_next i head own rest (diagnosis_view old) at tail are_own begins is (found names ls i old (omega arith) old_is)))
 
 -- Behind the last line.
-no_left : {A : Type 0} (xs ys : List A) → xs ++ ys ≡ [] → xs ≡ []
-no_left [] ys h = refl
-no_left (x ∷ xs) ys h = cc
-
-no_right : {A : Type 0} (xs ys : List A) → xs ++ ys ≡ [] → ys ≡ []
-no_right [] ys h = h
-no_right (x ∷ xs) ys h = cc
-
 none_first : {A : Type 0} (xs : List A) → first_of xs ≡ None → xs ≡ []
 none_first [] h = refl
 none_first (x ∷ xs) h = cc
@@ -384,8 +366,8 @@ module _ {A : Type 0} (R : ℕ → List A) (q : ℕ → Bool) where
   none_more n b e some h ih =
       let more : filter q (numbers (suc n)) ≡ filter q (numbers n) ++ one_if b n = (rw add-one at (filter-next q n)) ∙ ap (λ c. filter q (numbers n) ++ one_if c n) e in
       let none : flat_map R (filter q (numbers n)) ++ flat_map R (one_if b n) ≡ [] = sym (flat_map-append R (filter q (numbers n)) (one_if b n)) ∙ ap (flat_map R) (sym more) ∙ h in
-      let front = ih (no_left (flat_map R (filter q (numbers n))) (flat_map R (one_if b n)) none) in
-      more ∙ ap (λ l. l ++ one_if b n) front ∙ last b (no_right (flat_map R (filter q (numbers n))) (flat_map R (one_if b n)) none)
+      let front = ih (first_nil (flat_map R (filter q (numbers n))) (flat_map R (one_if b n)) none) in
+      more ∙ ap (λ l. l ++ one_if b n) front ∙ last b (second_nil (flat_map R (filter q (numbers n))) (flat_map R (one_if b n)) none)
     where
       last : (c : Bool) → flat_map R (one_if c n) ≡ [] → one_if c n ≡ []
       last false g = refl
@@ -412,7 +394,7 @@ module _ (names : List (List ℕ)) (ls : List (Located Numbered)) (d : Diagnosti
 
   first_refusal : first_of (whole_list_refusals names ls) ≡ option_or (option_map refusal_view d.bad_member) (option_map refusal_view d.bad_default)
   first_refusal =
-      first_append (flat_map (refused_at names ls cause.ChoiceMember) (bad_members (statements ls))) (flat_map (refused_at names ls cause.BadDefault) (bad_defaults (statements ls)))
+      first_of-append (flat_map (refused_at names ls cause.ChoiceMember) (bad_members (statements ls))) (flat_map (refused_at names ls cause.BadDefault) (bad_defaults (statements ls)))
       ∙ ap (λ (o : Option Refused). option_or o (first_of (flat_map (refused_at names ls cause.BadDefault) (bad_defaults (statements ls))))) first_member
       ∙ ap (option_or (option_map refusal_view d.bad_member)) first_default
 

@@ -12,10 +12,10 @@ use Rattle.kc_language.specs.Statements.{Numbered, ConfigLine, IfLine, EndIfLine
 use Rattle.kc_language.specs.Expansion.{bracket_at, NoBracket, bracket, enclosing, is_attribute, numbers}
 use Rattle.kc_build.specs.Before.{definition_line, definitions_before, entries_before, members_before}
 use Rattle.kc_language.specs.Symbols.{shown_at, naming_at, of_block, symbol_at}
-use Rattle.kc_build.specs.PartsOfSymbols.{is_member_index, symbol_of, title_of}
+use Rattle.kc_read.specs.PartsOfSymbols.{is_member_index, symbol_of, title_of}
 use Rattle.kc_build.specs.Walks.{IsHead, index_after}
 use Rattle.kc_read.proofs.EnclosingLemmas.{enclosing-no, take-next}
-use Rattle.kc_build.proofs.PlaceLemmas.{filter-next, filter_map-next, flat_map-next}
+use Rattle.kc_read.proofs.PlaceLemmas.{filter-next, filter_map-next, flat_map-next}
 
 -- What an attribute is not.
 pub attribute_symbol : (s : Numbered) → is_attribute s ≡ true → symbol_of (Some s) ≡ None

@@ -1,5 +1,5 @@
 -- What an entry does to the walk that is no symbol, block or comment: the ends of an `if` and of a choice, a main menu.
-use Rattle.std.proofs.Common.{Bool, ◌≡◌, ℕ, List, [], ◌∷◌, ◌++◌, length, take, Some, None, codes, unwrap_or, refl, ap, sym, ◌∙◌, subst, arith, inl, inr}
+use Rattle.std.proofs.Common.{Bool, ◌≡◌, ℕ, List, length, take, Some, None, codes, unwrap_or, refl, ap, sym, ◌∙◌, subst, arith, inl, inr}
 use Rattle.std.specs.Prelude.{◌⊎◌, OnOk, Result}
 use Rattle.std.specs.List.{filter_map}
 use Rattle.std.proofs.lemmas.Result.{on_ok_weaker}
@@ -9,13 +9,14 @@ use Rattle.kc_read.specs.StatementViews.{head_view}
 use Rattle.kc_language.specs.Statements.{Numbered, MainMenuLine}
 use Rattle.kc_language.specs.Expansion.{Closes, bracket_at, bracket, last_of}
 use Rattle.kc_language.specs.Symbols.{shown_at}
-use Rattle.kc_build.specs.PartsOfSymbols.{symbol_of, title_of}
+use Rattle.kc_read.specs.PartsOfSymbols.{symbol_of, title_of}
 use Rattle.kc_build.specs.Walks.{Enters}
 use Rattle.kc_build.specs.declared.walk.EntryWalk.{EntryWalk}
 use Rattle.kc_build.proofs.CloserLemmas.{extends_equal}
 use Rattle.kc_build.proofs.EnterLemmas.{titles_passed}
 use Rattle.kc_build.proofs.OpenLemmas.{open_passes}
 use Rattle.kc_build.proofs.OpenerLemmas.{AreSame, quiet_passes}
+use Rattle.kc_read.proofs.ListLemmas.{last_of-push}
 
 -- By the line that a head stands for.
 pub enters_by : {T E P : Type 0} (r : Result T E) (first : Bool) (s t : Numbered) (own : List Numbered) (old new : EntryWalk) → s ≡ t → (P → Enters first t own old new) → OnOk r P →
@@ -33,11 +34,6 @@ pub end_is : (s : Head) → (s ≡ made.EndIf) ⊎ (s ≡ made.EndChoice) → Is
 end_is s (inl e) = rw e (record { closes = refl; symbol = refl; title = refl; entry = λ ss i. refl })
 end_is s (inr e) = rw e (record { closes = refl; symbol = refl; title = refl; entry = λ ss i. refl })
 
-last_snoc : {X : Type 0} (xs : List X) (x : X) → last_of (xs ++ x ∷ []) ≡ Some x
-last_snoc [] x = refl
-last_snoc (y ∷ []) x = refl
-last_snoc (y ∷ z ∷ xs) x = last_snoc (z ∷ xs) x
-
 pub main_menu_enters : (text : List ℕ) (old new : EntryWalk) → AreSame old new → new.tables.contexts ≡ old.tables.contexts → new.blocks ≡ old.blocks → new.main_menu.items ≡ text →
     (first : Bool) (own : List Numbered) → Enters first (MainMenuLine text) own old new
 main_menu_enters text old new same contexts blocks says first own ss count i a h k =
@@ -47,4 +43,4 @@ main_menu_enters text old new same contexts blocks says first own ss count i a h
     (let n : length new.tables.contexts ≡ length old.tables.contexts = ap length contexts in omega arith)
     (rw (contexts, blocks) (open_passes ss i (MainMenuLine text) h.at old.tables.contexts old.blocks refl k.blocks))
     (says ∙ sym (ap (λ (l : List (List ℕ)). unwrap_or (last_of l) (codes "Main menu")) (titles_passed ss i (MainMenuLine text) own h)
-    ∙ ap (λ o. unwrap_or o (codes "Main menu")) (last_snoc (filter_map title_of (take i ss)) text)))
+    ∙ ap (λ o. unwrap_or o (codes "Main menu")) (last_of-push (filter_map title_of (take i ss)) text)))

@@ -18,12 +18,13 @@ use Rattle.kc_build.specs.declared.blocks.BlockScope.{BlockScope}
 use Rattle.kc_language.specs.declared.symbols.MenuEntry.TheVariants as menu_entry
 use Rattle.kc_build.specs.declared.walk.EntryWalk.{EntryWalk}
 use Rattle.kc_language.specs.Symbols.{choice_number, enclosing_choice, symbol_at, is_first_definition_at, begun, menu_entry_at}
-use Rattle.kc_build.specs.PartsOfSymbols.{symbol_of, first_of_symbol, menu_entry_before}
-use Rattle.kc_build.specs.SymbolRows.{AreBelow, definition_number, is_new_by}
+use Rattle.kc_read.specs.PartsOfSymbols.{symbol_of, first_of_symbol, menu_entry_before}
+use Rattle.kc_read.specs.ListFacts.{AreBelow}
+use Rattle.kc_build.specs.SymbolRows.{definition_number, is_new_by}
 use Rattle.kc_build.specs.SymbolWalk.{AreRowsBefore}
 use Rattle.kc_build.specs.Walks.{IsHead, IsWalk}
 use Rattle.kc_build.proofs.FirstNumberLemmas.{new_is_first}
-use Rattle.kc_build.proofs.MenuEntryLemmas.{entry_begins, entry_goes_on, entry_here}
+use Rattle.kc_read.proofs.MenuEntryLemmas.{entry_begins, entry_goes_on, entry_here}
 use Rattle.kc_build.proofs.WalkLemmas.{choice_count}
 use Rattle.kc_build.proofs.LayoutLemmas.{length-given}
 

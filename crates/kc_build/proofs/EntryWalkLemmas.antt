@@ -14,6 +14,7 @@ use Rattle.kc_language.specs.Expansion.{attributes, is_attribute}
 use Rattle.kc_read.proofs.HeadLemmas.{attribute_is, no_attribute}
 use Rattle.kc_build.specs.Passes.{statements_in, statements_of}
 use Rattle.kc_build.specs.Walks.{IsAt, IsHead, index_after}
+use Rattle.kc_read.proofs.PlaceLemmas.{get-dropped, drop-dropped}
 
 pub at-start : (es : Entries) → IsAt es 0 0
 at-start es = record { rest = refl; within = omega arith }
@@ -26,15 +27,6 @@ drop-all (x ∷ xs) (suc n) e = let h = drop-all xs n e in omega arith
 -- behind the last entry
 pub at-end : (es : Entries) (i place : ℕ) → IsAt es i place → lines_from es i ≡ [] → place ≡ length (lines_in es)
 at-end es i place h none = let past = drop-all (lines_in es) place (h.rest ∙ none) in let within = h.within in omega arith
-
-get-dropped : {X : Type 0} (xs : List X) (n : ℕ) (x : X) (ys : List X) → drop n xs ≡ x ∷ ys → slice_get xs n ≡ Some x
-get-dropped [] zero x ys e = cc
-get-dropped [] (suc n) x ys e = cc
-get-dropped (y ∷ xs) zero x ys e = cc
-get-dropped (y ∷ xs) (suc n) x ys e = get-dropped xs n x ys e
-
-drop-dropped : {X : Type 0} (xs : List X) (n : ℕ) (x : X) (ys : List X) → drop n xs ≡ x ∷ ys → drop (n + 1) xs ≡ ys
-drop-dropped xs n x ys e = sym (drop-drop 1 n xs) ∙ ap (drop 1) e
 
 drop-front : {X : Type 0} (xs ys : List X) → drop (length xs) (xs ++ ys) ≡ ys
 drop-front [] ys = refl

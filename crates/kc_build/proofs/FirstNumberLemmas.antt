@@ -16,9 +16,10 @@ use Rattle.kc_tree.specs.declared.rows.Symbol.{Symbol}
 use Rattle.kc_tree.specs.Spans.{definition_ids}
 use Rattle.kc_language.specs.Symbols.{is_symbol_of, listed, definitions_of, is_first_definition, type_of, symbol_at}
 use Rattle.kc_build.specs.SymbolRows.{SymbolRow, definition_number, is_new_by, row_view}
-use Rattle.kc_build.specs.SymbolWalk.{AreRowsBefore, defined_before, entry_type, row_before}
-use Rattle.kc_build.proofs.FirstLemmas.{first-is, some_places}
-use Rattle.kc_build.proofs.PlaceLemmas.{get-map_numbers}
+use Rattle.kc_build.specs.SymbolWalk.{AreRowsBefore, entry_type, row_before}
+use Rattle.kc_read.specs.ListFacts.{defined_before}
+use Rattle.kc_read.proofs.FirstLemmas.{first-is, some_places}
+use Rattle.kc_read.proofs.PlaceLemmas.{get-map_numbers}
 use Rattle.kc_build.proofs.SymbolRowLemmas.{first_by_entry}
 
 -- By the rows of the symbols.

@@ -38,29 +38,13 @@ use Rattle.kc_build.specs.declared.blocks.BlockScope.{BlockScope}
 use Rattle.kc_build.specs.declared.blocks.Blocks.{Blocks}
 use Rattle.kc_build.specs.declared.walk.EntryWalk.{EntryWalk}
 use Rattle.std.proofs.lemmas.Bool.{cases_lt}
+use Rattle.kc_read.proofs.PlaceLemmas.{get_front, there_in}
+use Rattle.kc_read.proofs.ListLemmas.{filter_map_alike}
 
 -- Lists.
 pub map_alike : {A B : Type 0} (f g : A → B) (xs : List A) → ((i : ℕ) (x : A) → slice_get xs i ≡ Some x → f x ≡ g x) → map f xs ≡ map g xs
 map_alike f g [] h = refl
 map_alike f g (x ∷ xs) h = rw (h 0 x refl, map_alike f g xs (λ i y e. h (suc i) y e)) refl
-
-pub filter_map_alike : {A B : Type 0} (f g : A → Option B) (xs : List A) → ((x : A) → f x ≡ g x) → filter_map f xs ≡ filter_map g xs
-filter_map_alike f g [] h = refl
-filter_map_alike f g (x ∷ xs) h = rw (h x, filter_map_alike f g xs h) refl
-
-pub get_front : {X : Type 0} (xs ys : List X) (i : ℕ) → i < length xs → slice_get (xs ++ ys) i ≡ slice_get xs i
-get_front [] ys i h = absurd (omega arith)
-get_front (x ∷ xs) ys zero h = refl
-get_front (x ∷ xs) ys (suc i) h = get_front xs ys i (omega arith)
-
-pub get_last : {X : Type 0} (xs : List X) (x : X) → slice_get (xs ++ x ∷ []) (length xs) ≡ Some x
-get_last [] x = refl
-get_last (y ∷ xs) x = get_last xs x
-
-pub there_is : {X : Type 0} (xs : List X) (i : ℕ) → i < length xs → (x : X) × (slice_get xs i ≡ Some x)
-there_is [] i h = absurd (omega arith)
-there_is (x ∷ xs) zero h = (x, refl)
-there_is (x ∷ xs) (suc i) h = there_is xs i (omega arith)
 
 -- an element of a list with one more
 pub get_pushed : {X : Type 0} (xs : List X) (y : X) (i : ℕ) (x : X) → slice_get (xs ++ y ∷ []) i ≡ Some x → (slice_get xs i ≡ Some x) ⊎ ((i ≡ length xs) × (y ≡ x))
@@ -340,7 +324,7 @@ module _ (old new : Tables) where
         (shown_when new (slice_get new.titles.items i) ≡ shown_when old (slice_get old.titles.items i))
     title_says rest rows e i h =
         let o = titled rest e i h in
-        let t = there_is old.titles.items i h in
+        let t = there_in old.titles.items i h in
         (ap title_text o, ap (shown_when new) o ∙ by_title (slice_get old.titles.items i) (λ s q. title_there i s rows q) t.0 t.1)
 
     pub shown_extends : (rest : List Title) (m : ℕ) (e : ShownEntry) → AreRowsThere old → new.titles.items ≡ old.titles.items ++ rest → IsEntryThere (length old.titles.items) m e →

@@ -14,9 +14,10 @@ use Rattle.kc_build.specs.Stacks.{AreBlocksModeless, AreBlocksVisible, AreBlocks
 use Rattle.kc_build.specs.declared.blocks.BlockScope.{BlockScope}
 use Rattle.kc_build.specs.declared.blocks.Blocks.{Blocks}
 use Rattle.kc_build.specs.declared.walk.EntryWalk.{EntryWalk}
-use Rattle.kc_build.proofs.GrownLemmas.{AreHeld, Carries, Holding, Keeping, carries_grown, carries_push, carries_same, further, get_front, get_last, get_pushed, held_by, held_carries, holding, keeping_carries, plain_carries}
+use Rattle.kc_build.proofs.GrownLemmas.{AreHeld, Carries, Holding, Keeping, carries_grown, carries_push, carries_same, further, get_pushed, held_by, held_carries, holding, keeping_carries, plain_carries}
 use Rattle.kc_build.proofs.OpenLemmas.{ends}
 use Rattle.kc_tree.specs.Layouts.{with_conjuncts}
+use Rattle.kc_read.proofs.PlaceLemmas.{get_front, end_get}
 
 -- a context inside another one, where there was memory for it
 pub carries_added : {T E : Type 0} (r : Result T E) (old new : List Condition) (j : ℕ) (f : Form) → j < length old → OnOk r (new ≡ old ++ and_also (condition_in old j) f ∷ []) →
@@ -60,7 +61,7 @@ module _ (P : BlockScope → Type 0) (old new : Blocks) (h : OfEach P old) where
           slice_get (open_scopes new) j ≡ Some b → P b
       left ys y e inner outer zero b at =
           let same : y ≡ b = cc in
-          h (suc (length ys)) b (ap (λ (l : List BlockScope). slice_get l (length ys)) e ∙ get_last ys y ∙ ap Some same)
+          h (suc (length ys)) b (ap (λ (l : List BlockScope). slice_get l (length ys)) e ∙ end_get ys y ∙ ap Some same)
       left ys y e inner outer (suc j) b at =
           let found : slice_get ys j ≡ Some b = sym (ap (λ (l : List BlockScope). slice_get l j) outer) ∙ at in
           let within = slice_get_within ys j b found in

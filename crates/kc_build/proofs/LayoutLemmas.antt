@@ -19,27 +19,20 @@ use Rattle.kc_tree.specs.Layouts.{DefinitionFacts, facts_at, facts_by, facts_of,
 use Rattle.kc_tree.specs.Contexts.{mode_view}
 use Rattle.kc_tree.specs.Spans.{definition_ids}
 use Rattle.kc_language.specs.Symbols.{is_symbol_of, choice_of, definitions_of, type_of, symbol_at, symbol_facts}
-use Rattle.kc_build.specs.PartsOfSymbols.{impliers_of, selectors_of}
+use Rattle.kc_read.specs.PartsOfSymbols.{impliers_of, selectors_of}
 use Rattle.kc_build.specs.Before.{definition_facts_at, definition_line, definitions_before}
 use Rattle.kc_build.specs.SymbolRows.{AreSymbols, SymbolRow, definition_number, row_of, row_view}
 use Rattle.kc_read.proofs.EnclosingLemmas.{numbers_from, numbers-from}
-use Rattle.kc_build.proofs.ElementLemmas.{same_is}
-use Rattle.kc_build.proofs.ListLemmas.{end_get, front_get, there_in}
-use Rattle.kc_build.proofs.MemberLemmas.{below_or_past}
-use Rattle.kc_build.proofs.PlaceLemmas.{get-map_numbers}
+use Rattle.kc_read.proofs.ElementLemmas.{same_is}
+use Rattle.kc_read.proofs.PlaceLemmas.{end_get, front_get, there_in}
+use Rattle.kc_read.proofs.MemberLemmas.{below_or_past}
+use Rattle.kc_read.proofs.PlaceLemmas.{get-map_numbers}
+use Rattle.kc_read.proofs.ListLemmas.{filter_map-map, filter_map_alike}
 
 -- Lists.
 pub map-twice : {A B C : Type 0} (g : B → C) (f : A → B) (xs : List A) → map g (map f xs) ≡ map (λ x. g (f x)) xs
 map-twice g f [] = refl
 map-twice g f (x ∷ xs) = ap (λ l. g (f x) ∷ l) (map-twice g f xs)
-
-pub filter_map-map : {A B C : Type 0} (g : B → Option C) (f : A → B) (xs : List A) → filter_map g (map f xs) ≡ filter_map (λ x. g (f x)) xs
-filter_map-map g f [] = refl
-filter_map-map g f (x ∷ xs) = ap (cons_option (g (f x))) (filter_map-map g f xs)
-
-pub filter_map-same : {A B : Type 0} (f g : A → Option B) (xs : List A) → ((x : A) → f x ≡ g x) → filter_map f xs ≡ filter_map g xs
-filter_map-same f g [] h = refl
-filter_map-same f g (x ∷ xs) h = rw (h x, filter_map-same f g xs h) refl
 
 length-listed : {A B : Type 0} (o : Option A) (p : Option B) (xs : List A) (ys : List B) → length xs ≡ length ys → length (cons_option o []) ≡ length (cons_option p []) →
     length (cons_option o xs) ≡ length (cons_option p ys)
@@ -156,7 +149,7 @@ module _ (ss : List Numbered) (t : Tables) (definitions_are : map (layouts.defin
   row_definitions : (s : SymId) (ids : List DefinitionId) → map (λ (d : DefinitionId). d.0) ids ≡ map (definition_number ss) (definitions_of ss s) →
       filter_map (layouts.definition_at t) ids ≡ map (λ j. definition_facts_at ss j s) (definitions_of ss s)
   row_definitions s ids e =
-      filter_map-same (layouts.definition_at t) (λ (d : DefinitionId). slice_get (all_definitions ss) d.0) ids row_definition
+      filter_map_alike (layouts.definition_at t) (λ (d : DefinitionId). slice_get (all_definitions ss) d.0) ids row_definition
       ∙ sym (filter_map-map (slice_get (all_definitions ss)) (λ (d : DefinitionId). d.0) ids)
       ∙ ap (filter_map (slice_get (all_definitions ss))) e
       ∙ filter_map-map (slice_get (all_definitions ss)) (definition_number ss) (definitions_of ss s)

@@ -20,7 +20,8 @@ use Rattle.kc_build.specs.declared.diagnostics.Diagnostics.{Diagnostics}
 use Rattle.kc_build.specs.declared.diagnostics.EntrySummary.{EntrySummary}
 use Rattle.kc_build.specs.declared.walk.EntryWalk.{EntryWalk}
 use Rattle.kc_build.specs.Diagnosed.{AreLinesDiagnosed}
-use Rattle.kc_build.specs.SymbolRows.{AreChoicesApart, IsEntrySummary, HasSymbols}
+use Rattle.kc_read.specs.ListFacts.{AreChoicesApart}
+use Rattle.kc_build.specs.SymbolRows.{IsEntrySummary, HasSymbols}
 use Rattle.kc_build.specs.Passes.{statements_in, statements_of}
 use Rattle.kc_build.specs.WalkResult.{IsDiagnosed, IsEntryThere, IsTitleThere}
 use Rattle.kc_build.specs.Stacks.{BlockFacts, IsModelessHead, block_view}

@@ -1,5 +1,5 @@
 -- The listing of an expanded list.
-use Rattle.std.proofs.Common.{◌≡◌, ℕ, List, [], map, Option, ap, sym, ◌∙◌, codes, position}
+use Rattle.std.proofs.Common.{◌≡◌, ℕ, ◌≤◌, List, [], length, map, Option, Ok, ap, sym, ◌∙◌, arith, codes, position}
 use Rattle.std.specs.Prelude.{option_map}
 use Rattle.std.specs.Option.{option_or}
 use Rattle.std.specs.declared.vec.Vec.{Vec}
@@ -7,13 +7,18 @@ use Rattle.std.specs.declared.alloc.Global.{Global}
 use Rattle.kc_language.specs.declared.expressions.SymId.{SymId}
 use Rattle.kc_language.specs.Expressions.{number_of, same_name, symbol}
 use Rattle.kc_read.specs.declared.expansion.Expansion.{Expansion}
-use Rattle.kc_language.specs.Expansion.{modules_of, Log, names_of}
-use Rattle.kc_read.specs.PartsOfExpansion.{defined as defined_names, located_numbered}
+use Rattle.std.proofs.lemmas.List.{length-map}
+use Rattle.kc_language.specs.Text.{most_lines}
+use Rattle.kc_language.specs.Expansion.{modules_of, Files, Expands, Log, names_of}
+use Rattle.kc_read.specs.PartsOfExpansion.{defined as defined_names, located_numbered, number_line}
 use Rattle.kc_read.specs.Expanded.{IsExpansion}
 use Rattle.kc_language.specs.Statements.{statements}
 use Rattle.kc_read.proofs.NameLemmas.{extends_none}
+use Rattle.kc_read.specs.Entries.{lines_in}
+use Rattle.kc_read.proofs.FewLemmas.{expansion_few}
+use Rattle.kc_build.specs.declared.listing.Listing.{Listing}
 use Rattle.kc_build.specs.Listings.{IsListing}
-use Rattle.kc_build.proofs.NumberingLemmas.{defined_are_numbers, modules_are, named_is, statements_numbered}
+use Rattle.kc_read.proofs.NumberingLemmas.{defined_are_numbers, modules_are, named_is, statements_numbered}
 
 -- the name that stands for modules where no line does
 abbrev modules_name : List (List ℕ) → Option SymId
@@ -35,3 +40,10 @@ listing-is log names e x defined modules d m =
           ∙ ap (λ (o : Option SymId). option_or o (modules_name (names_of ss)))
           (sym (modules_are (number_of (names_of ss)) ss) ∙ ap modules_of (sym (statements_numbered (number_of (names_of ss)) log.lines)));
     }
+
+-- the lines of a listing are those of its expanded list
+pub listing-few : (files : Files) (root : List ℕ) (log : Log) (l : Listing) → Expands files root (Ok log) → IsListing log l → length (lines_in l.entries) ≤ most_lines
+listing-few files root log l x h =
+    let n = ap length h.lines_are ∙ length-map log.lines (number_line (statements log.lines)) in
+    let few = expansion_few files root log x in
+    omega arith

@@ -11,7 +11,7 @@ use Rattle.kc_read.specs.PartsOfExpansion.{bracket_of}
 use Rattle.kc_language.specs.Expansion.{numbers, opened}
 use Rattle.kc_language.specs.Statements.{ConfigLine, Numbered}
 use Rattle.kc_language.specs.Symbols.{ChoiceFacts, choice_number, enclosing_choice, is_block, of_block, symbol_at}
-use Rattle.kc_build.specs.PartsOfSymbols.{symbol_of}
+use Rattle.kc_read.specs.PartsOfSymbols.{symbol_of}
 use Rattle.kc_build.specs.Before.{choice_before, choices_before, members_before}
 use Rattle.kc_build.specs.ChoiceRows.{map_from}
 use Rattle.kc_build.specs.Passes.{change}

@@ -4,12 +4,12 @@ use Rattle.kc_language.specs.Expansion.{Expands, Log, Refused, Files}
 use Rattle.kc_language.specs.Statements.{statements}
 use Rattle.kc_tree.specs.TreeFacts.{IsWellFormed}
 use Rattle.kc_language.specs.Symbols.{TreeFacts}
-use Rattle.kc_build.specs.PartsOfSymbols.{tree_of_log}
+use Rattle.kc_read.specs.PartsOfSymbols.{tree_of_log}
 use Rattle.kc_build.specs.Trees.{TreesAreWellFormed}
 use Rattle.kc_build.proofs.BuildLemmas.{whole-formed}
-use Rattle.kc_build.proofs.DefinedLemmas.{expanded_known}
-use Rattle.kc_build.proofs.NumberingLemmas.{names-distinct}
-use Rattle.kc_build.proofs.WholeLemmas.{shaped}
+use Rattle.kc_read.proofs.DefinedLemmas.{expanded_known}
+use Rattle.kc_read.proofs.NumberingLemmas.{names-distinct}
+use Rattle.kc_read.proofs.WholeLemmas.{shaped}
 
 log-formed : (files : Files) (root : List ℕ) (tree : TreeFacts) (e : Result Log Refused) → Expands files root e → Ok tree ≡ tree_of_log e → IsWellFormed tree
 log-formed files root tree (Ok log) expands is =

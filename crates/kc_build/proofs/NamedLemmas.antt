@@ -21,15 +21,17 @@ use Rattle.kc_tree.specs.declared.rows.Symbol.{Symbol}
 use Rattle.kc_tree.specs.Chains.{chain_of, chains_of}
 use Rattle.kc_tree.specs.Layouts.{DefinitionFacts, definition_facts, impliers_at, selector_at, selector_facts, selectors_at, with_when}
 use Rattle.kc_language.specs.Symbols.{Guarded, listed, naming_at, symbol_at, target_of}
-use Rattle.kc_build.specs.PartsOfSymbols.{imply_of, guarded_symbol, select_of}
+use Rattle.kc_read.specs.PartsOfSymbols.{imply_of, guarded_symbol, select_of}
 use Rattle.kc_language.specs.declared.symbols.SelectOrImply.{SelectOrImply}
 use Rattle.kc_language.specs.declared.symbols.SelectOrImply.TheVariants as select_or_imply
 use Rattle.kc_language.specs.Symbols as facts
-use Rattle.kc_build.specs.SymbolRows.{AreSymbols, AreBelow, can_be_target, choice_by, type_by}
+use Rattle.kc_build.specs.SymbolRows.{AreSymbols, can_be_target, choice_by, type_by}
+use Rattle.kc_read.specs.ListFacts.{AreBelow}
 use Rattle.kc_build.specs.SelectorRows.{HaveSources, added_line, added_lines, implies_of, selector_row, rows_to, selects_of}
-use Rattle.kc_build.proofs.GrownLemmas.{filter_map_alike, get_front, get_last}
 use Rattle.kc_build.proofs.TypeLemmas.{choices_known, types_known}
 use Rattle.kc_build.proofs.WalkLemmas.{all_at}
+use Rattle.kc_read.proofs.PlaceLemmas.{get_front, end_get}
+use Rattle.kc_read.proofs.ListLemmas.{filter_map_alike}
 
 -- Lists.
 and_then-filter : {A B C : Type 0} (f : A → Option B) (g : B → Option C) (xs : List A) → filter_map (λ x. option_and_then g (f x)) xs ≡ filter_map g (filter_map f xs)
@@ -124,7 +126,7 @@ module _ (source : DefinitionId) (ds : List DefinitionFacts) (d : DefinitionFact
 
   found : (w : Option Form) → named_in (ds ++ d ∷ []) (source.0, w) ≡ Some (named w)
   found w =
-      ap (option_map (λ (x : DefinitionFacts). record { what = x.symbol; when = with_when x.dependency w })) (ap (slice_get (ds ++ d ∷ [])) n ∙ get_last ds d)
+      ap (option_map (λ (x : DefinitionFacts). record { what = x.symbol; when = with_when x.dependency w })) (ap (slice_get (ds ++ d ∷ [])) n ∙ end_get ds d)
 
   -- a line that names a symbol, or another one
   by_name : (w : Option Form) (b : Bool) → filter_map (named_in (ds ++ d ∷ [])) ((if b then (source.0, w) ∷ [] else []) ++ []) ≡ map named (cons_option (if b then Some w else None) [])

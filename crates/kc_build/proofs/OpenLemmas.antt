@@ -9,14 +9,14 @@ use Rattle.kc_language.specs.declared.statements.Block.TheVariants as block
 use Rattle.kc_language.specs.Statements.{Numbered}
 use Rattle.kc_language.specs.Expansion.{Opens, Closes, NoBracket, bracket, enclosing, last_of}
 use Rattle.kc_language.specs.Symbols.{Condition, block_conjuncts, choice_number, of_block, own_visible}
-use Rattle.kc_build.specs.PartsOfSymbols.{shown_number}
-use Rattle.kc_build.specs.Scopes.{block_visible}
+use Rattle.kc_read.specs.PartsOfSymbols.{shown_number}
+use Rattle.kc_read.specs.Scopes.{block_visible}
 use Rattle.kc_build.specs.Stacks.{AreOpen, BlockFacts, IsClosed, block_facts_at, block_view, open_scopes}
 use Rattle.kc_build.specs.declared.blocks.BlockScope.{BlockScope}
 use Rattle.kc_build.specs.declared.blocks.Blocks.{Blocks}
 use Rattle.kc_read.proofs.EnclosingLemmas.{front, enclosing-opens, enclosing-closes, enclosing-no, enclosing-last}
-use Rattle.kc_build.proofs.ScopeLemmas.{scope_snoc}
-use Rattle.kc_build.proofs.StackLemmas.{front_snoc, split_last}
+use Rattle.kc_read.proofs.ScopeLemmas.{scope_snoc}
+use Rattle.kc_read.proofs.StackLemmas.{front_snoc, split_last}
 
 -- A list that is empty or has a last element.
 pub ends : {X : Type 0} (xs : List X) → (xs ≡ []) ⊎ ((ys : List X) × (y : X) × (xs ≡ ys ++ y ∷ []))

@@ -9,10 +9,10 @@ use Rattle.kc_language.specs.declared.statements.Block.TheVariants as block
 use Rattle.kc_language.specs.Statements.{Numbered, IfLine}
 use Rattle.kc_tree.specs.Contexts.{and_also, condition_in, top}
 use Rattle.kc_language.specs.Symbols.{Condition, block_conjuncts, choice_number, shown_at, of_block}
-use Rattle.kc_build.specs.PartsOfSymbols.{shown_number}
-use Rattle.kc_build.specs.PartsOfSymbols.{symbol_of}
+use Rattle.kc_read.specs.PartsOfSymbols.{shown_number}
+use Rattle.kc_read.specs.PartsOfSymbols.{symbol_of}
 use Rattle.kc_build.specs.Before.{main_menu_before}
-use Rattle.kc_build.specs.Scopes.{block_visible}
+use Rattle.kc_read.specs.Scopes.{block_visible}
 use Rattle.kc_build.specs.WalkResult.{IsEntryThere, IsTitleThere}
 use Rattle.kc_build.specs.Stacks.{AreOpen, block_facts_at, block_view}
 use Rattle.kc_build.specs.Walks.{Enters, IsHead, IsWalk, index_after}

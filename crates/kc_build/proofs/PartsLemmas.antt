@@ -7,8 +7,8 @@ use Rattle.kc_language.specs.declared.expressions.SymId.{SymId}
 use Rattle.kc_language.specs.Expressions.{symbol}
 use Rattle.kc_expr.specs.PartsOfSymbols.{stands_in}
 use Rattle.kc_language.specs.Symbols.{ChoiceFacts, listed, StatedDefault, choice_number, defined_symbols, stated_default, members_of, prompt_at, single_symbol, symbol_facts, facts_with, modules_symbol, tree_with, bad_members}
-use Rattle.kc_build.specs.PartsOfSymbols.{choices, is_member, unless_refused}
-use Rattle.kc_build.specs.PartsOfSymbols.{choice_lines, guarded_symbol, title_of, symbol_if}
+use Rattle.kc_read.specs.PartsOfSymbols.{choices, is_member, unless_refused}
+use Rattle.kc_read.specs.PartsOfSymbols.{choice_lines, guarded_symbol, title_of, symbol_if}
 use Rattle.kc_read.specs.declared.entries.Entries.{Entries}
 use Rattle.kc_language.specs.Expansion.{attributes, last_of, numbers, Refused}
 use Rattle.kc_read.specs.Entries.{lines_in}
@@ -20,14 +20,15 @@ use Rattle.kc_tree.specs.declared.rows.Symbol.{Symbol}
 use Rattle.kc_tree.specs.Wholes.{tree_of}
 use Rattle.kc_build.specs.declared.diagnostics.Diagnostics.{Diagnostics}
 use Rattle.kc_build.specs.Before.{main_menu_before}
-use Rattle.kc_build.specs.SymbolRows.{AreBelow, AreSymbols, member_by}
+use Rattle.kc_read.specs.ListFacts.{AreBelow}
+use Rattle.kc_build.specs.SymbolRows.{AreSymbols, member_by}
 use Rattle.kc_build.specs.Passes.{statements_in}
 use Rattle.kc_build.specs.WalkResult.{IsWalkResult, IsDiagnosed, choice_by}
 use Rattle.kc_build.proofs.DiagnosedLemmas.{accepted, refused_tree}
 use Rattle.kc_build.proofs.TypeLemmas.{choices_known}
 use Rattle.kc_build.proofs.LayoutLemmas.{symbols-are}
-use Rattle.kc_build.proofs.MemberLemmas.{member_is}
-use Rattle.kc_build.proofs.WholeLemmas.{none_bad}
+use Rattle.kc_read.proofs.MemberLemmas.{member_is}
+use Rattle.kc_read.proofs.WholeLemmas.{none_bad}
 
 -- The choices, where no member is refused.
 module _ (ss : List Numbered) where

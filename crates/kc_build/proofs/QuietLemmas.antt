@@ -22,12 +22,13 @@ use Rattle.kc_language.specs.declared.symbols.MenuEntry.{MenuEntry}
 use Rattle.kc_language.specs.declared.symbols.MenuEntry.TheVariants as menu_entry
 use Rattle.kc_build.specs.Diagnosed.{Diagnosis, line_diagnosed, lines_diagnosed}
 use Rattle.kc_language.specs.Symbols.{has_text, prompt_of, same_type, begun}
-use Rattle.kc_build.specs.PartsOfSymbols.{is_single, has_type, is_bad_default, is_bad_member, line_of, line_warnings_by}
+use Rattle.kc_read.specs.PartsOfSymbols.{is_single, has_type, is_bad_default, is_bad_member, line_of, line_warnings_by}
 use Rattle.kc_build.specs.Passes.{statements_of}
 use Rattle.kc_build.specs.Quiet.{are_quiet, may_have_default, is_quiet_attribute, is_quiet_line}
 use Rattle.kc_build.specs.SymbolRows.{choice_by, type_by, member_by}
 use Rattle.kc_build.specs.WholeListRefusals.{entry_refusal}
 use Rattle.kc_build.proofs.ScanLemmas.{statements_from}
+use Rattle.kc_read.proofs.ShapeLemmas.{or_none}
 
 -- Tests.
 pub left_true : (a b : Bool) → (a && b) ≡ true → a ≡ true
@@ -56,10 +57,6 @@ swapped false false = refl
 and_false : (b : Bool) → (b && false) ≡ false
 and_false true = refl
 and_false false = refl
-
-or_none : {A : Type 0} (o : Option A) → option_or o None ≡ o
-or_none None = refl
-or_none (Some x) = refl
 
 -- Along the attributes of an entry: the first that is not quiet decides.
 module _ (k : SymbolType) (prompted : Bool) (own : List AttributeLine) (i : ℕ) (x : AttributeLine) (l : i < length own) (at : x ≡ get_or own i x) where

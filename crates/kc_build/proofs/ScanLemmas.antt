@@ -1,44 +1,26 @@
 -- Walks along a list.
-use Rattle.std.proofs.Common.{◌≡◌, ℕ, zero, suc, ◌+◌, ◌<◌, ◌≤◌, List, [], ◌∷◌, ◌++◌, length, drop, map, Option, Some, None, refl, ap, sym, ◌∙◌, arith, add-one, get_or, append_assoc}
-use Rattle.std.specs.List.{slice_get, filter_map, cons_option}
+use Rattle.std.proofs.Common.{◌≡◌, ℕ, ◌+◌, ◌<◌, ◌≤◌, List, [], ◌∷◌, ◌++◌, length, drop, map, Option, Some, None, refl, ap, sym, ◌∙◌, arith, add-one, get_or, append_assoc}
+use Rattle.std.specs.List.{filter_map, last_or}
 use Rattle.std.specs.Prelude.{option_map}
 use Rattle.std.specs.Option.{option_or}
 use Rattle.std.proofs.lemmas.List.{map-append, append-nil, length-map, length_push}
-use Rattle.std.proofs.lemmas.Option.{slice_get-get_or}
 use Rattle.kc_read.specs.declared.entries.AttributeLine.{AttributeLine}
 use Rattle.kc_read.specs.StatementViews.{attribute_view}
 use Rattle.kc_language.specs.Statements.{Numbered}
 use Rattle.kc_language.specs.Expansion.{last_of}
 use Rattle.kc_language.specs.Symbols.{listed}
-use Rattle.kc_build.specs.PartsOfSymbols.{first_of}
+use Rattle.kc_read.specs.PartsOfSymbols.{first_of}
 use Rattle.kc_build.specs.Passes.{statements_of}
-use Rattle.kc_build.proofs.PlaceLemmas.{statement_at, length-statements_of}
-
-drop-get : {X : Type 0} (xs : List X) (i : ℕ) (x : X) → slice_get xs i ≡ Some x → drop i xs ≡ x ∷ drop (suc i) xs
-drop-get [] i x h = cc
-drop-get (y ∷ xs) zero x h = cc
-drop-get (y ∷ xs) (suc i) x h = drop-get xs i x h
-
-pub drop_at : {X : Type 0} (xs : List X) (i : ℕ) (x : X) → i < length xs → x ≡ get_or xs i x → drop i xs ≡ x ∷ drop (i + 1) xs
-drop_at xs i x h e = drop-get xs i x (slice_get-get_or xs i x h ∙ ap Some (sym e)) ∙ (rw add-one refl)
+use Rattle.kc_build.proofs.StatementLemmas.{statement_at, length-statements_of}
+use Rattle.kc_read.proofs.PlaceLemmas.{drop-get, drop_past}
+use Rattle.kc_read.proofs.ListLemmas.{last_or-cons_option, option_map-or}
 
 -- the statements from a line on
 pub statements_from : (ls : List AttributeLine) (i : ℕ) (x : AttributeLine) → i < length ls → x ≡ get_or ls i x → drop i (statements_of ls) ≡ attribute_view x.attribute ∷ drop (i + 1) (statements_of ls)
 statements_from ls i x h e = drop-get (statements_of ls) i (attribute_view x.attribute) (statement_at ls i x h e) ∙ (rw add-one refl)
 
-pub drop_past : {X : Type 0} (xs : List X) (i : ℕ) → length xs ≤ i → drop i xs ≡ []
-drop_past [] zero h = refl
-drop_past [] (suc i) h = refl
-drop_past (x ∷ xs) zero h = absurd (omega arith)
-drop_past (x ∷ xs) (suc i) h = drop_past xs i (omega arith)
-
 pub statements_end : (ls : List AttributeLine) (i : ℕ) → length ls ≤ i → drop i (statements_of ls) ≡ []
 statements_end ls i h = drop_past (statements_of ls) i (omega (arith, length-statements_of ls))
-
--- the last of what there was before and of a list
-abbrev pub last_or : {A : Type 0} → Option A → List A → Option A
-last_or o [] = o
-last_or o (x ∷ xs) = last_or (Some x) xs
 
 last_or-some : {A : Type 0} (x : A) (xs : List A) → last_or (Some x) xs ≡ last_of (x ∷ xs)
 last_or-some x [] = refl
@@ -73,20 +55,11 @@ module _ {A : Type 0} (f : Numbered → Option A) where
   pub last_start : (ls : List AttributeLine) → LastIs ls 0 None
   last_start ls = last_or-none (filter_map f (statements_of ls))
 
-  or_last : (o now : Option A) (xs : List A) → last_or now (cons_option o xs) ≡ last_or (option_or o now) xs
-  or_last None now xs = refl
-  or_last (Some a) now xs = refl
-
-  -- in terms of what stands for the values in memory
-  map-or : {B : Type 0} (v : B → A) (o now : Option B) → option_map v (option_or o now) ≡ option_or (option_map v o) (option_map v now)
-  map-or v None now = refl
-  map-or v (Some b) now = refl
-
   pub last_next : {B : Type 0} (v : B → A) (ls : List AttributeLine) (i : ℕ) (x : AttributeLine) (found now next : Option B) → LastIs ls i (option_map v now) → i < length ls →
       x ≡ get_or ls i x → option_map v found ≡ f (attribute_view x.attribute) → next ≡ option_or found now → LastIs ls (i + 1) (option_map v next)
   last_next v ls i x found now next h b at e n =
-      let step : option_map v next ≡ option_or (f (attribute_view x.attribute)) (option_map v now) = ap (option_map v) n ∙ map-or v found now ∙ ap (λ o. option_or o (option_map v now)) e in
-      rw step (sym (or_last (f (attribute_view x.attribute)) (option_map v now) (filter_map f (drop (i + 1) (statements_of ls)))) ∙ (rw (statements_from ls i x b at) at h))
+      let step : option_map v next ≡ option_or (f (attribute_view x.attribute)) (option_map v now) = ap (option_map v) n ∙ option_map-or v found now ∙ ap (λ o. option_or o (option_map v now)) e in
+      rw step (sym (last_or-cons_option (f (attribute_view x.attribute)) (option_map v now) (filter_map f (drop (i + 1) (statements_of ls)))) ∙ (rw (statements_from ls i x b at) at h))
 
   pub last_end : (ls : List AttributeLine) (i : ℕ) (now : Option A) → LastIs ls i now → length ls ≤ i → now ≡ last_of (filter_map f (statements_of ls))
   last_end ls i now h b = (rw (statements_end ls i b) at h)

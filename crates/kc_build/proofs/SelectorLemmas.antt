@@ -30,8 +30,8 @@ use Rattle.kc_build.specs.Passes.{statements_of}
 use Rattle.kc_language.specs.Symbols.{target_of}
 use Rattle.kc_build.specs.SelectorRows.{selector_row, rows_to, same_selectors, selects_of, implies_of, added_line, added_lines, HaveSources, KeepSources, IsAdded}
 use Rattle.kc_build.proofs.ChainLemmas.{to-keeps, to-new, get_past}
-use Rattle.kc_build.proofs.GrownLemmas.{get_front, get_last}
 use Rattle.kc_build.proofs.ScanLemmas.{statements_from}
+use Rattle.kc_read.proofs.PlaceLemmas.{get_front, end_get}
 
 -- a line more, which leads on to the last one of its symbol
 chained-at : (lines : List Selector) (row : Selector) → AreChained lines → ((next : SelectorId) → row.next ≡ Some next → next.0 < length lines) →
@@ -43,7 +43,7 @@ chained-at lines row h there i r next (inr g) e n = at (cases_lt (length lines) 
     at (inl past) = absurd (none-some r (sym (get_past lines row i past) ∙ e))
     at (inr low) =
         let same : i ≡ length lines = omega arith in
-        let is : row ≡ r = same_Some row r (sym (get_last lines row) ∙ ap (slice_get (lines ++ row ∷ [])) (sym same) ∙ e) in
+        let is : row ≡ r = same_Some row r (sym (end_get lines row) ∙ ap (slice_get (lines ++ row ∷ [])) (sym same) ∙ e) in
         let below = there next (ap (λ (x : Selector). x.next) is ∙ n) in
         omega arith
 

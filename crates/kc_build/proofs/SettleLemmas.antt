@@ -20,13 +20,14 @@ use Rattle.kc_tree.specs.declared.rows.Title.{Title}
 use Rattle.kc_tree.specs.Contexts.{condition_in}
 use Rattle.kc_tree.specs.Layouts.{choice_default_view, choice_facts as choice_in, definition_facts, impliers_at, prompt_view, selectors_at, shown_of}
 use Rattle.kc_language.specs.Symbols.{ChoiceFacts, Condition, Guarded, StatedDefault, choice_number, of_block, single_symbol, stated_default}
-use Rattle.kc_build.specs.PartsOfSymbols.{choice_lines, guarded_symbol, impliers_of, selectors_of}
+use Rattle.kc_read.specs.PartsOfSymbols.{choice_lines, guarded_symbol, impliers_of, selectors_of}
 use Rattle.kc_build.specs.Before.{choice_before, choices_before, definitions_before, entries_before, impliers_before, main_menu_before, named_default, selectors_before}
 use Rattle.kc_build.specs.ChoiceRows.{ChoiceRow, HaveMemberDefaults, choice_row, map_from, with_member_defaults}
 use Rattle.kc_language.specs.Symbols as facts
 use Rattle.kc_build.specs.Passes.{change}
 use Rattle.kc_build.specs.SelectorRows.{AreTargetHeads, rows_to}
-use Rattle.kc_build.specs.SymbolRows.{AreBelow, AreSymbols, can_be_target, member_by}
+use Rattle.kc_read.specs.ListFacts.{AreBelow}
+use Rattle.kc_build.specs.SymbolRows.{AreSymbols, can_be_target, member_by}
 use Rattle.kc_build.specs.WalkResult.{IsWalkResult, choice_by, default_by}
 use Rattle.kc_build.proofs.DefineLemmas.{kept_alike}
 use Rattle.kc_build.proofs.DefineWalkLemmas.{same_definitions}

@@ -22,11 +22,12 @@ use Rattle.kc_language.specs.declared.symbols.MenuEntry.TheVariants as menu_entr
 use Rattle.kc_build.specs.declared.suspects.Suspect.{Suspect}
 use Rattle.kc_build.specs.Diagnosed.{diagnosis_view}
 use Rattle.kc_language.specs.Symbols.{choice_number, is_first_definition, symbol_at, stated_type, begun}
-use Rattle.kc_build.specs.PartsOfSymbols.{first_of, symbol_of, first_of_symbol}
+use Rattle.kc_read.specs.PartsOfSymbols.{first_of, symbol_of, first_of_symbol}
 use Rattle.kc_build.specs.Passes.{statements_in, statements_of}
 use Rattle.kc_build.specs.Quiet.{is_quiet, is_quiet_entry}
 use Rattle.kc_build.specs.Suspected.{AreSuspects, IsQuietBetween, IsSuspectAt}
-use Rattle.kc_build.specs.SymbolRows.{AreTypesDefined, HasSymbols, IsEntrySummary, type_by}
+use Rattle.kc_read.specs.ListFacts.{AreTypesDefined}
+use Rattle.kc_build.specs.SymbolRows.{HasSymbols, IsEntrySummary, type_by}
 use Rattle.kc_build.specs.SymbolWalk.{entry_type}
 use Rattle.kc_build.specs.Walks.{IsAt, index_after}
 use Rattle.kc_build.proofs.EntrySummaryLemmas.{entry_is}

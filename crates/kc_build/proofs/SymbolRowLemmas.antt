@@ -16,21 +16,20 @@ use Rattle.kc_language.specs.Statements.{Numbered}
 use Rattle.kc_language.specs.declared.symbols.ChoiceId.{ChoiceId}
 use Rattle.kc_tree.specs.declared.rows.Symbol.{Symbol}
 use Rattle.kc_language.specs.Symbols.{is_symbol_of, choice_of, enclosing_choice, definitions_of, type_of, symbol_at, stated_type}
-use Rattle.kc_build.specs.PartsOfSymbols.{first_of, symbol_of}
-use Rattle.kc_build.specs.SymbolRows.{AreSymbols, AreTypesDefined, SymbolRow, definition_number, row_of, row_view}
+use Rattle.kc_read.specs.PartsOfSymbols.{first_of, symbol_of}
+use Rattle.kc_build.specs.SymbolRows.{AreSymbols, SymbolRow, definition_number, row_of, row_view}
+use Rattle.kc_read.specs.ListFacts.{AreTypesDefined}
 use Rattle.kc_build.specs.Passes.{change, changed}
-use Rattle.kc_build.specs.SymbolWalk.{AreRowsBefore, HaveMemberTypes, defined_before, entry_type, first_given_type, row_before, row_by, with_member_type, unknown, with_definition}
+use Rattle.kc_build.specs.SymbolWalk.{AreRowsBefore, HaveMemberTypes, entry_type, first_given_type, row_before, row_by, with_member_type, unknown, with_definition}
+use Rattle.kc_read.specs.ListFacts.{defined_before}
 use Rattle.kc_build.proofs.EnterLemmas.{attribute_symbol, get_behind, over}
-use Rattle.kc_build.proofs.PlaceLemmas.{length-map_numbers}
+use Rattle.kc_read.proofs.PlaceLemmas.{length-map_numbers}
 use Rattle.kc_build.proofs.TableLemmas.{defined_next, not_defined, same_numbers}
 use Rattle.kc_build.specs.Walks.{IsHead, index_after}
 use Rattle.kc_tree.specs.Contexts.{mode_view}
+use Rattle.kc_read.proofs.ListLemmas.{first_of-append}
 
 -- The first of what two lists give, of what a list of lists gives.
-first_or : {A : Type 0} (xs ys : List A) → first_of (xs ++ ys) ≡ option_or (first_of xs) (first_of ys)
-first_or [] ys = refl
-first_or (x ∷ xs) ys = refl
-
 first_cons : {A : Type 0} (o : Option A) (xs : List A) → first_of (cons_option o xs) ≡ option_or o (first_of xs)
 first_cons None xs = refl
 first_cons (Some x) xs = refl
@@ -40,7 +39,7 @@ first_found f g [] = refl
 first_found {A} f g (x ∷ xs) =
     let more = λ (y : A). first_of (filter_map f (g y)) in
     ap first_of (filter_map-append f (g x) (flat_map g xs))
-    ∙ first_or (filter_map f (g x)) (filter_map f (flat_map g xs))
+    ∙ first_of-append (filter_map f (g x)) (filter_map f (flat_map g xs))
     ∙ ap (option_or (more x)) (first_found f g xs)
     ∙ sym (first_cons (more x) (filter_map more xs))
 
@@ -117,7 +116,7 @@ module _ (ss : List Numbered) where
 
         first_more : {A : Type 0} (f : ℕ → Option A) → option_or (first_of (filter_map f ds)) (f i) ≡ first_of (filter_map f (ds ++ i ∷ []))
         first_more f =
-            ap (option_or (first_of (filter_map f ds))) (single (f i)) ∙ sym (first_or (filter_map f ds) (cons_option (f i) [])) ∙ ap first_of (sym (filter_map-append f ds (i ∷ [])))
+            ap (option_or (first_of (filter_map f ds))) (single (f i)) ∙ sym (first_of-append (filter_map f ds) (cons_option (f i) [])) ∙ ap first_of (sym (filter_map-append f ds (i ∷ [])))
 
     pub rows_next : (i count : ℕ) (table new : List SymbolRow) (o : Option SymId) → table ≡ map (row_before ss i) (numbers count) → symbol_at ss i ≡ o →
         new ≡ changed (with_definition (definition_number ss i) (entry_type ss i) (enclosing_choice ss i)) o table → new ≡ map (row_before ss (i + 1)) (numbers count)

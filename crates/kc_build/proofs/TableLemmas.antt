@@ -9,9 +9,9 @@ use Rattle.kc_language.specs.Statements.{Numbered}
 use Rattle.kc_language.specs.Expansion.{numbers}
 use Rattle.kc_language.specs.Symbols.{is_symbol_of, symbol_at}
 use Rattle.kc_build.specs.Passes.{change, changed}
-use Rattle.kc_build.specs.SymbolWalk.{defined_before}
+use Rattle.kc_read.specs.ListFacts.{defined_before}
 use Rattle.kc_read.proofs.EnclosingLemmas.{numbers_from, numbers-from}
-use Rattle.kc_build.proofs.PlaceLemmas.{filter-next}
+use Rattle.kc_read.proofs.PlaceLemmas.{filter-next}
 
 same_from : {A : Type 0} (f h : ℕ → A) (p n : ℕ) → ((j : ℕ) → f (p + j) ≡ h (p + j)) → map f (numbers_from p n) ≡ map h (numbers_from p n)
 same_from f h p zero e = refl

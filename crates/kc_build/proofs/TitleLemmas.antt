@@ -15,19 +15,20 @@ use Rattle.kc_tree.specs.declared.rows.TitleId.{TitleId}
 use Rattle.kc_tree.specs.Contexts.{condition_in}
 use Rattle.kc_tree.specs.Layouts.{shown_of, shown_when as shown_in, title_condition, title_text, with_conjuncts}
 use Rattle.kc_language.specs.Symbols.{Condition, CommentShown, MenuShown, Shown, block_conjuncts, choice_number, dependency, shown_at, of_block, own_dependencies, own_visible}
-use Rattle.kc_build.specs.PartsOfSymbols.{shown_number}
-use Rattle.kc_build.specs.PartsOfSymbols.{depends_form, shown_when, symbol_of, title_of, visible_form, enclosing_visible}
+use Rattle.kc_read.specs.PartsOfSymbols.{shown_number}
+use Rattle.kc_read.specs.PartsOfSymbols.{depends_form, shown_when, symbol_of, title_of, visible_form, enclosing_visible}
 use Rattle.kc_build.specs.Growth.{IsGrown, Stands}
-use Rattle.kc_build.specs.Scopes.{block_visible}
+use Rattle.kc_read.specs.Scopes.{block_visible}
 use Rattle.kc_build.specs.WalkResult.{IsEntryThere, IsTitleThere}
 use Rattle.kc_build.specs.Stacks.{AreOpen, block_facts_at, block_view}
 use Rattle.kc_build.specs.Walks.{Enters, IsHead, IsWalk, index_after}
 use Rattle.kc_build.specs.declared.blocks.BlockScope.{BlockScope}
 use Rattle.kc_build.specs.declared.walk.EntryWalk.{EntryWalk}
-use Rattle.kc_build.proofs.GrownLemmas.{Extends, carries_both, carries_grown, extends, get_last, open_carries}
+use Rattle.kc_build.proofs.GrownLemmas.{Extends, carries_both, carries_grown, extends, open_carries}
 use Rattle.kc_build.proofs.OpenLemmas.{open_opens, open_passes}
 use Rattle.kc_build.proofs.OpenerLemmas.{block_inside}
 use Rattle.kc_build.proofs.WalkLemmas.{choices_say_same, entry_count, main_menu_stays, no_choice_passed, walk_passes}
+use Rattle.kc_read.proofs.PlaceLemmas.{end_get}
 
 -- What an entry depends on, by its enclosing block and its own lines.
 module _ (ss : List Numbered) (i : ℕ) (own : List Numbered) (conditions : List Condition) (b : BlockScope) (outside : block_view conditions b ≡ block_facts_at ss i) where
@@ -46,7 +47,7 @@ module _ (ss : List Numbered) (i : ℕ) (own : List Numbered) (conditions : List
 module _ (w : EntryWalk) (before : List Title) (t : Title) (id : TitleId) (added : w.tables.titles.items ≡ before ++ t ∷ []) (number : id.0 ≡ length before) where
   title_found : slice_get w.tables.titles.items id.0 ≡ Some t
   title_found =
-      ap (slice_get w.tables.titles.items) number ∙ ap (λ (l : List Title). slice_get l (length before)) added ∙ get_last before t
+      ap (slice_get w.tables.titles.items) number ∙ ap (λ (l : List Title). slice_get l (length before)) added ∙ end_get before t
 
   pub comment_shown : shown_of w.tables (entry.Comment id) ≡ CommentShown t.text.items (title_condition w.tables t)
   comment_shown =

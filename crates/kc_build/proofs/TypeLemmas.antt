@@ -13,9 +13,10 @@ use Rattle.kc_language.specs.Expansion.{numbers}
 use Rattle.kc_language.specs.declared.symbols.ChoiceId.{ChoiceId}
 use Rattle.kc_tree.specs.declared.rows.Symbol.{Symbol}
 use Rattle.kc_language.specs.Symbols.{is_symbol_of, symbol_at, type_of, choice_of, definitions_of}
-use Rattle.kc_build.specs.SymbolRows.{AreBelow, AreSymbols, SymbolRow, type_by, choice_by, row_of, row_view}
-use Rattle.kc_build.proofs.MemberLemmas.{below_or_past}
-use Rattle.kc_build.proofs.PlaceLemmas.{filter-next, get-map_numbers, length-map_numbers}
+use Rattle.kc_read.specs.ListFacts.{AreBelow}
+use Rattle.kc_build.specs.SymbolRows.{AreSymbols, SymbolRow, type_by, choice_by, row_of, row_view}
+use Rattle.kc_read.proofs.MemberLemmas.{below_or_past}
+use Rattle.kc_read.proofs.PlaceLemmas.{filter-next, get-map_numbers, length-map_numbers}
 
 abbrev row_type : Option SymbolRow → SymbolType
 row_type o = unwrap_or (option_map (λ (r : SymbolRow). r.symbol_type) o) symbol_type.Undefined

@@ -18,10 +18,10 @@ use Rattle.kc_tree.specs.declared.rows.Title.{Title}
 use Rattle.kc_tree.specs.declared.selector_rows.SelectorRows.{SelectorRows}
 use Rattle.kc_tree.specs.Layouts.{choice_facts as choice_in, definition_facts, shown_of}
 use Rattle.kc_language.specs.Symbols.{Shown, SymbolShown, EndShown, choice_number, shown_at, shows_entry, is_first_definition, naming_at, of_block, symbol_at}
-use Rattle.kc_build.specs.PartsOfSymbols.{shown_number}
-use Rattle.kc_build.specs.PartsOfSymbols.{imply_of, enclosing_block, select_of, symbol_of, title_of}
+use Rattle.kc_read.specs.PartsOfSymbols.{shown_number}
+use Rattle.kc_read.specs.PartsOfSymbols.{imply_of, enclosing_block, select_of, symbol_of, title_of}
 use Rattle.kc_build.specs.Before.{choice_before, choices_before, definitions_before, entries_before, impliers_before, main_menu_before, members_before, selectors_before}
-use Rattle.kc_build.specs.SymbolRows.{AreMenusOpened}
+use Rattle.kc_read.specs.ListFacts.{AreMenusOpened}
 use Rattle.kc_build.specs.SelectorRows.{HaveSources}
 use Rattle.kc_build.specs.WalkResult.{AreRowsThere, IsEntryThere, IsSmall, IsSpanBelow, IsTitleThere}
 use Rattle.kc_build.specs.Stacks.{AreOpen}
@@ -29,9 +29,9 @@ use Rattle.kc_build.specs.Walks.{IsHead, IsWalk, index_after}
 use Rattle.kc_build.specs.declared.walk.EntryWalk.{EntryWalk}
 use Rattle.kc_build.proofs.EnterLemmas.{blocks_passed, definitions_passed, enclosing_passed, entries_passed, member_line, members_passed, names_passed, titles_passed}
 use Rattle.kc_build.proofs.GrownLemmas.{Extends, choice_extends, definition_extends_same, entries_stay, impliers_same, map_alike, selectors_same, shown_extends, titles_stay}
-use Rattle.kc_build.proofs.ListLemmas.{count_next}
+use Rattle.kc_read.proofs.PlaceLemmas.{count_next}
 use Rattle.kc_build.proofs.OpenLemmas.{open_moves}
-use Rattle.kc_build.proofs.PlaceLemmas.{filter_map-next}
+use Rattle.kc_read.proofs.PlaceLemmas.{filter_map-next}
 
 -- an element by its place
 pub all_at : {X : Type 0} (P : X → Type 0) (xs : List X) (i : ℕ) (x : X) → All P xs → slice_get xs i ≡ Some x → P x

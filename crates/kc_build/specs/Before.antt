@@ -6,7 +6,7 @@ use Rattle.kc_language.specs.Expansion.{attributes, last_of, numbers}
 use Rattle.kc_language.specs.Statements.{Numbered}
 use Rattle.kc_language.specs.declared.statements.Block.TheVariants as block
 use Rattle.kc_language.specs.Symbols.{StatedDefault, choice_number, dependency, shown_at, stated_default, naming_at, of_block, prompt_at, single_symbol, symbol_at, Guarded, ChoiceFacts, Shown}
-use Rattle.kc_build.specs.PartsOfSymbols.{defaults_at, imply_of, is_member_index, guarded_symbol, guarded_range, select_of, title_of}
+use Rattle.kc_read.specs.PartsOfSymbols.{defaults_at, imply_of, is_member_index, guarded_symbol, guarded_range, select_of, title_of}
 use Rattle.kc_tree.specs.Layouts.{DefinitionFacts}
 
 module _ (ss : List Numbered) where

@@ -8,7 +8,7 @@ use Rattle.kc_build.specs.declared.diagnostics.Diagnostics.{Diagnostics}
 use Rattle.kc_build.specs.declared.diagnostics.EntrySummary.{EntrySummary}
 use Rattle.kc_tree.specs.declared.rows.Symbol.{Symbol}
 use Rattle.kc_language.specs.Symbols.{prompt_of}
-use Rattle.kc_build.specs.PartsOfSymbols.{line_of}
+use Rattle.kc_read.specs.PartsOfSymbols.{line_of}
 use Rattle.kc_build.specs.SymbolRows.{line_warnings_in}
 use Rattle.kc_build.specs.WholeListRefusals.{bad_member_of, bad_default_of}
 

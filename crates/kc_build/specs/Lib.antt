@@ -5,11 +5,9 @@ pub mod EntryLines
 pub mod Growth
 pub mod Limits
 pub mod Listings
-pub mod PartsOfSymbols
 pub mod PartsView
 pub mod Passes
 pub mod Quiet
-pub mod Scopes
 pub mod SelectorRows
 pub mod Stacks
 pub mod Suspected

@@ -9,7 +9,7 @@ use Rattle.kc_build.specs.declared.diagnostics.EntrySummary.{EntrySummary}
 use Rattle.kc_language.specs.declared.symbols.MenuEntry.{MenuEntry}
 use Rattle.kc_language.specs.declared.symbols.MenuEntry.TheVariants as menu_entry
 use Rattle.kc_language.specs.Symbols.{has_text, prompt_of, same_type}
-use Rattle.kc_build.specs.PartsOfSymbols.{is_single}
+use Rattle.kc_read.specs.PartsOfSymbols.{is_single}
 
 -- a symbol of this type may have this default
 abbrev pub may_have_default : SymbolType → Form → Bool

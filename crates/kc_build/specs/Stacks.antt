@@ -5,9 +5,9 @@ use Rattle.kc_language.specs.Expansion.{enclosing}
 use Rattle.kc_language.specs.Statements.{Numbered, ChoiceLine}
 use Rattle.kc_tree.specs.Contexts.{HasNoMode, condition_in}
 use Rattle.kc_language.specs.Symbols.{Condition}
-use Rattle.kc_build.specs.PartsOfSymbols.{shown_number}
-use Rattle.kc_build.specs.PartsOfSymbols.{enclosing_block}
-use Rattle.kc_build.specs.Scopes.{scope_at}
+use Rattle.kc_read.specs.PartsOfSymbols.{shown_number}
+use Rattle.kc_read.specs.PartsOfSymbols.{enclosing_block}
+use Rattle.kc_read.specs.Scopes.{scope_at}
 use Rattle.kc_tree.specs.declared.rows.Title.{Title}
 use Rattle.kc_build.specs.declared.blocks.BlockScope.{BlockScope}
 use Rattle.kc_build.specs.declared.blocks.Blocks.{Blocks}

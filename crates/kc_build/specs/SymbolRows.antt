@@ -1,5 +1,5 @@
 -- For proofs: What is found of symbols, and the warnings about lines by it.
-use Rattle.std.specs.Prelude.{◌≡◌, ℕ, ◌<◌, List, map, length, Option, Some, None, slice_get, option_map, unwrap_or, ◌==◌, ◌&&◌, nat_lt, is_none, is_some, Bool, true}
+use Rattle.std.specs.Prelude.{◌≡◌, ℕ, List, map, length, Option, slice_get, option_map, unwrap_or, ◌==◌, ◌&&◌, nat_lt, is_none, Bool}
 use Rattle.std.specs.List.{filter_map, list_any}
 use Rattle.std.specs.Option.{option_and_then}
 use Rattle.kc_language.specs.declared.expressions.SymId.{SymId}
@@ -7,31 +7,15 @@ use Rattle.kc_language.specs.declared.expressions.SymbolType.{SymbolType}
 use Rattle.kc_language.specs.declared.expressions.SymbolType.TheVariants as symbol_type
 use Rattle.kc_language.specs.Expressions.{symbol}
 use Rattle.kc_language.specs.Expansion.{numbers}
-use Rattle.kc_language.specs.Statements.{Numbered, ChoiceLine, EndMenuLine}
+use Rattle.kc_language.specs.Statements.{Numbered}
 use Rattle.kc_build.specs.declared.diagnostics.EntrySummary.{EntrySummary}
 use Rattle.kc_language.specs.declared.symbols.ChoiceId.{ChoiceId}
 use Rattle.kc_tree.specs.declared.rows.DefinitionId.{DefinitionId}
 use Rattle.kc_tree.specs.declared.rows.Symbol.{Symbol}
 use Rattle.kc_language.specs.declared.symbols.LineWarning.{LineWarning as Warning}
-use Rattle.kc_language.specs.Symbols.{listed, type_of, choice_of, enclosing_choice, definitions_of, stated_default, single_symbol, symbol_at, is_selectable, stated_type, is_first_definition_at, menu_entry_at}
-use Rattle.kc_build.specs.PartsOfSymbols.{enclosing_block, line_warnings_by}
+use Rattle.kc_language.specs.Symbols.{listed, type_of, choice_of, enclosing_choice, definitions_of, stated_default, single_symbol, symbol_at, is_selectable, is_first_definition_at, menu_entry_at}
+use Rattle.kc_read.specs.PartsOfSymbols.{line_warnings_by}
 use Rattle.kc_tree.specs.Spans.{definition_ids}
-
--- each defined symbol has a number below this one
-abbrev pub AreBelow : ℕ → List Numbered → Type 0
-AreBelow count ss = (i : ℕ) (s : SymId) → symbol_at ss i ≡ Some s → s.0 < count
-
--- no line gives the type that stands for none
-abbrev pub AreTypesDefined : List Numbered → Type 0
-AreTypesDefined ss = (i : ℕ) (s : Numbered) → slice_get ss i ≡ Some s → stated_type s ≡ Some symbol_type.Undefined → ⊥
-
--- no choice stands in another one
-abbrev pub AreChoicesApart : List Numbered → Type 0
-AreChoicesApart ss = (i : ℕ) → slice_get ss i ≡ Some ChoiceLine → enclosing_choice ss i ≡ None
-
--- each end of a menu closes a block
-abbrev pub AreMenusOpened : List Numbered → Type 0
-AreMenusOpened ss = (i : ℕ) → slice_get ss i ≡ Some EndMenuLine → is_some (enclosing_block ss i) ≡ true
 
 -- What is found of a symbol: its type, its choice and the numbers of its definitions.
 pub record SymbolRow : Type 0 where

@@ -1,5 +1,5 @@
 -- For proofs: The rows of the symbols, entry by entry.
-use Rattle.std.specs.Prelude.{◌≡◌, ℕ, List, [], ◌∷◌, ◌++◌, filter, map, if◌then◌else◌, is_some, Option, Some, None, unwrap_or}
+use Rattle.std.specs.Prelude.{◌≡◌, ℕ, List, [], ◌∷◌, ◌++◌, map, if◌then◌else◌, is_some, Option, Some, None, unwrap_or}
 use Rattle.std.specs.List.{filter_map}
 use Rattle.std.specs.Option.{option_or}
 use Rattle.kc_language.specs.declared.expressions.SymbolType.{SymbolType}
@@ -8,9 +8,10 @@ use Rattle.kc_language.specs.declared.expressions.SymId.{SymId}
 use Rattle.kc_language.specs.Expressions.{symbol}
 use Rattle.kc_language.specs.Expansion.{attributes, numbers}
 use Rattle.kc_language.specs.Statements.{Numbered}
-use Rattle.kc_language.specs.Symbols.{is_symbol_of, enclosing_choice, symbol_at, stated_type}
-use Rattle.kc_build.specs.PartsOfSymbols.{first_of}
+use Rattle.kc_language.specs.Symbols.{enclosing_choice, stated_type}
+use Rattle.kc_read.specs.PartsOfSymbols.{first_of}
 use Rattle.kc_tree.specs.declared.rows.Symbol.{Symbol}
+use Rattle.kc_read.specs.ListFacts.{defined_before}
 use Rattle.kc_build.specs.SymbolRows.{SymbolRow, definition_number, row_view}
 use Rattle.kc_build.specs.Passes.{changed}
 
@@ -42,10 +43,6 @@ abbrev pub HaveMemberTypes : List SymbolRow → List SymbolRow → Type 0
 HaveMemberTypes old new = new ≡ map with_member_type old
 
 module _ (ss : List Numbered) where
-  -- the definitions of a symbol before a place
-  abbrev pub defined_before : ℕ → ℕ → List ℕ
-  defined_before i s = filter (λ j. is_symbol_of (symbol s) (symbol_at ss j)) (numbers i)
-
   -- the first type that the entry at a place gives
   abbrev pub entry_type : ℕ → Option SymbolType
   entry_type j = first_of (filter_map stated_type (attributes ss j))
@@ -59,7 +56,7 @@ module _ (ss : List Numbered) where
   }
 
   abbrev pub row_before : ℕ → ℕ → SymbolRow
-  row_before i s = row_by (defined_before i s)
+  row_before i s = row_by (defined_before ss i s)
 
   -- the rows of so many symbols, as the entries before a place have them
   abbrev pub AreRowsBefore : ℕ → ℕ → List Symbol → Type 0

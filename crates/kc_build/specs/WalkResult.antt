@@ -20,7 +20,7 @@ use Rattle.kc_tree.specs.declared.rows.Title.{Title}
 use Rattle.kc_build.specs.Before.{definitions_before, entries_before, main_menu_before}
 use Rattle.kc_build.specs.Diagnosed.{diagnosis_view}
 use Rattle.kc_language.specs.Symbols.{StatedDefault, choice_number, members_of, prompt_at, single_symbol, stated_default, ChoiceFacts, Condition, Guarded, bad_defaults, bad_members, refused_at}
-use Rattle.kc_build.specs.PartsOfSymbols.{choice_lines, first_of, guarded_symbol, impliers_of, selectors_of, warned_at}
+use Rattle.kc_read.specs.PartsOfSymbols.{choice_lines, first_of, guarded_symbol, impliers_of, selectors_of, warned_at}
 use Rattle.kc_build.specs.SymbolRows.{member_by}
 use Rattle.kc_tree.specs.Layouts.{choice_facts as choice_in, definition_facts, impliers_at, selectors_at, shown_of}
 use Rattle.kc_build.specs.SelectorRows.{HaveSources}

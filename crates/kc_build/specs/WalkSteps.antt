@@ -13,7 +13,7 @@ use Rattle.kc_tree.specs.declared.rows.Title.{Title}
 use Rattle.kc_tree.specs.Contexts.{condition_in}
 use Rattle.kc_tree.specs.Layouts.{DefinitionFacts, definition_facts, with_conjuncts, with_when}
 use Rattle.kc_language.specs.Symbols.{ChoiceFacts, Condition, prompt_of}
-use Rattle.kc_build.specs.PartsOfSymbols.{depends_form}
+use Rattle.kc_read.specs.PartsOfSymbols.{depends_form}
 use Rattle.kc_build.specs.EntryLines.{default_line, range_line}
 use Rattle.kc_build.specs.Growth.{IsGrown}
 use Rattle.kc_build.specs.Passes.{change}

@@ -8,7 +8,7 @@ use Rattle.kc_language.specs.Statements.{Numbered}
 use Rattle.kc_build.specs.declared.walk.EntryWalk.{EntryWalk}
 use Rattle.kc_build.specs.Before.{choices_before, definitions_before, entries_before, impliers_before, main_menu_before, selectors_before}
 use Rattle.kc_language.specs.Symbols.{is_first_definition_at}
-use Rattle.kc_build.specs.SymbolRows.{AreMenusOpened}
+use Rattle.kc_read.specs.ListFacts.{AreMenusOpened}
 use Rattle.kc_tree.specs.Layouts.{choice_facts as choice_in, definition_facts, impliers_at, selectors_at, shown_of}
 use Rattle.kc_build.specs.WalkResult.{AreRowsThere, HasHeads, IsSmall}
 use Rattle.kc_build.specs.Stacks.{AreOpen}

@@ -9,7 +9,7 @@ use Rattle.kc_language.specs.declared.symbols.ChoiceId.{ChoiceId}
 use Rattle.kc_tree.specs.declared.rows.Symbol.{Symbol}
 use Rattle.kc_build.specs.SymbolRows.{choice_by, type_by}
 use Rattle.kc_language.specs.Symbols.{entry_name, entry_symbol}
-use Rattle.kc_build.specs.PartsOfSymbols.{is_bad_default, is_bad_member}
+use Rattle.kc_read.specs.PartsOfSymbols.{is_bad_default, is_bad_member}
 
 -- the refusal of a line at a place, which names its entry
 abbrev pub entry_refusal : List (List ℕ) → (List ℕ → Cause) → MenuEntry → List ℕ → ℕ → Refused

@@ -7,7 +7,7 @@ ghost use Rattle.kc_read.specs.StatementViews.{attribute_view, input_prompt_view
 ghost use Rattle.kc_language.specs.Symbols.{listed};
 ghost use Rattle.kc_tree.specs.Contexts.{condition_in};
 ghost use Rattle.kc_language.specs.Symbols as facts;
-ghost use Rattle.kc_build.specs.PartsOfSymbols as facts_parts;
+ghost use Rattle.kc_read.specs.PartsOfSymbols as facts_parts;
 ghost use Rattle.kc_build.specs.Growth.{IsGrown, IsInside, Stands};
 ghost use Rattle.kc_build.specs.EntryLines.{prompt_line, default_line, range_line, named_line, choice_default_line};
 ghost use Rattle.kc_tree.specs.OwnRows.{default_row, range_row};

@@ -4,7 +4,7 @@ ghost use Rattle.kc_read.specs.Files.{files_in};
 ghost use Rattle.std.specs.Prelude.{◌≡◌, ◌≢◌, ◌<◌, ◌≤◌, ◌+◌, ◌*◌, ◌^◌, ℕ, List, length, map, IfOk, IfErr, OnOk, Ok, Err};
 ghost use Rattle.kc_expr.specs.PartsOfSymbols.{stands_in};
 ghost use Rattle.kc_language.specs.Symbols.{defined_symbols, IsTreeOf, modules_symbol, tree_with};
-ghost use Rattle.kc_build.specs.PartsOfSymbols.{symbol_if};
+ghost use Rattle.kc_read.specs.PartsOfSymbols.{symbol_if};
 ghost use Rattle.kc_language.specs.Expansion.{Files};
 ghost use Rattle.kc_read.specs.RefusalView.{IsMemory, refusal_view};
 ghost use Rattle.kc_read.specs.Entries.{lines_in};
@@ -13,7 +13,7 @@ ghost use Rattle.kc_build.specs.Limits.{most_names};
 ghost use Rattle.kc_build.specs.Listings.{IsListingOf};
 ghost use Rattle.kc_build.specs.PartsView.{parts_view};
 ghost use Rattle.kc_build.specs.Passes.{statements_in};
-ghost use Rattle.kc_build.specs.SymbolRows.{AreBelow, AreChoicesApart, AreMenusOpened, AreTypesDefined};
+ghost use Rattle.kc_read.specs.ListFacts.{AreBelow, AreChoicesApart, AreMenusOpened, AreTypesDefined};
 
 use crate::entries::walk_entries;
 use crate::listing::{Listing, read_listing};

@@ -12,7 +12,7 @@ ghost use Rattle.kc_language.specs.Symbols as facts;
 ghost use Rattle.kc_language.specs.Symbols.{listed};
 ghost use Rattle.kc_build.specs.SymbolRows.{type_by, choice_by, member_by, default_symbol, line_warnings_in};
 ghost use Rattle.kc_build.specs.WholeListRefusals as entry_refusal;
-ghost use Rattle.kc_build.specs.PartsOfSymbols as spec_parts;
+ghost use Rattle.kc_read.specs.PartsOfSymbols as spec_parts;
 
 use crate::lines::{
     is_single, prompt_of, single_symbol, stated_default, stated_type, symbol_of, target_of,

@@ -3,7 +3,7 @@
 ghost use Rattle.std.specs.Prelude.{◌≡◌, ◌<◌, ◌+◌, ◌*◌, ◌^◌, length, IfOk};
 ghost use Rattle.kc_read.specs.Entries.{lines_in};
 ghost use Rattle.kc_build.specs.Passes.{statements_in};
-ghost use Rattle.kc_build.specs.SymbolRows.{AreBelow, AreChoicesApart, AreMenusOpened, AreTypesDefined};
+ghost use Rattle.kc_read.specs.ListFacts.{AreBelow, AreChoicesApart, AreMenusOpened, AreTypesDefined};
 ghost use Rattle.kc_build.specs.Walked.{IsWalked};
 
 use crate::attributes::first_type;

@@ -5,7 +5,7 @@ ghost use Rattle.kc_expr.specs.Form.{form_of};
 ghost use Rattle.kc_expr.specs.When.{when_view};
 ghost use Rattle.kc_read.specs.StatementViews.{attribute_view, head_view, input_prompt_view};
 ghost use Rattle.kc_language.specs.Symbols as facts;
-ghost use Rattle.kc_build.specs.PartsOfSymbols as facts_parts;
+ghost use Rattle.kc_read.specs.PartsOfSymbols as facts_parts;
 ghost use Rattle.kc_tree.specs.OwnRows.{range_row};
 ghost use Rattle.kc_build.specs.Passes.{stated_default_view, target_view};
 ghost use Rattle.kc_build.specs.EntryLines.{range_line};

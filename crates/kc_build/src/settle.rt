@@ -4,7 +4,8 @@ ghost use Rattle.std.specs.Prelude.{◌≡◌, ◌<◌, ◌+◌, ◌*◌, ◌^�
 ghost use Rattle.kc_read.specs.Entries.{lines_in};
 ghost use Rattle.kc_build.specs.Passes.{statements_in};
 ghost use Rattle.kc_build.specs.ChoiceRows.{HaveMemberDefaults};
-ghost use Rattle.kc_build.specs.SymbolRows.{AreBelow, AreSymbols, AreTypesDefined};
+ghost use Rattle.kc_read.specs.ListFacts.{AreBelow, AreTypesDefined};
+ghost use Rattle.kc_build.specs.SymbolRows.{AreSymbols};
 ghost use Rattle.kc_build.specs.Walked.{IsWalked};
 ghost use Rattle.kc_build.specs.WalkResult.{IsWalkResult, IsDiagnosed, IsSmall};
 

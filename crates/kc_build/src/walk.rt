@@ -4,7 +4,8 @@ ghost use Rattle.std.specs.Prelude.{◌≡◌, ℕ, Bool, List, ◌<◌, ◌+◌
 ghost use Rattle.kc_expr.specs.Form.{form_of};
 ghost use Rattle.kc_read.specs.StatementViews.{head_view};
 ghost use Rattle.kc_language.specs.Statements.{Numbered, ConfigLine, IfLine, MenuLine, CommentLine, ChoiceLine, EndMenuLine};
-ghost use Rattle.kc_build.specs.SymbolRows.{AreBelow, IsEntrySummary};
+ghost use Rattle.kc_read.specs.ListFacts.{AreBelow};
+ghost use Rattle.kc_build.specs.SymbolRows.{IsEntrySummary};
 ghost use Rattle.kc_build.specs.Passes.{statements_of};
 ghost use Rattle.kc_build.specs.SymbolWalk.{AreRowsBefore};
 ghost use Rattle.kc_build.specs.WalkResult.{HasRoom};

@@ -4,7 +4,7 @@ ghost use Rattle.std.specs.Prelude.{◌≡◌, IfOk};
 ghost use Rattle.kc_diagnostics.specs.Warnings.{shown_warning};
 ghost use Rattle.kc_language.specs.Symbols.{name_by};
 ghost use Rattle.kc_language.specs.Symbols as spec;
-ghost use Rattle.kc_build.specs.PartsOfSymbols as spec_parts;
+ghost use Rattle.kc_read.specs.PartsOfSymbols as spec_parts;
 
 use crate::lines::SelectOrImply;
 use kc_diagnostics::{Warning, add_located};

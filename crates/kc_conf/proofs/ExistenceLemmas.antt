@@ -10,7 +10,7 @@ use Rattle.kc_language.specs.Expansion.{AreOpened, Log, Refused, Files, numbered
 use Rattle.kc_read.specs.OpenedFiles.{OpenedAreOneList}
 use Rattle.kc_read.specs.Existing.{HasOneExpansion}
 use Rattle.kc_language.specs.Symbols.{TreeFacts, IsTreeOf}
-use Rattle.kc_build.specs.PartsOfSymbols.{tree_of_log}
+use Rattle.kc_read.specs.PartsOfSymbols.{tree_of_log}
 use Rattle.kc_build.specs.Trees.{TreesAreWellFormed}
 use Rattle.kc_user.specs.Places.{ArePlaces}
 use Rattle.kc_language.specs.ConfigFile.{Places, place_at, StreamLocation}

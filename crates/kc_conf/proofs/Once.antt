@@ -5,7 +5,7 @@ use Rattle.kc_language.specs.Expansion.{AreOpened, Expands, Log, Refused, Files,
 use Rattle.kc_language.specs.Statements.{Located, Numbered}
 use Rattle.kc_read.specs.Existing.{HasOneExpansion}
 use Rattle.kc_language.specs.Symbols.{TreeFacts, IsTreeOf}
-use Rattle.kc_build.specs.PartsOfSymbols.{tree_of_log}
+use Rattle.kc_read.specs.PartsOfSymbols.{tree_of_log}
 use Rattle.kc_build.specs.Trees.{OneTree}
 use Rattle.kc_language.specs.ConfigFile.{Places, place_at, ReadResult}
 use Rattle.kc_language.specs.Expressions.{TextValue}

@@ -1,5 +1,5 @@
 -- The attributes from a line on.
-use Rattle.std.proofs.Common.{◌≡◌, ℕ, zero, suc, ◌+◌, ◌<◌, ◌≤◌, Bool, true, false, cond, if◌then◌else◌, List, [], ◌∷◌, ◌++◌, length, drop, take_while, map, Some, None, refl, ap, sym, ◌∙◌, arith, append_assoc, get_or}
+use Rattle.std.proofs.Common.{◌≡◌, ℕ, suc, ◌+◌, ◌<◌, ◌≤◌, Bool, true, false, cond, if◌then◌else◌, List, [], ◌∷◌, ◌++◌, length, drop, take_while, map, Some, None, refl, ap, sym, ◌∙◌, arith, append_assoc, get_or}
 use Rattle.std.specs.List.{enumerate_from, slice_get}
 use Rattle.std.specs.Prelude.{option_map}
 use Rattle.std.proofs.lemmas.Option.{slice_get-get_or, slice_get-map}
@@ -11,17 +11,7 @@ use Rattle.kc_explain.specs.LineIndexes.{attribute_in}
 use Rattle.kc_explain.specs.LineViews.{attribute_at_view, line_view, said_by}
 use Rattle.kc_explain.specs.declared.lines.AttributeAt.{AttributeAt}
 use Rattle.kc_explain.specs.declared.lines.Line.{Line}
-
-drop_at : (ss : List Numbered) (at : ℕ) (s : Numbered) → slice_get ss at ≡ Some s → drop at ss ≡ s ∷ drop (suc at) ss
-drop_at [] at s h = cc
-drop_at (x ∷ ss) zero s h = cc
-drop_at (x ∷ ss) (suc at) s h = drop_at ss at s h
-
-drop_past : (ss : List Numbered) (at : ℕ) → length ss ≤ at → drop at ss ≡ []
-drop_past [] zero h = refl
-drop_past [] (suc at) h = refl
-drop_past (x ∷ ss) zero h = absurd (omega arith)
-drop_past (x ∷ ss) (suc at) h = drop_past ss at (omega arith)
+use Rattle.kc_read.proofs.PlaceLemmas.{drop-get, drop_past}
 
 abbrev pub from_line : List Numbered → ℕ → List (ℕ × Numbered)
 from_line ss at = enumerate_from at (take_while is_attribute (drop at ss))
@@ -39,7 +29,7 @@ from_more ss at s x h e =
     let is = some_in s x (is_attribute s) refl e in
     let z : at + 1 ≡ suc at = omega arith in
     let rest = drop (suc at) ss in
-    ap (λ l. enumerate_from at (take_while is_attribute l)) (drop_at ss at s h)
+    ap (λ l. enumerate_from at (take_while is_attribute l)) (drop-get ss at s h)
     ∙ ap (enumerate_from at) (take_while-cons is_attribute s rest ∙ ap (λ b. cond b (s ∷ take_while is_attribute rest) []) (is.0))
     ∙ (rw (is.1, z) refl)
 
@@ -59,7 +49,7 @@ attributes_more ss at s x all new whole h e a n w =
 pub attributes_end : (ss : List Numbered) (at : ℕ) (s : Numbered) (all : List AttributeAt) (whole : List (ℕ × Numbered)) → slice_get ss at ≡ Some s → None ≡ attribute_in s →
     map attribute_at_view all ++ from_line ss at ≡ whole → map attribute_at_view all ≡ whole
 attributes_end ss at s all whole h e w =
-    let none : from_line ss at ≡ [] = rw (drop_at ss at s h, none_in s (is_attribute s) refl e) refl in
+    let none : from_line ss at ≡ [] = rw (drop-get ss at s h, none_in s (is_attribute s) refl e) refl in
     sym (append-nil (map attribute_at_view all)) ∙ ap (λ l. map attribute_at_view all ++ l) (sym none) ∙ w
 
 pub attributes_past : (ss : List Numbered) (at : ℕ) (all : List AttributeAt) (whole : List (ℕ × Numbered)) → length ss ≤ at →

@@ -10,7 +10,7 @@ use Rattle.kc_language.specs.Statements.{Numbered}
 use Rattle.kc_language.specs.Symbols.{indices, of_block}
 use Rattle.kc_language.specs.declared.statements.Block.{Block}
 use Rattle.kc_read.proofs.EnclosingLemmas.{numbers_from, numbers-from}
-use Rattle.kc_explain.proofs.LineIndexLemmas.{length-numbers}
+use Rattle.kc_read.proofs.PlaceLemmas.{length-numbers}
 
 -- up to a place all pass, and from there on none
 count_first : (p : ℕ → Bool) (xs : List ℕ) (i : ℕ) → i ≤ length xs → ((k d : ℕ) → 0 ≤ k → k < i → p (get_or xs k d) ≡ true) → count_by p (take i xs) ≡ i

@@ -1,6 +1,6 @@
 -- What is kept of lines, from one line to the next.
 use Rattle.std.proofs.Common.{◌≡◌, ℕ, zero, suc, ◌+◌, ◌-◌, ◌<◌, ◌≤◌, Bool, true, false, cond, ◌&&◌, List, [], ◌∷◌, ◌++◌, length, map, filter, take, Option, Some, None, refl, ap, append_assoc, sym, ◌∙◌, subst, arith, get_or, length-append, inl, inr}
-use Rattle.std.specs.List.{count_by, fold, slice_get}
+use Rattle.std.specs.List.{count_by, slice_get}
 use Rattle.std.specs.Option.{option_and_then}
 use Rattle.std.specs.Prelude.{◌⊎◌, nat_lt, slice_index_or}
 use Rattle.std.proofs.Math.Seq.{take-length, take-suc}
@@ -23,17 +23,10 @@ use Rattle.kc_explain.specs.declared.lines.Line.{Line}
 use Rattle.kc_explain.specs.declared.lines.LineIndex.{LineIndex}
 use Rattle.kc_explain.proofs.NamingLemmas.{entry-next, naming_lines-next}
 use Rattle.kc_read.proofs.EnclosingLemmas.{enclosing-closes, enclosing-last, enclosing-no, enclosing-opens, front, last-snoc, last_is_nested, numbers_from, numbers-from}
+use Rattle.kc_read.proofs.PlaceLemmas.{count_snoc, end_get, get_front, length-numbers}
+use Rattle.kc_read.proofs.EntryLemmas.{take-whole}
 
 -- Lists.
-get_front : {X : Type 0} (xs ys : List X) (i : ℕ) → i < length xs → slice_get (xs ++ ys) i ≡ slice_get xs i
-get_front [] ys i h = absurd (omega arith)
-get_front (x ∷ xs) ys zero h = refl
-get_front (x ∷ xs) ys (suc i) h = get_front xs ys i (omega arith)
-
-get_last : {X : Type 0} (xs : List X) (x : X) → slice_get (xs ++ x ∷ []) (length xs) ≡ Some x
-get_last [] x = refl
-get_last (y ∷ xs) x = get_last xs x
-
 pub length-next : {X : Type 0} (xs : List X) (x : X) → length (xs ++ x ∷ []) ≡ suc (length xs)
 length-next xs x = omega (arith, length-append xs (x ∷ []))
 
@@ -55,7 +48,7 @@ filter_next c ss s =
     let n = length ss in
     ap (λ m. filter p (numbers m)) (length-next ss s)
     ∙ filter-append p (numbers n) (n ∷ [])
-    ∙ (rw (filter_below p (λ i. c (slice_get ss i)) n (λ i l. ap c (get_front ss (s ∷ []) i l)), get_last ss s) refl)
+    ∙ (rw (filter_below p (λ i. c (slice_get ss i)) n (λ i l. ap c (get_front ss (s ∷ []) i l)), end_get ss s) refl)
 
 pub definitions-next : (ss : List Numbered) (s : Numbered) (t : SymId) →
     definitions_of (ss ++ s ∷ []) t ≡ definitions_of ss t ++ one_if (is_symbol_of t (defined_name s)) (length ss)
@@ -106,15 +99,15 @@ innermost_by : (ss : List Numbered) (s : Numbered) (b : Bracket) → bracket s �
     last_of (enclosing (ss ++ s ∷ []) (suc (length ss))) ≡ innermost_after (map (innermost_at ss) (numbers (length ss))) (innermost_at ss (length ss)) (length ss) b
 innermost_by ss s (Opens k) e =
     let n = length ss in
-    ap last_of (enclosing-opens (ss ++ s ∷ []) n s k (get_last ss s) e) ∙ last-snoc (enclosing (ss ++ s ∷ []) n) n
+    ap last_of (enclosing-opens (ss ++ s ∷ []) n s k (end_get ss s) e) ∙ last-snoc (enclosing (ss ++ s ∷ []) n) n
 innermost_by ss s Closes e =
     let n = length ss in
-    ap last_of (enclosing-closes (ss ++ s ∷ []) n s (get_last ss s) e)
+    ap last_of (enclosing-closes (ss ++ s ∷ []) n s (end_get ss s) e)
     ∙ ap (λ xs. last_of (front xs)) (enclosing-front ss s n (omega arith))
     ∙ after_close ss (innermost_at ss n) refl
 innermost_by ss s NoBracket e =
     let n = length ss in
-    ap last_of (enclosing-no (ss ++ s ∷ []) n s (get_last ss s) e ∙ enclosing-front ss s n (omega arith))
+    ap last_of (enclosing-no (ss ++ s ∷ []) n s (end_get ss s) e ∙ enclosing-front ss s n (omega arith))
 
 pub innermost-next : (ss : List Numbered) (s : Numbered) →
     innermost_at (ss ++ s ∷ []) (length (ss ++ s ∷ [])) ≡ innermost_after (map (innermost_at ss) (numbers (length ss))) (innermost_at ss (length ss)) (length ss) (bracket s)
@@ -147,14 +140,8 @@ index-next x y l lines next x_is =
     (index_of-next (statements (map line_view x.lines.items)) (said_by l.statement) (length x.lines.items) x y (sym (length-statements x.lines.items)) next x_is)
 
 -- The blocks around a line, wherever it is.
-take_all : {X : Type 0} (xs : List X) (i : ℕ) → length xs ≤ i → take i xs ≡ xs
-take_all [] zero h = refl
-take_all [] (suc i) h = refl
-take_all (x ∷ xs) zero h = absurd (omega arith)
-take_all (x ∷ xs) (suc i) h = ap (λ l. x ∷ l) (take_all xs i (omega arith))
-
 enclosing_past : (ss : List Numbered) (i : ℕ) → length ss ≤ i → enclosing ss i ≡ enclosing ss (length ss)
-enclosing_past ss i h = ap open_block_indices (take_all ss i h ∙ sym (take-length ss))
+enclosing_past ss i h = ap open_block_indices (take-whole ss i h ∙ sym (take-length ss))
 
 pub record IsAround (ss : List Numbered) (i k : ℕ) : Type 0 where
   pub before : k < i
@@ -179,10 +166,6 @@ pub around_none : (ss : List Numbered) (i : ℕ) → innermost_at ss i ≡ None 
 around_none ss i e = nil_open (enclosing ss i) e
 
 -- The innermost block by its list.
-pub length-numbers : (n : ℕ) → length (numbers n) ≡ n
-length-numbers zero = refl
-length-numbers (suc n) = omega (arith, length-append (numbers n) (n ∷ []), length-numbers n)
-
 some_at : {X : Type 0} (f : ℕ → X) (p n k : ℕ) (x : X) → slice_get (map f (numbers_from p n)) k ≡ Some x → x ≡ f (p + k)
 some_at f p zero k x h = cc
 some_at f p (suc n) zero x h = let e : p + 0 ≡ p = omega arith in rw e cc
@@ -209,13 +192,6 @@ and_true false = refl
 and_false : (b : Bool) → (b && false) ≡ false
 and_false true = refl
 and_false false = refl
-
-fold_snoc : (g : ℕ → ℕ → ℕ) (a : ℕ) (xs : List ℕ) (x : ℕ) → fold g a (xs ++ x ∷ []) ≡ g (fold g a xs) x
-fold_snoc g a [] x = refl
-fold_snoc g a (y ∷ xs) x = fold_snoc g (g a y) xs x
-
-count_snoc : (p : ℕ → Bool) (xs : List ℕ) (n : ℕ) → count_by p (xs ++ n ∷ []) ≡ count_by p xs + cond (p n) 1 0
-count_snoc p xs n = fold_snoc (λ (a x : ℕ). a + cond (p x) 1 0) 0 xs n
 
 count_one : (q : ℕ → Bool) (i n : ℕ) (b : Bool) → q n ≡ b →
     count_by (λ c. nat_lt c i) (filter q (numbers (suc n))) ≡ count_by (λ c. nat_lt c i) (filter q (numbers n)) + cond (b && nat_lt n i) 1 0

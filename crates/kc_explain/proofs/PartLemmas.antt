@@ -1,15 +1,13 @@
 -- Parts of conditions and lines that say something, one after the other.
-use Rattle.std.proofs.Common.{◌≡◌, ℕ, zero, suc, ◌+◌, ◌<◌, ◌≤◌, Bool, true, false, List, [], ◌∷◌, ◌++◌, length, drop, filter, map, Option, Some, None, refl, ap, sym, ◌∙◌, arith, add-one, get_or, append_assoc}
+use Rattle.std.proofs.Common.{◌≡◌, ℕ, suc, ◌+◌, ◌<◌, ◌≤◌, Bool, true, false, List, [], ◌∷◌, ◌++◌, length, drop, filter, map, Option, Some, None, refl, ap, sym, ◌∙◌, get_or, append_assoc}
 use Rattle.std.specs.Prelude.{if◌then◌else◌, option_map}
 use Rattle.std.specs.Option.{option_or}
-use Rattle.std.specs.List.{slice_get, filter_map, flat_map, cons_option, enumerate_from, last_or}
+use Rattle.std.specs.List.{filter_map, flat_map, cons_option, enumerate_from, last_or}
 use Rattle.std.proofs.lemmas.List.{map-append, append-nil, get_or_default}
-use Rattle.std.proofs.lemmas.Option.{slice_get-get_or}
 use Rattle.kc_expr.proofs.FormLemmas.{lesser-assoc}
 use Rattle.kc_language.specs.Expansion.{attributes, enclosing, last_of}
 use Rattle.kc_language.specs.Expressions.{Form, least, lesser}
 use Rattle.kc_language.specs.declared.expressions.Tri.{Tri}
-use Rattle.kc_language.specs.declared.expressions.Tri.TheVariants.{N, M, Y}
 use Rattle.kc_language.specs.Explanations as rules
 use Rattle.kc_language.specs.Statements.{Numbered}
 use Rattle.kc_language.specs.Symbols.{listed, of_block}
@@ -18,22 +16,11 @@ use Rattle.kc_explain.specs.declared.lines.AttributeAt.{AttributeAt}
 use Rattle.kc_explain.specs.declared.parts.OwnCondition.{OwnCondition}
 use Rattle.kc_explain.specs.LineViews.{attribute_at_view}
 use Rattle.kc_explain.specs.PartsOfExplanations.{own_parts, read_by, said_one, visible_parts}
+use Rattle.kc_read.proofs.ListLemmas.{last_or-cons_option, option_map-or, filter_map-map}
+use Rattle.kc_read.proofs.PlaceLemmas.{drop_at, drop_past}
+use Rattle.kc_values.proofs.TriLemmas.{lesser_y, least-append}
 
 -- ---- A walk that adds what each element gives
-drop-get : {X : Type 0} (xs : List X) (i : ℕ) (x : X) → slice_get xs i ≡ Some x → drop i xs ≡ x ∷ drop (suc i) xs
-drop-get [] i x h = cc
-drop-get (y ∷ xs) zero x h = cc
-drop-get (y ∷ xs) (suc i) x h = drop-get xs i x h
-
-pub drop_at : {X : Type 0} (xs : List X) (i : ℕ) (x : X) → i < length xs → x ≡ get_or xs i x → drop i xs ≡ x ∷ drop (i + 1) xs
-drop_at xs i x h e = drop-get xs i x (slice_get-get_or xs i x h ∙ ap Some (sym e)) ∙ (rw add-one refl)
-
-pub drop_past : {X : Type 0} (xs : List X) (i : ℕ) → length xs ≤ i → drop i xs ≡ []
-drop_past [] zero h = refl
-drop_past [] (suc i) h = refl
-drop_past (x ∷ xs) zero h = absurd (omega arith)
-drop_past (x ∷ xs) (suc i) h = drop_past xs i (omega arith)
-
 module _ {X A : Type 0} (g : X → List A) (base : List A) where
   abbrev pub Adds : List X → ℕ → List A → Type 0
   Adds xs i out = out ++ flat_map g (drop i xs) ≡ base ++ flat_map g xs
@@ -91,34 +78,21 @@ module _ {X A : Type 0} (f : X → Option A) where
   abbrev pub LastIs : List X → ℕ → Option A → Type 0
   LastIs xs i o = last_or o (filter_map f (drop i xs)) ≡ last_of (filter_map f xs)
 
-  or_last : (o now : Option A) (ys : List A) → last_or now (cons_option o ys) ≡ last_or (option_or o now) ys
-  or_last None now ys = refl
-  or_last (Some a) now ys = refl
-
-  -- in terms of what stands for the values in memory
-  map-or : {B : Type 0} (v : B → A) (o now : Option B) → option_map v (option_or o now) ≡ option_or (option_map v o) (option_map v now)
-  map-or v None now = refl
-  map-or v (Some b) now = refl
-
   pub last_next : {B : Type 0} (v : B → A) (xs : List X) (i : ℕ) (x : X) (found now next : Option B) → LastIs xs i (option_map v now) → i < length xs →
       x ≡ get_or xs i x → option_map v found ≡ f x → next ≡ option_or found now → LastIs xs (i + 1) (option_map v next)
   last_next v xs i x found now next h b at e n =
-      let step : option_map v next ≡ option_or (f x) (option_map v now) = ap (option_map v) n ∙ map-or v found now ∙ ap (λ o. option_or o (option_map v now)) e in
+      let step : option_map v next ≡ option_or (f x) (option_map v now) = ap (option_map v) n ∙ option_map-or v found now ∙ ap (λ o. option_or o (option_map v now)) e in
       let d : drop i xs ≡ x ∷ drop (i + 1) xs = drop_at xs i x b at in
-      rw step (sym (or_last (f x) (option_map v now) (filter_map f (drop (i + 1) xs))) ∙ (rw d at h))
+      rw step (sym (last_or-cons_option (f x) (option_map v now) (filter_map f (drop (i + 1) xs))) ∙ (rw d at h))
 
   pub last_end : (xs : List X) (i : ℕ) (now : Option A) → LastIs xs i now → length xs ≤ i → now ≡ last_of (filter_map f xs)
   last_end xs i now h b = let d : drop i xs ≡ [] = drop_past xs i b in (rw d at h)
-
-filter_map-map : {A B C : Type 0} (h : B → Option C) (v : A → B) (xs : List A) → filter_map (λ x. h (v x)) xs ≡ filter_map h (map v xs)
-filter_map-map h v [] = refl
-filter_map-map h v (x ∷ xs) = ap (cons_option (h (v x))) (filter_map-map h v xs)
 
 pub last_said : {X : Type 0} (read : Numbered → Option X) (ss : List Numbered) (i : ℕ) (all : List AttributeAt) →
     map attribute_at_view all ≡ enumerate_from (suc i) (attributes ss i) →
     last_of (filter_map (λ a. said_one read i (attribute_at_view a)) all) ≡ last_of (rules.said_at ss read i)
 last_said read ss i all e =
-    ap last_of (filter_map-map (said_one read i) attribute_at_view all ∙ ap (filter_map (said_one read i)) e)
+    ap last_of (sym (filter_map-map (said_one read i) attribute_at_view all) ∙ ap (filter_map (said_one read i)) e)
 
 -- the last that passes a test
 module _ {X : Type 0} (p : X → Bool) where
@@ -149,16 +123,6 @@ pub map-twice : {A B C : Type 0} (h : B → C) (v : A → B) (xs : List A) → m
 map-twice h v [] = refl
 map-twice h v (x ∷ xs) = ap (λ r. h (v x) ∷ r) (map-twice h v xs)
 
-pub lesser_n : (t : Tri) → lesser t N ≡ N
-lesser_n N = refl
-lesser_n M = refl
-lesser_n Y = refl
-
-pub lesser_y : (t : Tri) → lesser t Y ≡ t
-lesser_y N = refl
-lesser_y M = refl
-lesser_y Y = refl
-
 module _ {X : Type 0} (f : X → Tri) where
   abbrev pub LeastIs : List X → ℕ → Tri → Type 0
   LeastIs xs i t = lesser t (least (map f (drop i xs))) ≡ least (map f xs)
@@ -171,10 +135,6 @@ module _ {X : Type 0} (f : X → Tri) where
 
   pub least_end : (xs : List X) (i : ℕ) (now : Tri) → LeastIs xs i now → length xs ≤ i → now ≡ least (map f xs)
   least_end xs i now h b = let d : drop i xs ≡ [] = drop_past xs i b in sym (lesser_y now) ∙ (rw d at h)
-
-least-append : (xs ys : List Tri) → least (xs ++ ys) ≡ lesser (least xs) (least ys)
-least-append [] ys = refl
-least-append (x ∷ xs) ys = ap (lesser x) (least-append xs ys) ∙ sym (lesser-assoc x (least xs) (least ys))
 
 pub least_of_both : {X : Type 0} (f : X → Tri) (first made own : List X) (a b all : Tri) → made ≡ first → a ≡ least (map f made) → b ≡ least (map f own) →
     all ≡ lesser a b → all ≡ least (map f (first ++ own))

@@ -19,8 +19,6 @@ use Rattle.kc_language.specs.Values.{GivenValue, SymbolPlace, active_range, fact
 use Rattle.kc_language.specs.declared.expressions.SymId.{SymId}
 use Rattle.kc_language.specs.declared.expressions.SymbolType.{SymbolType}
 use Rattle.kc_language.specs.declared.expressions.SymbolType.TheVariants as symbol_type
-use Rattle.kc_language.specs.declared.expressions.Tri.{Tri}
-use Rattle.kc_language.specs.declared.expressions.Tri.TheVariants.{N, M, Y}
 use Rattle.kc_language.specs.declared.symbols.ChoiceId.{ChoiceId}
 use Rattle.kc_language.specs.declared.values.Interval.{Interval}
 use Rattle.kc_tree.specs.Contexts.{mode_view}
@@ -34,19 +32,9 @@ use Rattle.kc_user.specs.declared.value.UserValue.{UserValue}
 use Rattle.kc_values.specs.Laws.{RowsTellFacts}
 use Rattle.kc_values.specs.User.{given_in}
 use Rattle.kc_explain.specs.SymbolsTold.{body_lines, plain_of, row_members, user_lines}
+use Rattle.kc_expr.proofs.FormLemmas.{lesser-assoc}
 
 -- ---- conditions in two parts
-lesser-assoc : (a b c : Tri) → lesser (lesser a b) c ≡ lesser a (lesser b c)
-lesser-assoc N b c = refl
-lesser-assoc M N c = refl
-lesser-assoc M M N = refl
-lesser-assoc M M M = refl
-lesser-assoc M M Y = refl
-lesser-assoc M Y N = refl
-lesser-assoc M Y M = refl
-lesser-assoc M Y Y = refl
-lesser-assoc Y b c = refl
-
 pub parts_value_both : (tree : TreeFacts) (known : SymId → SymbolValue) (xs ys : List ConditionPart) →
     rules.parts_value tree known (xs ++ ys) ≡ lesser (rules.parts_value tree known xs) (rules.parts_value tree known ys)
 parts_value_both tree known [] ys = refl

@@ -182,11 +182,11 @@ here_both (Opens b) n (suc u) e = refl
 here_both Closes n u e = refl
 here_both NoBracket n u e = refl
 
-first_nil : {A : Type 0} (xs ys : List A) → xs ++ ys ≡ [] → xs ≡ []
+pub first_nil : {A : Type 0} (xs ys : List A) → xs ++ ys ≡ [] → xs ≡ []
 first_nil [] ys e = refl
 first_nil (x ∷ xs) ys e = absurd cc
 
-second_nil : {A : Type 0} (xs ys : List A) → xs ++ ys ≡ [] → ys ≡ []
+pub second_nil : {A : Type 0} (xs ys : List A) → xs ++ ys ≡ [] → ys ≡ []
 second_nil [] ys e = e
 second_nil (x ∷ xs) ys e = absurd cc
 

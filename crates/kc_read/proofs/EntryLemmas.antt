@@ -51,7 +51,7 @@ take-add xs x zero le = refl
 take-add [] x (suc k) le = absurd (omega arith)
 take-add (y ∷ ys) x (suc k) le = ap (λ l. y ∷ l) (take-add ys x k (omega arith))
 
-take-whole : {X : Type 0} (xs : List X) (k : ℕ) → length xs ≤ k → take k xs ≡ xs
+pub take-whole : {X : Type 0} (xs : List X) (k : ℕ) → length xs ≤ k → take k xs ≡ xs
 take-whole [] zero le = refl
 take-whole [] (suc k) le = refl
 take-whole (x ∷ xs) zero le = absurd (omega arith)

@@ -1,7 +1,9 @@
 -- Lists: their last elements, and maps over parts.
 use Rattle.std.proofs.Common.{◌≡◌, ℕ, zero, suc, ◌-◌, Bool, true, false, cond, ◌||◌, List, [], ◌∷◌, ◌++◌, map, filter, length, take, Option, Some, None, option_map, slice_get, refl, sym, ap, ◌∙◌, arith}
-use Rattle.std.specs.List.{filter_map, cons_option, list_any}
+use Rattle.std.specs.List.{filter_map, cons_option, list_any, last_or}
 use Rattle.kc_language.specs.Expansion.{last_of, numbers}
+use Rattle.std.specs.Option.{option_or}
+use Rattle.kc_read.specs.PartsOfSymbols.{first_of}
 
 pub last_of-push : {A : Type 0} (xs : List A) (x : A) → last_of (xs ++ x ∷ []) ≡ Some x
 last_of-push [] x = refl
@@ -85,3 +87,21 @@ pub last_of-none : {A : Type 0} (xs : List A) → last_of xs ≡ None → xs ≡
 last_of-none [] e = refl
 last_of-none (x ∷ []) e = absurd cc
 last_of-none (x ∷ y ∷ ys) e = absurd (let h : y ∷ ys ≡ [] = last_of-none (y ∷ ys) e in cc)
+
+-- the last, of one element that there may be and of a list
+pub last_or-cons_option : {A : Type 0} (o now : Option A) (xs : List A) → last_or now (cons_option o xs) ≡ last_or (option_or o now) xs
+last_or-cons_option None now xs = refl
+last_or-cons_option (Some a) now xs = refl
+
+pub option_map-or : {A B : Type 0} (v : B → A) (o now : Option B) → option_map v (option_or o now) ≡ option_or (option_map v o) (option_map v now)
+option_map-or v None now = refl
+option_map-or v (Some b) now = refl
+
+pub filter_map_alike : {A B : Type 0} (f g : A → Option B) (xs : List A) → ((x : A) → f x ≡ g x) → filter_map f xs ≡ filter_map g xs
+filter_map_alike f g [] h = refl
+filter_map_alike f g (x ∷ xs) h = rw (h x, filter_map_alike f g xs h) refl
+
+-- the first of two lists
+pub first_of-append : {A : Type 0} (xs ys : List A) → first_of (xs ++ ys) ≡ option_or (first_of xs) (first_of ys)
+first_of-append [] ys = refl
+first_of-append (x ∷ xs) ys = refl

@@ -23,7 +23,7 @@ use Rattle.kc_read.specs.declared.sources.NextSource.TheVariants as found
 use Rattle.std.specs.declared.vec.Vec.{Vec}
 use Rattle.std.specs.declared.alloc.Global.{Global}
 
-cause_none : (o : Option TextFault) (P : Type 0) (Q : TextFault → Type 0) → o ≡ None → MatchOption o P Q → P
+pub cause_none : (o : Option TextFault) (P : Type 0) (Q : TextFault → Type 0) → o ≡ None → MatchOption o P Q → P
 cause_none None P Q e h = h
 cause_none (Some x) P Q e h = absurd cc
 

@@ -73,7 +73,7 @@ frame_taken a own f g p q v x n i e t =
 definitions_push : (ss : List Named) (x : Named) → definitions (ss ++ x ∷ []) ≡ definitions ss ++ cons_option (defined_name x) []
 definitions_push ss x = filter_map-append defined_name ss (x ∷ [])
 
-defined_push : (ss : List Named) (x : Named) → defined_after (defined ss) (defined_name x) ≡ defined (ss ++ x ∷ [])
+pub defined_push : (ss : List Named) (x : Named) → defined_after (defined ss) (defined_name x) ≡ defined (ss ++ x ∷ [])
 defined_push ss x =
     by (defined_name x)
     ∙ sym (all_mentioned-append [] (definitions ss) (cons_option (defined_name x) []))

@@ -1,5 +1,5 @@
 -- The next line of a file.
-use Rattle.std.proofs.Common.{◌≡◌, ◌≢◌, ℕ, Bool, true, false, cond, List, [], ◌∷◌, codes, Option, Some, None, Result, Err, refl, sym, ap, ◌∙◌, subst}
+use Rattle.std.proofs.Common.{◌≡◌, ◌≢◌, ℕ, Bool, true, false, cond, List, [], ◌∷◌, codes, Some, None, Result, Err, refl, sym, ap, ◌∙◌, subst}
 use Rattle.std.specs.Prelude.{MatchOption}
 use Rattle.kc_language.specs.declared.tokens.TextFault.{TextFault}
 use Rattle.kc_language.specs.declared.tokens.TextFault.TheVariants as fault
@@ -21,16 +21,13 @@ use Rattle.kc_language.specs.Expansion.{without_help, NextLine, NextStatement, r
 use Rattle.kc_read.specs.declared.step.Step.{Step}
 use Rattle.kc_read.specs.declared.step.Step.TheVariants as step
 use Rattle.kc_read.specs.PartsOfExpansion.{is_help}
+use Rattle.kc_read.proofs.SourceLemmas.{cause_none}
 
 pub help_first : (ls : List Lexeme) (b : Bool) → b ≡ begins_with (codes "help") ls → b ≡ true → b ≡ is_help ls
 help_first ls b e t = let h : begins_with (codes "help") ls ≡ true = sym e ∙ t in rw h t
 
 pub help_second : (ls : List Lexeme) (b d : Bool) → b ≡ begins_with (codes "help") ls → b ≡ false → d ≡ begins_with (codes "---help---") ls → d ≡ is_help ls
 help_second ls b d e t g = let h : begins_with (codes "help") ls ≡ false = sym e ∙ t in rw h g
-
-cause_none : (o : Option TextFault) (P : Type 0) (Q : TextFault → Type 0) → o ≡ None → MatchOption o P Q → P
-cause_none None P Q e h = h
-cause_none (Some x) P Q e h = absurd cc
 
 view_with : (r : Refusal) (a b : Cause) (file : List ℕ) (m n : ℕ) → a ≡ b → m ≡ n → refusal_view r ≡ refused a file m → refusal_view r ≡ refused b file n
 view_with r a b file m n e d h = h ∙ ap (λ c. refused c file m) e ∙ ap (λ k. refused b file k) d

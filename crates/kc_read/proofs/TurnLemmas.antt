@@ -61,7 +61,7 @@ made_here : (c : LineContext) (s x : Named) → s ≡ x → SuitsHere c (turn x)
 made_here c s x e h = subst (λ y. SuitsHere c (turn y)) (sym e) h
 
 -- a part that is one token was read, and then what follows
-after : {A B : Type 0} (o : Result A Cause) (Next : A → Result B Cause → Type 0) (b : B) (P : Type 0) → After o Next (Ok b) → ((a : A) → o ≡ Ok a → Next a (Ok b) → P) → P
+pub after : {A B : Type 0} (o : Result A Cause) (Next : A → Result B Cause → Type 0) (b : B) (P : Type 0) → After o Next (Ok b) → ((a : A) → o ≡ Ok a → Next a (Ok b) → P) → P
 after (Ok a) Next b P r f = f a refl r
 after (Err c) Next b P r f = absurd cc
 

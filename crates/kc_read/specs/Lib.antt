@@ -8,13 +8,16 @@ pub mod Expansion
 pub mod Files
 pub mod LineReads
 pub mod Lines
+pub mod ListFacts
 pub mod NextStep
 pub mod OpenedFiles
 pub mod PartsOfExpansion
 pub mod PartsOfStatements
+pub mod PartsOfSymbols
 pub mod Progress
 pub mod QuietFiles
 pub mod RefusalView
 pub mod Replaced
+pub mod Scopes
 pub mod SourceSteps
 pub mod StatementViews

@@ -6,7 +6,7 @@ use Rattle.kc_read.specs.declared.statement.Prompt.{Prompt}
 use Rattle.kc_read.specs.StatementViews.{input_prompt_view}
 use Rattle.kc_build.specs.EntryLines.{default_line, range_line}
 use Rattle.kc_tree.specs.OwnRows.{default_row, range_row}
-use Rattle.kc_build.specs.PartsOfSymbols.{depends_form}
+use Rattle.kc_read.specs.PartsOfSymbols.{depends_form}
 use Rattle.kc_language.specs.Symbols.{prompt_of}
 use Rattle.kc_build.proofs.AttributeLemmas.{context_start, context_next, context_grown, context_end}
 use Rattle.kc_build.proofs.ScanLemmas.{adds_next, adds_end, last_start, last_next, last_end, one_more}

@@ -4,7 +4,7 @@ use Rattle.kc_read.specs.declared.statement.Prompt.{Prompt}
 use Rattle.kc_read.specs.StatementViews.{input_prompt_view}
 use Rattle.kc_build.specs.EntryLines.{default_line, range_line}
 use Rattle.kc_tree.specs.OwnRows.{default_row, range_row}
-use Rattle.kc_build.specs.PartsOfSymbols.{depends_form}
+use Rattle.kc_read.specs.PartsOfSymbols.{depends_form}
 use Rattle.kc_language.specs.Symbols.{prompt_of}
 use Rattle.kc_build.proofs.AttributeLemmas.{ContextSoFar}
 use Rattle.kc_build.proofs.ScanLemmas.{Adds, LastIs}

@@ -1,4 +1,4 @@
-use Rattle.kc_build.specs.PartsOfSymbols.{depends_form}
+use Rattle.kc_read.specs.PartsOfSymbols.{depends_form}
 use Rattle.kc_build.proofs.AttributeLemmas.{ContextSoFar}
 use Rattle.kc_build.proofs.attributes.entry_context.Given as goal
 

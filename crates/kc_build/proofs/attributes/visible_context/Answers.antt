@@ -1,7 +1,7 @@
 use Rattle.std.proofs.Common.{Some, ap, sym, ◌∙◌, arith}
 use Rattle.kc_expr.specs.declared.expression.Expr.{Expr}
 use Rattle.kc_expr.specs.Form.{form_of}
-use Rattle.kc_build.specs.PartsOfSymbols.{visible_form}
+use Rattle.kc_read.specs.PartsOfSymbols.{visible_form}
 use Rattle.kc_build.proofs.AttributeLemmas.{context_start, context_kept, context_more, context_grown, context_end}
 use Rattle.kc_build.proofs.attributes.visible_context.Goals as goal
 use Rattle.kc_build.proofs.attributes.visible_context.Goals.{in-Some+in_ok-clone+in_ok-at, in_default}

@@ -1,4 +1,4 @@
-use Rattle.kc_build.specs.PartsOfSymbols.{visible_form}
+use Rattle.kc_read.specs.PartsOfSymbols.{visible_form}
 use Rattle.kc_build.proofs.AttributeLemmas.{ContextSoFar}
 use Rattle.kc_build.proofs.attributes.visible_context.Given as goal
 

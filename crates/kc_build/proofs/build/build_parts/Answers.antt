@@ -2,7 +2,7 @@ use Rattle.std.proofs.Common.{◌+◌, ◌^◌, ◌<◌, List, length, ap, ◌�
 use Rattle.kc_language.specs.declared.expressions.SymId.{SymId}
 use Rattle.kc_expr.specs.PartsOfSymbols.{stands_in}
 use Rattle.kc_language.specs.Symbols.{defined_symbols}
-use Rattle.kc_build.specs.PartsOfSymbols.{symbol_if}
+use Rattle.kc_read.specs.PartsOfSymbols.{symbol_if}
 use Rattle.kc_build.specs.Passes.{statements_in}
 use Rattle.kc_build.proofs.PartsLemmas.{refused-is, whole}
 use Rattle.kc_build.proofs.build.build_parts.Goals as goal

@@ -4,7 +4,7 @@ use Rattle.kc_tree.specs.Wholes.{tree_of as facts_of}
 use Rattle.kc_build.specs.PartsView.{parts_view}
 use Rattle.kc_language.specs.Symbols.{tree_with}
 use Rattle.kc_build.proofs.BuildLemmas.{parts-lines, refused-memory, lines-apart, lines-below, lines-define, lines-formed, lines-modules, lines-opened, lines-typed}
-use Rattle.kc_build.proofs.FewLemmas.{listing-few}
+use Rattle.kc_build.proofs.ListingLemmas.{listing-few}
 use Rattle.kc_build.proofs.build.built_tree.Goals as goal
 
 pub build_parts-requires-clause-below : goal.build_parts-requires-clause-below

@@ -8,7 +8,7 @@ use Rattle.kc_read.specs.declared.statement.Head.{Head}
 use Rattle.kc_read.specs.StatementViews.{head_view}
 use Rattle.kc_tree.specs.declared.rows.Symbol.{Symbol}
 use Rattle.kc_language.specs.Symbols.{enclosing_choice, symbol_at, stated_type}
-use Rattle.kc_build.specs.PartsOfSymbols.{first_of, symbol_of}
+use Rattle.kc_read.specs.PartsOfSymbols.{first_of, symbol_of}
 use Rattle.kc_build.specs.Suspected.{AreSuspects}
 use Rattle.kc_build.specs.SymbolRows.{definition_number, row_view}
 use Rattle.kc_build.specs.SymbolWalk.{AreRowsBefore, entry_type, with_definition}
@@ -18,7 +18,7 @@ use Rattle.kc_build.specs.Walks.{IsWalk, index_after}
 use Rattle.kc_build.proofs.EntryWalkLemmas.{at-end, at-next, at-start, attributes-are, head-is}
 use Rattle.kc_build.proofs.EntrySummaryLemmas.{definition_count}
 use Rattle.kc_build.proofs.LineWalkLemmas.{modeless-head}
-use Rattle.kc_build.proofs.PlaceLemmas.{length-statements_of}
+use Rattle.kc_build.proofs.StatementLemmas.{length-statements_of}
 use Rattle.kc_build.proofs.SuspectLemmas.{suspects_next}
 use Rattle.kc_build.proofs.SymbolRowLemmas.{no_definition, rows_behind, rows_next, rows_start}
 use Rattle.kc_build.proofs.entries.walk_entries.Goals as goal

@@ -5,7 +5,8 @@ use Rattle.kc_build.specs.ChoiceRows.{HaveMemberDefaults}
 use Rattle.kc_build.specs.Passes.{statements_in}
 use Rattle.kc_build.specs.SelectorRows.{AreTargetHeads}
 use Rattle.kc_build.specs.Suspected.{AreSuspects}
-use Rattle.kc_build.specs.SymbolRows.{AreBelow, HasSymbols}
+use Rattle.kc_read.specs.ListFacts.{AreBelow}
+use Rattle.kc_build.specs.SymbolRows.{HasSymbols}
 use Rattle.kc_build.specs.WalkResult.{IsSmall}
 use Rattle.kc_build.proofs.GrownLemmas.{kept_by}
 use Rattle.kc_build.proofs.SettleLemmas.{kept_defaults, many_choices, settled_result}

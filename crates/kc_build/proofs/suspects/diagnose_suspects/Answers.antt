@@ -8,9 +8,9 @@ use Rattle.kc_build.specs.Walks.{index_after}
 use Rattle.kc_build.proofs.DiagnosedLemmas.{diagnosed_start}
 use Rattle.kc_build.proofs.EntryWalkLemmas.{at-end, attributes-are}
 use Rattle.kc_build.proofs.LineWalkLemmas.{diagnosed-next}
-use Rattle.kc_build.proofs.ScanLemmas.{drop_past}
 use Rattle.kc_build.proofs.suspects.diagnose_suspects.Goals as goal
 use Rattle.kc_build.proofs.suspects.diagnose_suspects.Goals.{in-Some+in_ok-diagnose_entry, in_default}
+use Rattle.kc_read.proofs.PlaceLemmas.{drop_past}
 
 pub loop-suspect-init : goal.loop-suspect-init
 loop-suspect-init c = record {

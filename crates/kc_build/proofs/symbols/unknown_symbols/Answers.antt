@@ -4,7 +4,7 @@ use Rattle.kc_tree.specs.Contexts.{mode_view}
 use Rattle.kc_language.specs.declared.symbols.ChoiceId.{ChoiceId}
 use Rattle.kc_build.specs.SymbolRows.{row_view}
 use Rattle.kc_build.specs.SymbolWalk.{unknown}
-use Rattle.kc_build.proofs.PlaceLemmas.{view_next}
+use Rattle.kc_read.proofs.PlaceLemmas.{view_next}
 use Rattle.kc_build.proofs.symbols.unknown_symbols.Goals as goal
 
 pub loop-init : goal.loop-init

@@ -11,8 +11,8 @@ use Rattle.kc_build.specs.declared.diagnostics.EntrySummary.{EntrySummary}
 use Rattle.kc_build.specs.Diagnosed.{Diagnosis, lines_diagnosed, diagnosis_view, line_diagnosed}
 use Rattle.kc_language.specs.Symbols.{prompt_of}
 use Rattle.kc_build.proofs.QuietLemmas.{no_prompt}
-use Rattle.kc_build.proofs.ScanLemmas.{drop_at, drop_past}
 use Rattle.kc_build.proofs.diagnostics.Diagnostics.diagnose_entry.Goals as goal
+use Rattle.kc_read.proofs.PlaceLemmas.{drop_at, drop_past}
 
 module _ (names : List (List ℕ)) (symbols : List Symbol) (summary : EntrySummary) (first : Entry) where
   next : (xs : List AttributeLine) (i : ℕ) (x : AttributeLine) (p q : Bool) (d e r : Diagnosis) → i < length xs → x ≡ get_or xs i x →

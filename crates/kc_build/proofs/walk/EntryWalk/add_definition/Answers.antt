@@ -5,7 +5,7 @@ use Rattle.kc_build.specs.Growth.{IsGrown}
 use Rattle.kc_build.specs.declared.blocks.BlockScope.{BlockScope}
 use Rattle.kc_build.proofs.GrownLemmas.{held_by, held_carries, keeping_carries}
 use Rattle.kc_build.proofs.DefineLemmas.{adds_definition, entry_carries, keeping_definition, prompt_visible, outer_grown, outer_prompt, outer_stands}
-use Rattle.kc_build.proofs.PlaceLemmas.{length-statements_of}
+use Rattle.kc_build.proofs.StatementLemmas.{length-statements_of}
 use Rattle.kc_build.proofs.walk.EntryWalk.add_definition.Goals as goal
 
 pub add_attributes-requires-clause-there : goal.add_attributes-requires-clause-there

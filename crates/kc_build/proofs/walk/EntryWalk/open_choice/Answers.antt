@@ -10,7 +10,7 @@ use Rattle.kc_language.specs.Statements.{InputPrompt}
 use Rattle.kc_tree.specs.Contexts.{condition_in, in_choice}
 use Rattle.kc_build.specs.EntryLines.{prompt_line}
 use Rattle.kc_language.specs.Symbols.{prompt_of}
-use Rattle.kc_build.specs.PartsOfSymbols.{depends_form}
+use Rattle.kc_read.specs.PartsOfSymbols.{depends_form}
 use Rattle.kc_build.specs.Growth.{IsGrown, Stands}
 use Rattle.kc_build.specs.Passes.{statements_of}
 use Rattle.kc_build.specs.declared.blocks.BlockScope.{BlockScope}

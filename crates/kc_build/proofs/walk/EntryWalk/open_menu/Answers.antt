@@ -5,7 +5,7 @@ use Rattle.std.proofs.lemmas.List.{length-map}
 use Rattle.kc_read.specs.StatementViews.{attribute_view}
 use Rattle.kc_tree.specs.Contexts.{HasNoMode, condition_in}
 use Rattle.kc_tree.specs.declared.rows.ShownEntry.TheVariants as entry
-use Rattle.kc_build.specs.PartsOfSymbols.{depends_form, visible_form}
+use Rattle.kc_read.specs.PartsOfSymbols.{depends_form, visible_form}
 use Rattle.kc_build.specs.Growth.{IsGrown, Stands}
 use Rattle.kc_build.specs.Passes.{statements_of}
 use Rattle.kc_build.specs.declared.blocks.Blocks.{Blocks}

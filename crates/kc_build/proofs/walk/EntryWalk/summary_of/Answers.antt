@@ -3,7 +3,7 @@ use Rattle.std.proofs.Common.{◌≡◌, ap, sym, ◌∙◌, Some}
 use Rattle.kc_read.specs.StatementViews.{head_view}
 use Rattle.kc_language.specs.Statements.{ConfigLine, ChoiceLine}
 use Rattle.kc_language.specs.Symbols.{choice_number, begun}
-use Rattle.kc_build.specs.PartsOfSymbols.{symbol_of}
+use Rattle.kc_read.specs.PartsOfSymbols.{symbol_of}
 use Rattle.kc_language.specs.declared.symbols.MenuEntry.TheVariants as menu_entry
 use Rattle.kc_build.proofs.EntrySummaryLemmas.{choice_is, entry_is, first_is, not_first, other_begins, within_choice_is}
 use Rattle.kc_build.proofs.walk.EntryWalk.summary_of.Goals as goal

@@ -6,10 +6,10 @@ use Rattle.kc_language.specs.declared.statements.Block.TheVariants as block
 use Rattle.kc_language.specs.Expansion.{Files, Log, Expands, names_of, numbered_lines}
 use Rattle.kc_language.specs.Statements.{Numbered, statements}
 use Rattle.kc_language.specs.Symbols.{Condition, MenuShown, EndShown, enclosing_choice, of_block}
-use Rattle.kc_build.specs.PartsOfSymbols.{entries}
-use Rattle.kc_build.proofs.ExpansionLemmas.{AreNested}
-use Rattle.kc_build.proofs.MenuEndLemmas.{end_names_menu}
-use Rattle.kc_build.proofs.NestLemmas.{expanded_nested, opener_alone}
+use Rattle.kc_read.specs.PartsOfSymbols.{entries}
+use Rattle.kc_read.proofs.ExpansionLemmas.{AreNested}
+use Rattle.kc_read.proofs.MenuEndLemmas.{end_names_menu}
+use Rattle.kc_read.proofs.NestLemmas.{expanded_nested, opener_alone}
 
 module _ (files : Files) (root : List ℕ) (log : Log) (expands : Expands files root (Ok log)) where
   abbrev numbered : List Numbered

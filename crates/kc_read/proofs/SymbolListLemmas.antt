@@ -13,10 +13,10 @@ use Rattle.kc_language.specs.declared.expressions.SymbolType.TheVariants as symb
 use Rattle.kc_language.specs.Expressions.{same_symbol}
 use Rattle.kc_expr.specs.PartsOfSymbols.{added, stands_in}
 use Rattle.kc_language.specs.Symbols.{is_symbol_of, all_added, defined_symbols, definitions_of, enclosing_choice, indices, type_of, prompt_at, symbol_at, stated_type}
-use Rattle.kc_build.specs.PartsOfSymbols.{first_of, symbol_of}
+use Rattle.kc_read.specs.PartsOfSymbols.{first_of, symbol_of}
 use Rattle.kc_language.specs.Expansion.{attributes, definitions, defined_name}
 use Rattle.kc_language.specs.Statements.{Numbered, ConfigLine}
-use Rattle.kc_build.proofs.ElementLemmas.{found_is, get_snoc, same_is}
+use Rattle.kc_read.proofs.ElementLemmas.{found_is, get_snoc, same_is}
 
 -- A symbol stands in a list.
 same-refl : (s : SymId) → same_symbol s s ≡ true

@@ -10,7 +10,7 @@ use Rattle.kc_language.specs.declared.statements.Block.TheVariants as block
 use Rattle.kc_language.specs.Statements.{Numbered}
 use Rattle.kc_language.specs.Expansion.{last_of}
 use Rattle.kc_language.specs.Symbols.{of_block, block_conjuncts, own_visible, choice_number}
-use Rattle.kc_build.specs.Scopes.{Scope, block_visible, scope_of_block}
+use Rattle.kc_read.specs.Scopes.{Scope, block_visible, scope_of_block}
 use Rattle.kc_read.proofs.EnclosingLemmas.{last-snoc}
 
 module _ (ss : List Numbered) where

@@ -10,10 +10,10 @@ use Rattle.kc_language.specs.Expressions.{symbol, same_symbol}
 use Rattle.kc_language.specs.Statements.{Numbered, ConfigLine}
 use Rattle.kc_language.specs.Expansion.{definitions, defined_name}
 use Rattle.kc_language.specs.Symbols.{is_symbol_of, symbol_at, is_first_definition}
-use Rattle.kc_build.specs.PartsOfSymbols.{symbol_of}
-use Rattle.kc_build.specs.SymbolWalk.{defined_before}
+use Rattle.kc_read.specs.PartsOfSymbols.{symbol_of}
+use Rattle.kc_read.specs.ListFacts.{defined_before}
 use Rattle.kc_read.proofs.EnclosingLemmas.{take-next, there}
-use Rattle.kc_build.proofs.PlaceLemmas.{filter-next}
+use Rattle.kc_read.proofs.PlaceLemmas.{filter-next}
 
 lt_suc : (k n : ℕ) → nat_lt (1 + k) (suc n) ≡ nat_lt k n
 lt_suc k n = grind (arith, nat_tests)

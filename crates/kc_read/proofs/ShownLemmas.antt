@@ -9,14 +9,14 @@ use Rattle.kc_language.specs.Expansion.{numbers}
 use Rattle.kc_language.specs.Statements.{Numbered, Located, ConfigLine, statements}
 use Rattle.kc_tree.specs.TreeFacts.{ShowsEach}
 use Rattle.kc_language.specs.Symbols.{SymbolShown, is_symbol_of, shown_at, is_first_definition, indices, symbol_at, facts_with}
-use Rattle.kc_build.specs.PartsOfSymbols.{entries}
-use Rattle.kc_build.specs.PartsOfSymbols.{symbol_of}
-use Rattle.kc_build.proofs.ElementLemmas.{kept_at, same_is}
-use Rattle.kc_build.specs.SymbolWalk.{defined_before}
-use Rattle.kc_build.proofs.FirstLemmas.{first-is, some_places}
-use Rattle.kc_build.proofs.ListLemmas.{front_get}
-use Rattle.kc_build.proofs.PlaceLemmas.{filter-next, get-map_numbers}
-use Rattle.kc_build.proofs.SymbolListLemmas.{defined_line}
+use Rattle.kc_read.specs.PartsOfSymbols.{entries}
+use Rattle.kc_read.specs.PartsOfSymbols.{symbol_of}
+use Rattle.kc_read.proofs.ElementLemmas.{kept_at, same_is}
+use Rattle.kc_read.specs.ListFacts.{defined_before}
+use Rattle.kc_read.proofs.FirstLemmas.{first-is, some_places}
+use Rattle.kc_read.proofs.PlaceLemmas.{front_get}
+use Rattle.kc_read.proofs.PlaceLemmas.{filter-next, get-map_numbers}
+use Rattle.kc_read.proofs.SymbolListLemmas.{defined_line}
 
 -- what is given for one element is among what is given for all
 module _ {X Y : Type 0} (f : X → Option Y) where

@@ -9,8 +9,8 @@ use Rattle.kc_language.specs.declared.statements.Block.TheVariants as block
 use Rattle.kc_language.specs.Statements.{Numbered}
 use Rattle.kc_language.specs.Expansion.{numbers}
 use Rattle.kc_language.specs.Symbols.{ChoiceFacts, of_block, choice_number, choice_facts}
-use Rattle.kc_build.proofs.ListLemmas.{count_next}
-use Rattle.kc_build.proofs.MemberLemmas.{below_or_past}
+use Rattle.kc_read.proofs.PlaceLemmas.{count_next}
+use Rattle.kc_read.proofs.MemberLemmas.{below_or_past}
 
 -- so many choices before a place, and more after one that opens there
 

@@ -14,15 +14,15 @@ use Rattle.kc_language.specs.declared.statements.Block.TheVariants as block
 use Rattle.kc_language.specs.Expansion.{numbers, attributes}
 use Rattle.kc_language.specs.Statements.{Numbered, Located}
 use Rattle.kc_language.specs.Symbols.{Guarded, SymbolFacts, ChoiceFacts, TreeFacts, listed, StatedDefault, choice_facts, choice_number, choice_of, enclosing_choice, definitions_of, stated_default, type_of, members_of, of_block, indices, same_type, single_symbol, symbol_at, symbol_facts, is_first_definition_at, bad_members}
-use Rattle.kc_build.specs.PartsOfSymbols.{choices, is_member}
-use Rattle.kc_build.specs.PartsOfSymbols.{choice_lines, first_of, is_member_index, member_default, guarded_symbol, symbol_of, is_bad_member}
+use Rattle.kc_read.specs.PartsOfSymbols.{choices, is_member}
+use Rattle.kc_read.specs.PartsOfSymbols.{choice_lines, first_of, is_member_index, member_default, guarded_symbol, symbol_of, is_bad_member}
 use Rattle.kc_tree.specs.TreeFacts.{IsMemberOf, IsChoiceSound, IsListed}
-use Rattle.kc_build.specs.SymbolRows.{AreBelow}
-use Rattle.kc_build.proofs.ElementLemmas.{All-filter_map, All-kept, IsKept, kept_at, filter_map-from, found_is}
-use Rattle.kc_build.proofs.FormedLemmas.{facts_at, few_taken, prompt_mode, tree}
-use Rattle.kc_build.proofs.MemberLemmas.{any_kept, bad_at, below_or_past, member_is}
-use Rattle.kc_build.proofs.PlaceLemmas.{length-map_numbers}
-use Rattle.kc_build.proofs.SoundLemmas.{mode_below}
+use Rattle.kc_read.specs.ListFacts.{AreBelow}
+use Rattle.kc_read.proofs.ElementLemmas.{All-filter_map, All-kept, IsKept, kept_at, filter_map-from, found_is}
+use Rattle.kc_read.proofs.FormedLemmas.{facts_at, few_taken, prompt_mode, tree}
+use Rattle.kc_read.proofs.MemberLemmas.{any_kept, bad_at, below_or_past, member_is}
+use Rattle.kc_read.proofs.PlaceLemmas.{length-map_numbers}
+use Rattle.kc_read.proofs.SoundLemmas.{mode_below}
 
 -- a number below another one that passes a test is found
 or_true : (a : Bool) → (a || (true || false)) ≡ true

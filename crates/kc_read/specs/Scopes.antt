@@ -6,7 +6,7 @@ use Rattle.kc_language.specs.declared.statements.Block.TheVariants as block
 use Rattle.kc_language.specs.Statements.{Numbered}
 use Rattle.kc_language.specs.Expansion.{enclosing}
 use Rattle.kc_language.specs.Symbols.{of_block, block_conjuncts, own_visible, enclosing_choice}
-use Rattle.kc_build.specs.PartsOfSymbols.{enclosing_visible, enclosing_block}
+use Rattle.kc_read.specs.PartsOfSymbols.{enclosing_visible, enclosing_block}
 
 pub record Scope : Type 0 where
   pub conjuncts : List Form

@@ -9,8 +9,8 @@ use Rattle.kc_language.specs.Expressions.{Form, Text, Symbol, Single, Related, N
 use Rattle.kc_language.specs.Statements.{Cause, Named, Numbered, InputPrompt, Located, ConfigLine, IfLine, EndIfLine, CommentLine, MenuLine, EndMenuLine, ChoiceLine, EndChoiceLine, MainMenuLine, TypeLine, PromptLine, DefaultLine, DefLine, DependsLine, VisibleLine, SelectLine, ImplyLine, RangeLine, ModulesLine, statements}
 use Rattle.kc_language.specs.declared.diagnostics.Cause.TheVariants as cause
 use Rattle.kc_language.specs.Symbols.{TreeFacts, Condition, Guarded, SymbolFacts, SymbolShown, MenuShown, EndShown, CommentShown, symbol_facts, facts_with}
-use Rattle.kc_build.specs.PartsOfSymbols.{choices, entries, warnings, whole_list_refusals}
-use Rattle.kc_build.specs.PartsOfSymbols.{tree_of_lines}
+use Rattle.kc_read.specs.PartsOfSymbols.{choices, entries, warnings, whole_list_refusals}
+use Rattle.kc_read.specs.PartsOfSymbols.{tree_of_lines}
 use Rattle.kc_language.specs.Expansion.{Refused, refused, names_of, numbered_lines}
 
 -- Short words for the rows.

@@ -20,7 +20,8 @@ use Rattle.kc_read.specs.PartsOfStatements.{IsWhole, ReadsTarget, ReadsType, cho
 use Rattle.kc_language.specs.Statements.{in_place, keyword_or_refusal}
 use Rattle.kc_read.specs.PartsOfStatements.{ReadsPlaced, front, good_name, value_form}
 use Rattle.kc_tree.specs.TreeFacts.{IsLineText, IsLineForm}
-use Rattle.kc_build.proofs.LineTextLemmas.{AreOneLine, IsLineAtom, IsLineLexeme, IsLineTerminal, all_front, atom_lines, cut_line, file_lines, helped, taken_line, terminal_lines, value_line, word_lines}
+use Rattle.kc_read.proofs.LineTextLemmas.{AreOneLine, IsLineAtom, IsLineLexeme, IsLineTerminal, all_front, atom_lines, cut_line, file_lines, helped, taken_line, terminal_lines, value_line, word_lines}
+use Rattle.kc_read.proofs.TurnLemmas.{after}
 
 -- a value whose constant, where one stands alone, is one line's text
 abbrev pub IsLineValue : Disjunction → Type 0
@@ -41,10 +42,6 @@ pub record IsInLines (s : Named) : Type 0 where
   pub names : All IsLineText (names_in_statement s)
 
 -- A part that is one token.
-after : {A B : Type 0} (o : Result A Cause) (Next : A → Result B Cause → Type 0) (b : B) (P : Type 0) → After o Next (Ok b) → ((a : A) → o ≡ Ok a → Next a (Ok b) → P) → P
-after (Ok a) Next b P r f = f a refl r
-after (Err c) Next b P r f = absurd cc
-
 abbrev AreInLine : List Lexeme → Type 0
 AreInLine = All IsLineLexeme
 

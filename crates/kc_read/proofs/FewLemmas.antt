@@ -2,20 +2,15 @@
 use Rattle.std.proofs.Common.{◌≡◌, ℕ, ◌+◌, ◌<◌, ◌≤◌, nat_lt, nat_le, Bool, true, false, cond, List, [], ◌∷◌, ◌++◌, length, Option, Some, None, Result, Ok, Err, MatchOption, refl, ap, sym, ◌∙◌, arith, length-append}
 use Rattle.std.specs.List.{list_any}
 use Rattle.std.proofs.lemmas.Bool.Decides.{nat_tests}
-use Rattle.std.proofs.lemmas.List.{length-map}
 use Rattle.kc_language.specs.Expressions.{mention, same_name}
 use Rattle.kc_language.specs.Lines.{UnreadLines, unread_lines}
 use Rattle.kc_language.specs.declared.diagnostics.Cause.TheVariants as cause
 use Rattle.kc_language.specs.Expansion.{FileContext, Expands, Log, Refused, Rest, bytes_cause, first_log, refused, sourced, sourcing_cause, at_end, unclosed, too_long, no_tokens, blank, renumbered, moved, bad_line, over_limit, statement, bad_source, refused_inside, source, Files}
 use Rattle.kc_read.specs.PartsOfExpansion.{lines_of, root_context}
-use Rattle.kc_read.specs.PartsOfExpansion.{number_line}
 use Rattle.kc_language.specs.Text.{most_lines}
 use Rattle.kc_text.specs.PartsOfText.{most_files}
-use Rattle.kc_language.specs.Statements.{Cause, Located, Named, statements}
-use Rattle.kc_read.specs.Entries.{lines_in}
+use Rattle.kc_language.specs.Statements.{Cause, Located, Named}
 use Rattle.kc_read.proofs.RestLemmas.{next_less}
-use Rattle.kc_build.specs.declared.listing.Listing.{Listing}
-use Rattle.kc_build.specs.Listings.{IsListing}
 
 -- a file that may be opened adds no more lines than there may be
 few_opened : (name : List ℕ) (n : ℕ) (bytes : List ℕ) → bytes_cause name n (Some bytes) ≡ None → n + lines_of bytes ≤ most_lines
@@ -82,10 +77,3 @@ expansion_few files root log x = by (bytes_cause root 0 (files.bytes root)) refl
         let h = rest_adds e.2 in
         omega (arith, h.0, h.1 few)
     by (Some c) none e = absurd cc
-
--- the lines of a listing are those of its expanded list
-pub listing-few : (files : Files) (root : List ℕ) (log : Log) (l : Listing) → Expands files root (Ok log) → IsListing log l → length (lines_in l.entries) ≤ most_lines
-listing-few files root log l x h =
-    let n = ap length h.lines_are ∙ length-map log.lines (number_line (statements log.lines)) in
-    let few = expansion_few files root log x in
-    omega arith

@@ -2,20 +2,19 @@
 -- for none.
 use Rattle.std.proofs.Common.{◌≡◌, ℕ, zero, suc, ◌≤◌, nat_lt, Bool, true, false, if◌then◌else◌, List, [], ◌∷◌, ◌++◌, length, drop, map, Option, Some, None, Result, Ok, Err, MatchOption, refl, ap, sym, ◌∙◌, subst, arith, inl, inr, codes}
 use Rattle.std.specs.Prelude.{All}
-use Rattle.std.specs.List.{cons_option, list_any, slice_get}
+use Rattle.std.specs.List.{list_any, slice_get}
 use Rattle.std.proofs.lemmas.Bool.Decides.{nat_tests}
 use Rattle.std.proofs.lemmas.List.{map-append}
-use Rattle.std.proofs.lemmas.List.Elements.{All-nil, All-push, filter_map-append}
+use Rattle.std.proofs.lemmas.List.Elements.{All-nil, All-push}
 use Rattle.kc_language.specs.Tokens.{Lexeme}
 use Rattle.kc_language.specs.Lines.{UnreadLines, unread_lines}
-use Rattle.kc_language.specs.Expressions.{all_mentioned, mention, same_name, Disjunction, if_word}
+use Rattle.kc_language.specs.Expressions.{mention, same_name, Disjunction, if_word}
 use Rattle.kc_language.specs.declared.expressions.SymbolType.{SymbolType}
 use Rattle.kc_language.specs.declared.expressions.SymbolType.TheVariants as symbol_type
-use Rattle.kc_expr.proofs.NamesLemmas.{all_mentioned-append}
 use Rattle.kc_language.specs.declared.diagnostics.Cause.TheVariants as cause
 use Rattle.kc_language.specs.declared.statements.Keyword.{Keyword}
 use Rattle.kc_language.specs.declared.statements.Keyword.TheVariants as key
-use Rattle.kc_language.specs.Expansion.{definitions, defined_name, FileContext, Log, Refused, Rest, Expands, bytes_cause, context_of, limit_cause, first_log, refused, with_line, at_end, unclosed, too_long, no_tokens, blank, renumbered, moved, bad_line, over_limit, statement, bad_source, refused_inside, source, Files}
+use Rattle.kc_language.specs.Expansion.{defined_name, FileContext, Log, Refused, Rest, Expands, bytes_cause, context_of, limit_cause, first_log, refused, with_line, at_end, unclosed, too_long, no_tokens, blank, renumbered, moved, bad_line, over_limit, statement, bad_source, refused_inside, source, Files}
 use Rattle.kc_read.specs.PartsOfExpansion.{root_context}
 use Rattle.kc_read.specs.PartsOfExpansion.{symbol_cause, defined, located_numbered}
 use Rattle.kc_language.specs.Statements.{Cause, LineContext, After, begins_with, ReadsLine, ReadsRest, ReadsWhole, ReadsCondition, ReadsValue, ReadsPrompt, finish, is_good_name, keyword_of, keyword_words, operand_of, option_line, placement_cause, plain_text, named_target, text_of, word_of, InputPrompt, Named, Located, numbered, ConfigLine, IfLine, EndIfLine, CommentLine, SourceLine, MenuLine, EndMenuLine, ChoiceLine, EndChoiceLine, MainMenuLine, TypeLine, PromptLine, DefaultLine, DefLine, DependsLine, VisibleLine, SelectLine, ImplyLine, RangeLine, HelpLine, ModulesLine, IgnoredLine, statements}
@@ -24,8 +23,9 @@ use Rattle.kc_language.specs.Statements.{in_place, keyword_or_refusal}
 use Rattle.kc_read.specs.PartsOfStatements.{ReadsPlaced, good_name, keyword_in}
 use Rattle.kc_read.specs.Progress.{defined_after, naming_cause}
 use Rattle.kc_language.specs.Symbols.{stated_type}
-use Rattle.kc_build.specs.SymbolRows.{AreTypesDefined}
-use Rattle.kc_build.proofs.ElementLemmas.{get_snoc}
+use Rattle.kc_read.specs.ListFacts.{AreTypesDefined}
+use Rattle.kc_read.proofs.ElementLemmas.{get_snoc}
+use Rattle.kc_read.proofs.StateLemmas.{defined_push}
 
 -- a statement defines no name that no symbol may have
 abbrev Allows : Option (List ℕ) → Type 0
@@ -207,22 +207,13 @@ naming : (a : FileContext) (own : List (Located Named)) (log : Log) (s : Named) 
 naming a own log (ConfigLine n) h = h
 naming a own log _ h = refl
 
-defined_by : (ds : List (List ℕ)) (o : Option (List ℕ)) → defined_after ds o ≡ all_mentioned ds (cons_option o [])
-defined_by ds None = refl
-defined_by ds (Some n) = refl
-
-defined-push : (ss : List Named) (s : Named) → defined_after (defined ss) (defined_name s) ≡ defined (ss ++ s ∷ [])
-defined-push ss s =
-    defined_by (defined ss) (defined_name s) ∙ sym (all_mentioned-append [] (definitions ss) (cons_option (defined_name s) []))
-    ∙ ap (all_mentioned []) (sym (filter_map-append defined_name ss (s ∷ [])))
-
 abbrev Known : List (Located Named) → Type 0
 Known ls = AreNames (defined (statements ls))
 
 known_next : (a b : FileContext) (own ls : List (Located Named)) (log : Log) (n : ℕ) (s : Named) → ls ≡ log.lines → IsAllowed s → limit_cause a own log s ≡ None → Known ls → Known (with_line ls b n s)
 known_next a b own ls log n s same g c k =
     let pushed : statements (with_line ls b n s) ≡ statements ls ++ s ∷ [] = map-append (λ l. l.statement) ls (record { file = b.file; line = n; statement = s } ∷ []) in
-    let names : defined (statements (with_line ls b n s)) ≡ defined_after (defined (statements ls)) (defined_name s) = ap defined pushed ∙ sym (defined-push (statements ls) s) in
+    let names : defined (statements (with_line ls b n s)) ≡ defined_after (defined (statements ls)) (defined_name s) = ap defined pushed ∙ sym (defined_push (statements ls) s) in
     let caused : naming_cause (defined (statements ls)) (defined_name s) ≡ None =
     ap (λ (l : List (Located Named)). naming_cause (defined (statements l)) (defined_name s)) same ∙ naming a own log s c in
     subst AreNames (sym names) (named_after (defined (statements ls)) (defined_name s) k (allowed_name s g) caused)

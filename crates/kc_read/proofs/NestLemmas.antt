@@ -11,9 +11,9 @@ use Rattle.kc_language.specs.Expansion.{Bracket, Closes, NoBracket, Opens, brack
 use Rattle.kc_read.specs.PartsOfExpansion.{is_open}
 use Rattle.kc_read.specs.PartsOfExpansion.{bracket_of, located_numbered, stays_after}
 use Rattle.kc_language.specs.Symbols.{is_block, of_block, enclosing_choice, choice_number}
-use Rattle.kc_build.specs.PartsOfSymbols.{block_at, enclosing_block}
+use Rattle.kc_read.specs.PartsOfSymbols.{block_at, enclosing_block}
 use Rattle.kc_read.proofs.TurnLemmas.{Leaves, turn}
-use Rattle.kc_build.proofs.ExpansionLemmas.{Suits, AreNested, expansion_is_nested}
+use Rattle.kc_read.proofs.ExpansionLemmas.{Suits, AreNested, expansion_is_nested}
 
 -- Statements that are brackets alike have the same blocks.
 module _ {A B : Type 0} (f : A → B) where

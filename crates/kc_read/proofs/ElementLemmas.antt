@@ -10,7 +10,7 @@ use Rattle.std.proofs.lemmas.Option.{get_or_from_slice_get, slice_get_within}
 use Rattle.kc_language.specs.declared.expressions.SymId.{SymId}
 use Rattle.kc_language.specs.Expansion.{numbers}
 use Rattle.kc_language.specs.Expressions.{same_symbol}
-use Rattle.kc_build.proofs.PlaceLemmas.{filter-next}
+use Rattle.kc_read.proofs.PlaceLemmas.{filter-next}
 
 module _ {Y : Type 0} (P : Y → Type 0) where
   pub All-at : (ys : List Y) (i : ℕ) (y : Y) → All P ys → slice_get ys i ≡ Some y → P y

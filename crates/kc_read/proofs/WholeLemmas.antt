@@ -11,8 +11,8 @@ use Rattle.kc_language.specs.Expressions.{number_of, same_name, symbol, if_word,
 use Rattle.kc_expr.specs.PartsOfExpressions.{is_tristate_constant}
 use Rattle.kc_expr.specs.PartsOfSymbols.{stands_in}
 use Rattle.kc_language.specs.Symbols.{Condition, EndShown, MenuShown, SymbolFacts, TreeFacts, listed, enclosing_choice, choice_of, type_of, of_block, symbol_facts, indices, facts_with, modules_symbol, is_first_definition_at, bad_members, bad_defaults, entry_name, menu_entry_at, entry_symbol, refused_at}
-use Rattle.kc_build.specs.PartsOfSymbols.{entries, whole_list_refusals}
-use Rattle.kc_build.specs.PartsOfSymbols.{symbol_if, is_bad_member}
+use Rattle.kc_read.specs.PartsOfSymbols.{entries, whole_list_refusals}
+use Rattle.kc_read.specs.PartsOfSymbols.{symbol_if, is_bad_member}
 use Rattle.kc_expr.proofs.NamesLemmas.{same_name-refl}
 use Rattle.kc_language.specs.declared.expressions.SymbolType.TheVariants as symbol_type
 use Rattle.kc_language.specs.Statements.{Cause, is_good_name, Named, Numbered, Located, statements}
@@ -22,18 +22,19 @@ use Rattle.kc_language.specs.Expansion.{Files, Expands, Log, Refused, refused, d
 use Rattle.kc_read.specs.PartsOfExpansion.{defined}
 use Rattle.kc_read.proofs.NameLemmas.{known_at}
 use Rattle.kc_tree.specs.TreeFacts.{IsMentioned, IsSymbolName, IsWellFormed}
-use Rattle.kc_build.proofs.DefinedLemmas.{AreNames}
-use Rattle.kc_build.proofs.ElementLemmas.{All-at, found_is}
-use Rattle.kc_build.proofs.EntrySoundLemmas.{entries_sound}
-use Rattle.kc_build.proofs.FormedLemmas.{all_sound, facts_at, mentioned_if}
-use Rattle.kc_build.proofs.MemberSoundLemmas.{all_listed, choices_sound}
-use Rattle.kc_build.proofs.NumberingLemmas.{as_many_defined, config_of, defined_at, mentioned_known, numbered_below}
-use Rattle.kc_build.proofs.ShapeLemmas.{choices_alone, ends_name_menus}
-use Rattle.kc_build.proofs.PlaceLemmas.{length-map_numbers}
-use Rattle.kc_build.proofs.ReadTextLemmas.{IsInLines, expanded_lines}
-use Rattle.kc_build.proofs.ShownLemmas.{shows_each}
-use Rattle.kc_build.proofs.SymbolListLemmas.{defined-once, defined_line, prompted_is_defined, typed_is_defined}
-use Rattle.kc_build.proofs.TreeTextLemmas.{line_texts}
+use Rattle.kc_read.proofs.DefinedLemmas.{AreNames}
+use Rattle.kc_read.proofs.ElementLemmas.{All-at, found_is}
+use Rattle.kc_read.proofs.EntrySoundLemmas.{entries_sound}
+use Rattle.kc_read.proofs.FormedLemmas.{all_sound, facts_at, mentioned_if}
+use Rattle.kc_read.proofs.MemberSoundLemmas.{all_listed, choices_sound}
+use Rattle.kc_read.proofs.NumberingLemmas.{as_many_defined, config_of, defined_at, mentioned_known, numbered_below}
+use Rattle.kc_read.proofs.ListShape.{choices_alone, ends_name_menus}
+use Rattle.kc_read.proofs.PlaceLemmas.{length-map_numbers}
+use Rattle.kc_read.proofs.ReadTextLemmas.{IsInLines, expanded_lines}
+use Rattle.kc_read.proofs.ShownLemmas.{shows_each}
+use Rattle.kc_read.proofs.SymbolListLemmas.{defined-once, defined_line, prompted_is_defined, typed_is_defined}
+use Rattle.kc_read.proofs.TreeTextLemmas.{line_texts}
+use Rattle.kc_read.proofs.BlockLemmas.{first_nil}
 
 -- Names that differ stand at one place each.
 apart_at : (x name : List ℕ) (xs : List (List ℕ)) (i : ℕ) → AllByRecursion (λ y. same_name x y ≡ false) xs → slice_get xs i ≡ Some name → same_name x name ≡ false
@@ -78,10 +79,6 @@ good_is : (name : List ℕ) → is_good_name name ≡ true → IsSymbolName name
 good_is name h = name_by name (same_name name if_word || is_tristate_constant name) (nat_le 1 (length name)) (nat_le (length name) 255) (list_all is_name_byte name) refl refl refl h
 
 -- Where nothing is refused, no member is bad.
-append_none : {A : Type 0} (xs ys : List A) → xs ++ ys ≡ [] → xs ≡ []
-append_none [] ys h = refl
-append_none (x ∷ xs) ys h = absurd cc
-
 map_none : {A B : Type 0} (f : A → B) (xs : List A) → map f xs ≡ [] → xs ≡ []
 map_none f [] h = refl
 map_none f (x ∷ xs) h = absurd cc
@@ -112,8 +109,8 @@ module _ (names : List (List ℕ)) (ls : List (Located Numbered)) where
       let bad = All-head (λ (j : ℕ). bad_at j (slice_get numbered j) ≡ true) i is
       (subst (λ (js : List ℕ). All (λ (j : ℕ). bad_at j (slice_get numbered j) ≡ true) js) e
       (filter_passes (λ (j : ℕ). bad_at j (slice_get numbered j)) (indices numbered))) in
-      let all : flat_map (refused_at names ls cause.ChoiceMember) (i ∷ is) ≡ [] = append_none (flat_map (refused_at names ls cause.ChoiceMember) (i ∷ is)) rest h in
-      absurd (not_refused cause.ChoiceMember i bad (append_none (refused_at names ls cause.ChoiceMember i) (flat_map (refused_at names ls cause.ChoiceMember) is) all))
+      let all : flat_map (refused_at names ls cause.ChoiceMember) (i ∷ is) ≡ [] = first_nil (flat_map (refused_at names ls cause.ChoiceMember) (i ∷ is)) rest h in
+      absurd (not_refused cause.ChoiceMember i bad (first_nil (refused_at names ls cause.ChoiceMember i) (flat_map (refused_at names ls cause.ChoiceMember) is) all))
 
   pub none_bad : whole_list_refusals names ls ≡ [] → bad_members numbered ≡ []
   none_bad h = none_by (bad_members numbered) (flat_map (refused_at names ls cause.BadDefault) (bad_defaults numbered)) refl h

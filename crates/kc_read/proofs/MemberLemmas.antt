@@ -10,11 +10,12 @@ use Rattle.kc_language.specs.Statements.{Numbered}
 use Rattle.kc_language.specs.Expansion.{numbers}
 use Rattle.kc_language.specs.Expressions.{same_symbol}
 use Rattle.kc_language.specs.Symbols.{is_symbol_of, listed, is_first_definition, symbol_at, enclosing_choice, choice_of, type_of, definitions_of, indices, is_first_definition_at, bad_members}
-use Rattle.kc_build.specs.PartsOfSymbols.{is_member}
-use Rattle.kc_build.specs.PartsOfSymbols.{symbol_of, first_of, is_member_index, first_of_symbol, is_bad_member}
+use Rattle.kc_read.specs.PartsOfSymbols.{is_member}
+use Rattle.kc_read.specs.PartsOfSymbols.{symbol_of, first_of, is_member_index, first_of_symbol, is_bad_member}
 use Rattle.kc_read.proofs.EnclosingLemmas.{there}
-use Rattle.kc_build.proofs.PlaceLemmas.{filter-next}
-use Rattle.kc_build.proofs.FirstLemmas.{some_places, first-is}
+use Rattle.kc_read.proofs.PlaceLemmas.{filter-next}
+use Rattle.kc_read.proofs.FirstLemmas.{some_places, first-is}
+use Rattle.kc_read.proofs.StackLemmas.{no_snoc}
 
 -- some element passes among those that a function gives of the elements that are kept
 kept_any : {A B : Type 0} (p : B → Bool) (f : A → Option B) (q : A → Bool) (b : Bool) (o : Option B) (x : A) (xs : List A) → q x ≡ b → f x ≡ o →
@@ -43,10 +44,6 @@ filter_step q n b e =
 
 not_kept : (q : ℕ → Bool) (n : ℕ) → q n ≡ false → filter q (numbers (suc n)) ≡ filter q (numbers n)
 not_kept q n e = filter_step q n false e ∙ append-nil (filter q (numbers n))
-
-no_snoc : {A : Type 0} (xs : List A) (x : A) → xs ++ x ∷ [] ≡ [] → ⊥
-no_snoc [] x h = cc
-no_snoc (y ∷ xs) x h = cc
 
 pub below_or_past : (i n : ℕ) → (i < n) ⊎ (n ≤ i)
 below_or_past i zero = inr (omega arith)
