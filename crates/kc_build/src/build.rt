@@ -1,6 +1,5 @@
 //! The tree of a root file.
 
-ghost use Rattle.kc_read.specs.Files.{files_in};
 ghost use Rattle.std.specs.Prelude.{◌≡◌, ◌≢◌, ◌<◌, ◌≤◌, ◌+◌, ◌*◌, ◌^◌, ℕ, List, length, map, IfOk, IfErr, OnOk, Ok, Err};
 ghost use Rattle.kc_expr.specs.PartsOfSymbols.{stands_in};
 ghost use Rattle.kc_language.specs.Symbols.{defined_symbols, IsTreeOf, modules_symbol, tree_with};
@@ -16,12 +15,11 @@ ghost use Rattle.kc_build.specs.Passes.{statements_in};
 ghost use Rattle.kc_read.specs.ListFacts.{AreBelow, AreChoicesApart, AreMenusOpened, AreTypesDefined};
 
 use crate::entries::walk_entries;
-use crate::listing::{Listing, read_listing};
+use crate::listing::Listing;
 use crate::settle::{Settled, settle};
 use kc_expr::expression::SymId;
 use kc_expr::names::Names;
 use kc_read::entries::Entries;
-use kc_read::file_map::FileMap;
 use kc_read::refusal::Refusal;
 use kc_tree::layout::{Layout, TreeParts};
 use kc_tree::tree::Tree;
@@ -117,7 +115,10 @@ pub struct BuiltTree {
 /// single operand, or of a choice that is no single name, parentheses aside. Both name the symbol, or `choice`. E20, which
 /// has no location, is being out of memory.
 ///
-/// The caller owes lines as [`read_listing`] gives them.
+/// The caller owes lines as [`read_listing`](crate::read_listing) gives them.
+///
+/// The meaning of the statements is that of the kernel's kconfig-language document and of kconfiglib's
+/// documentation; the limits, the order of checks and the warnings are our own.
 pub fn built_tree(alloc: Global, listing: Listing) -> Result<BuiltTree, Refusal>
     requires { (files : Files) × (root : List ℕ) × IsListingOf files root listing }
     ensures built { IfOk result (λ b. (files : Files) (root : List ℕ) → IsListingOf files root listing → IsTreeOf files root (Ok b.tree)) }
@@ -158,20 +159,4 @@ pub fn tree_of(alloc: Global, listing: Listing) -> Result<Tree, Refusal>
         Ok(built) => Ok(built.tree),
         Err(refusal) => Err(refusal),
     }
-}
-
-/// The tree of a root file: what the statements of the file and of those that it sources say, or the first
-/// refusal, which leaves nothing.
-///
-/// The refusals of reading come first, those of [`read_listing`]; where every line is read, those of [`tree_of`].
-///
-/// The meaning of the statements is that of the kernel's kconfig-language document and of kconfiglib's
-/// documentation; the limits, the order of checks and the warnings are our own.
-pub fn build_tree(alloc: Global, map: &FileMap, root: &[u8]) -> Result<Tree, Refusal>
-    ensures built { IfOk result (λ t. IsTreeOf (files_in map.now) root.now (Ok t)) }
-    ensures refused { IfErr result (λ r. r.cause ≢ Memory → IsTreeOf (files_in map.now) root.now (Err (refusal_view r))) }
-    ensures memory { IfErr result IsMemory }
-{
-    let reading = read_listing(alloc, map, root)?;
-    tree_of(alloc, reading.listing)
 }

@@ -4,7 +4,6 @@
 //! - [`read_listing`] reads a root file: a [`RootReading`] holds its [`Listing`] and the files that it opened.
 //! - [`tree_of`] makes the tree of a listing, or answers the first error that only the whole list shows. [`built_tree`] gives
 //!   the lines of the listing beside the tree.
-//! - [`build_tree`] reads a root file and makes its tree.
 //! - [`laws`]: a root file has one tree or one error, and each tree is well formed.
 
 mod attributes;
@@ -22,5 +21,5 @@ mod symbols;
 mod walk;
 mod warning;
 
-pub use build::{BuiltTree, build_tree, built_tree, tree_of};
+pub use build::{BuiltTree, built_tree, tree_of};
 pub use listing::{Listing, RootReading, read_listing};

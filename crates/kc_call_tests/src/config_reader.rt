@@ -1,4 +1,5 @@
 //! Reading a `.config` in any pieces: what the calls tell, what they leave, and what waits (kc_config_file).
+ghost use Rattle.std.specs.Prelude.{◌≡◌};
 ghost use Rattle.kc_language.specs.ConfigFile.{ArePlacesOf};
 
 use crate::trial::{Claim, is_true_of};
@@ -20,12 +21,16 @@ const WARNINGS: &[u8] = b".config:2: warning K9: malformed line\n\
     .config:3: warning K9: malformed line\n\
     .config:4: warning K10: A is set again\n";
 
-// A reader of `.config` over no user values, and what it told. Its calls have no contract of their own: what they leave is looked at.
+// A reader over no user values at first, and what it told. Its calls have no contract of their own: what they leave is looked at.
 #[derive(Drop)]
 struct Trial<'a> {
+    alloc: Global,
+    tree: &'a Tree,
+    prefix: &'a Prefix,
     reader: InputReader<'a>,
     user: UserInput<'a>,
     told: Vec<u8>,
+    ghost same: { reader.tree ≡ tree.now },
     ghost places: { ArePlacesOf reader.tree user.places },
 }
 
@@ -35,13 +40,17 @@ enum Call {
     // So many bytes `#`.
     FeedHashes(usize),
     Finish,
-    NextStream(&'static [u8]),
+    // Ends the file, and goes on with a reader of the next one, of this name.
+    NextFile(&'static [u8]),
 }
 
 impl<'a> Trial<'a> {
     fn new(alloc: Global, tree: &'a Tree, prefix: &'a Prefix) -> Result<Trial<'a>, AllocError> {
         let user = UserInput::new(alloc, tree, false)?;
         Ok(Trial {
+            alloc,
+            tree,
+            prefix,
             reader: InputReader::new(alloc, tree, prefix, b".config"),
             user,
             told: Vec::new(alloc),
@@ -59,14 +68,22 @@ impl<'a> Trial<'a> {
         Ok(())
     }
 
+    fn finish(&mut self) -> Result<(), InputFault> {
+        self.reader.finish(&mut self.user, &mut self.told)
+    }
+
+    fn next_file(&mut self, name: &'static [u8]) -> Result<(), InputFault> {
+        self.finish()?;
+        self.reader = InputReader::new(self.alloc, self.tree, self.prefix, name);
+        Ok(())
+    }
+
     fn call(&mut self, call: &Call) -> Result<(), InputFault> {
         match call {
             Call::Feed(piece) => self.feed(piece),
             Call::FeedHashes(count) => self.feed_hashes(*count),
-            Call::Finish => self.reader.finish(&mut self.user, &mut self.told),
-            Call::NextStream(name) => self
-                .reader
-                .next_stream(name, &mut self.user, &mut self.told),
+            Call::Finish => self.finish(),
+            Call::NextFile(name) => self.next_file(name),
         }
     }
 
@@ -141,7 +158,7 @@ const CASES: &[Case] = &[
         name: "the next input file begins at line 1",
         calls: &[
             Call::Feed(b"CONFIG_A=y\nfoo"),
-            Call::NextStream(b"x.cfg"),
+            Call::NextFile(b"x.cfg"),
             Call::Feed(b"bar\n"),
         ],
         a: Tri::Y,
@@ -166,7 +183,7 @@ const CASES: &[Case] = &[
             Call::FeedHashes(65_536),
             Call::Feed(b"\n# CONFIG_A is not set\n"),
             Call::Finish,
-            Call::NextStream(b"x.cfg"),
+            Call::NextFile(b"x.cfg"),
         ],
         refused: 4,
         a: Tri::Y,

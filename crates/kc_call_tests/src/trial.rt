@@ -3,11 +3,12 @@
 ghost use Rattle.std.specs.Prelude.{◌≡◌, length};
 ghost use Rattle.kc_language.specs.ConfigFile.{ArePlacesOf};
 
-use kc_build::build_tree;
+use kc_build::{read_listing, tree_of};
 use kc_diagnostics::{Warning, add_warning, borrowed};
 use kc_expr::expression::{SymId, Tri};
 use kc_expr::values::tri_text;
 use kc_read::file_map::FileMap;
+use kc_read::refusal::Refusal;
 use kc_tree::rows::ChoiceId;
 use kc_tree::tree::Tree;
 use kc_user::user::User;
@@ -37,11 +38,17 @@ fn put_file(alloc: Global, kconfig: &[u8], files: &mut FileMap) -> Result<(), Al
     files.insert(Vec::from_slice(alloc, b"Kconfig")?, bytes)
 }
 
+// The tree of the root file of these.
+fn built(alloc: Global, files: &FileMap) -> Result<Tree, Refusal> {
+    let reading = read_listing(alloc, files, b"Kconfig")?;
+    tree_of(alloc, reading.listing)
+}
+
 // The tree of this file; none where it is refused.
-fn tree_of(alloc: Global, kconfig: &[u8]) -> Option<Tree> {
+fn tree_with(alloc: Global, kconfig: &[u8]) -> Option<Tree> {
     let mut files = FileMap::new(alloc, false);
     match put_file(alloc, kconfig, &mut files) {
-        Ok(()) => build_tree(alloc, &files, b"Kconfig").ok(),
+        Ok(()) => built(alloc, &files).ok(),
         Err(_) => None,
     }
 }
@@ -49,7 +56,7 @@ fn tree_of(alloc: Global, kconfig: &[u8]) -> Option<Tree> {
 // No other function has the tree as its own: the code that drops it would stand in each of them.
 /// Whether the claim is true of the tree of this file.
 pub(crate) fn is_true_of(alloc: Global, kconfig: &[u8], claim: &dyn Claim) -> bool {
-    match tree_of(alloc, kconfig) {
+    match tree_with(alloc, kconfig) {
         Some(tree) => claim.holds_of(alloc, &tree),
         None => false,
     }

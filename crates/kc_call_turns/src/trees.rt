@@ -1,7 +1,7 @@
 //! Files, trees and orders.
 
 use crate::end::{CallEnd, done, refused};
-use kc_build::build_tree;
+use kc_build::{read_listing, tree_of};
 use kc_diagnostics::Cause;
 use kc_expr::expression::SymId;
 use kc_read::file_map::FileMap;
@@ -122,10 +122,16 @@ fn files_of(alloc: Global, kconfig: &[u8]) -> Result<FileMap, AllocError> {
     }
 }
 
+// The tree of the root file of these.
+fn built(alloc: Global, files: &FileMap) -> Result<Tree, Refusal> {
+    let reading = read_listing(alloc, files, b"Kconfig")?;
+    tree_of(alloc, reading.listing)
+}
+
 // The tree of this one file.
 fn tree_with(alloc: Global, kconfig: &[u8]) -> Result<Tree, AllocError> {
     let files = files_of(alloc, kconfig)?;
-    match build_tree(alloc, &files, b"Kconfig") {
+    match built(alloc, &files) {
         Ok(tree) => Ok(tree),
         Err(_) => Err(AllocError),
     }
@@ -162,10 +168,10 @@ fn is_built(tree: &Tree) -> bool {
         )
 }
 
-/// `build_tree`.
+/// `read_listing`, and `tree_of` of what it reads.
 pub(crate) fn call_build(alloc: Global) -> Result<CallEnd, AllocError> {
     let files = files_of(alloc, KCONFIG)?;
-    match build_tree(alloc, &files, b"Kconfig") {
+    match built(alloc, &files) {
         Ok(tree) => Ok(done(is_built(&tree))),
         Err(refusal) => Ok(refused(is_memory(&refusal) && files.get(b"Kconfig") == Some(KCONFIG))),
     }

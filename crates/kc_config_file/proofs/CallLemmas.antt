@@ -1,7 +1,7 @@
 -- Any list of calls is one reading.
 use Rattle.std.proofs.Common.{◌≡◌, ℕ, List, [], ◌∷◌, ◌++◌, refl, ap, ◌∙◌, append-nil}
-use Rattle.kc_config_file.specs.Calls.{Call, Feed, Finish, NextStream, rest_of, more_of, lines_fed, CallsJoin}
-use Rattle.kc_config_file.specs.Feeding.{fed, ended, stream_start, ReadsPiece, EndsStream}
+use Rattle.kc_config_file.specs.Calls.{Call, Feed, Finish, rest_of, more_of, lines_fed, CallsJoin}
+use Rattle.kc_config_file.specs.Feeding.{fed, ended, ReadsPiece, EndsStream}
 use Rattle.kc_config_file.specs.ReaderState.{ReaderState}
 use Rattle.kc_language.specs.ConfigFile.{UserInput, ReadResult, reading, lines_from}
 use Rattle.kc_config_file.specs.Reading.{with_warnings}
@@ -21,13 +21,6 @@ module _ (old : ReaderState) (before middle : UserInput) (first : List ℕ) (cal
       let e : old.position.pending ++ [] ≡ old.position.pending = append-nil old.position.pending in
       rw e (ends (lines_fed (record old { position = ended old.position }) calls) ∙ ap (with_warnings first) rest)
 
-  next_first : (name : List ℕ) → EndsStream old.tree old.prefix old.name old.position before middle first →
-      reading old.tree old.prefix middle (lines_fed (record old { name = name; position = stream_start }) calls) ≡ later →
-      reading old.tree old.prefix before (lines_fed old (NextStream name ∷ calls)) ≡ with_warnings first later
-  next_first name ends rest =
-      let e : old.position.pending ++ [] ≡ old.position.pending = append-nil old.position.pending in
-      rw e (ends (lines_fed (record old { name = name; position = stream_start }) calls) ∙ ap (with_warnings first) rest)
-
 pub calls_join : CallsJoin
 calls_join [] old new before after warned (same, places, nothing) =
     let e : lines_from old.name old.position.number (old.position.pending ++ []) ++ [] ≡ lines_from old.name old.position.number old.position.pending =
@@ -41,8 +34,4 @@ calls_join (Feed piece ∷ calls) old new before after warned (mid, middle, firs
 calls_join (Finish ∷ calls) old new before after warned (mid, middle, first, later, (is, ends), run, joined) =
     let rest = rw is at (calls_join calls mid new middle after later run) in
     rw joined (finish_first old before middle first calls (with_warnings later (reading old.tree old.prefix after (lines_from new.name new.position.number new.position.pending))) ends rest
-    ∙ with_warnings-with_warnings first later (reading old.tree old.prefix after (lines_from new.name new.position.number new.position.pending)))
-calls_join (NextStream name ∷ calls) old new before after warned (mid, middle, first, later, (is, ends), run, joined) =
-    let rest = rw is at (calls_join calls mid new middle after later run) in
-    rw joined (next_first old before middle first calls (with_warnings later (reading old.tree old.prefix after (lines_from new.name new.position.number new.position.pending))) name ends rest
     ∙ with_warnings-with_warnings first later (reading old.tree old.prefix after (lines_from new.name new.position.number new.position.pending)))

@@ -15,10 +15,8 @@ pub mod InTurnLemmas
 mod LineLaws
 pub mod LineLemmas
 pub mod LongLineLemmas
-pub mod PendingLemmas
 pub mod MinimalLaws
 pub mod MinimalTextLemmas
-pub mod PartLemmas
 pub mod PlaceLemmas
 pub mod QuotedLemmas
 mod ReaderLemmas
@@ -27,7 +25,6 @@ pub mod RoundTripLemmas
 pub mod IdempotentLaws
 pub mod ShapeLemmas
 pub mod ShortTextLemmas
-pub mod SinkLemmas
 pub mod SolutionLemmas
 pub mod StepEffects
 mod StepLemmas
@@ -37,5 +34,4 @@ pub mod TextBytes
 pub mod TextLemmas
 pub mod ValueTextLemmas
 pub mod WholeLinesLemmas
-pub mod WritingLemmas
 pub mod NewListLaws

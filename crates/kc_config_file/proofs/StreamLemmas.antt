@@ -17,78 +17,34 @@ use Rattle.kc_user.specs.Laws.{EmptyArePlaces, SettingKeepsPlaces, SelectingKeep
 use Rattle.kc_user.specs.Places.{ArePlaces, allowed, members_of}
 use Rattle.kc_language.specs.ConfigFile.{Notation, Places, meaning_of, Effect, Silent, Warns, Assigns, effect_of, Assignment, Line, ReadResult, Stream, StreamLocation, UserInput, no_input, effect, is_within, lines_from, lines_of, lines_in_stream, places_given, reading, stream_location}
 use Rattle.kc_config_file.specs.PartsOfConfigFile.{assignment_of, assignments, choice_of, before_too_long, last_line, line, text_of}
-use Rattle.kc_config_file.specs.Calls.{Call, Feed, Finish, NextStream, Answers, AllAnswered, rest_of, more_of, lines_fed}
-use Rattle.kc_config_file.specs.Feeding.{StreamPosition, fed, ended, stream_start, ReadsPiece, EndsStream}
+use Rattle.kc_config_file.specs.Calls.{Call, Feed, Finish, Answers, AllAnswered}
+use Rattle.kc_config_file.specs.Feeding.{StreamPosition, fed, ReadsPiece, EndsStream}
 use Rattle.kc_config_file.specs.LineSteps.{with_member}
 use Rattle.kc_config_file.specs.ReaderState.{ReaderState}
 use Rattle.kc_text.specs.PartsOfText.{one_more}
 use Rattle.kc_config_file.specs.Reading.{with_warnings}
-use Rattle.kc_config_file.specs.Streams.{Pieces, stream_of, feeds, calls_after, RefusalsKeepPlaces, StreamsAreRead, StreamsLeavePlaces, ReadingKeepsPlaces}
+use Rattle.kc_config_file.specs.Streams.{Pieces, stream_of, feeds, reader_of, RefusalsKeepPlaces, StreamsAreRead, StreamsLeavePlaces, ReadingKeepsPlaces}
 use Rattle.kc_config_file.proofs.AllowedLemmas.{assigned_allowed, strip_no_lf}
-use Rattle.kc_config_file.proofs.CallLemmas.{calls_join}
 use Rattle.kc_config_file.proofs.LineLemmas.{HasNoLf, lines_from-last}
 use Rattle.kc_config_file.proofs.PlaceLemmas.{places_given-append, places_given-nothing, places_given-one}
-use Rattle.kc_config_file.proofs.ReadingLemmas.{reading-nothing, reading_long}
+use Rattle.kc_config_file.proofs.ReadingLemmas.{reading-nothing, reading_long, with_warnings-with_warnings}
 
--- The lines that the calls feed are those of the streams.
-no_lines : (name : List ℕ) (n : ℕ) → lines_from name n [] ≡ []
-no_lines name n = lines_from-last name n [] (All-nil (λ b. is_line_feed b ≡ false))
-
-rest_of_feeds : (pieces : List (List ℕ)) (calls : List Call) → rest_of (feeds pieces ++ calls) ≡ concat pieces ++ rest_of calls
-rest_of_feeds [] calls = refl
-rest_of_feeds (piece ∷ pieces) calls = ap (λ t. piece ++ t) (rest_of_feeds pieces calls) ∙ sym (append_assoc piece (concat pieces) (rest_of calls))
-
-rest_of_after : (streams : List Pieces) → rest_of (calls_after streams) ≡ []
-rest_of_after [] = refl
-rest_of_after (s ∷ streams) = refl
-
-feed_more : (pieces : List (List ℕ)) (name : List ℕ) (position : StreamPosition) (calls : List Call) (lines : List Line) →
-    ((later : StreamPosition) → more_of name later calls ≡ lines) → more_of name position (feeds pieces ++ calls) ≡ lines
-feed_more [] name position calls lines is = is position
-feed_more (piece ∷ pieces) name position calls lines is = feed_more pieces name (fed piece position) calls lines is
-
-more_of_after : (streams : List Pieces) (name : List ℕ) (position : StreamPosition) → more_of name position (calls_after streams) ≡ lines_of (map stream_of streams)
-more_of_after [] name position = rw (no_lines name (ended position).number) refl
-more_of_after (s ∷ streams) name position =
-    let e : rest_of (feeds s.pieces ++ calls_after streams) ≡ concat s.pieces = rest_of_feeds s.pieces (calls_after streams)
-    ∙ ap (λ t. concat s.pieces ++ t) (rest_of_after streams) ∙ append-nil (concat s.pieces) in
-    let m : more_of s.name stream_start (feeds s.pieces ++ calls_after streams) ≡ lines_of (map stream_of streams) =
-    feed_more s.pieces s.name stream_start (calls_after streams) (lines_of (map stream_of streams)) (more_of_after streams s.name) in
-    rw (e, m) refl
-
-more_of_feeds : (pieces : List (List ℕ)) (name : List ℕ) (position : StreamPosition) (streams : List Pieces) →
-    more_of name position (feeds pieces ++ calls_after streams) ≡ lines_of (map stream_of streams)
-more_of_feeds pieces name position streams = feed_more pieces name position (calls_after streams) (lines_of (map stream_of streams)) (more_of_after streams name)
-
--- the last call ends the stream
-ends_empty : (calls : List Call) (old new : ReaderState) (before after : UserInput) (warned : List ℕ) → AllAnswered (calls ++ Finish ∷ []) old new before after warned → new.position.pending ≡ []
-ends_empty [] old new before after warned (mid, middle, first, later, (is, ends), (same, places, nothing), joined) =
-    ap (λ (r : ReaderState). r.position.pending) same ∙ ap (λ (r : ReaderState). r.position.pending) is
-ends_empty (call ∷ calls) old new before after warned (mid, middle, first, later, answers, run, joined) = ends_empty calls mid new middle after later run
-
-ends_with_finish : (streams : List Pieces) → (calls : List Call) × (calls_after streams ≡ calls ++ Finish ∷ [])
-ends_with_finish [] = ([], refl)
-ends_with_finish (s ∷ streams) =
-    let (calls, is) = ends_with_finish streams in
-    (NextStream s.name ∷ (feeds s.pieces ++ calls), ap (λ t. NextStream s.name ∷ (feeds s.pieces ++ t)) is ∙ ap (λ t. NextStream s.name ∷ t) (sym (append_assoc (feeds s.pieces) calls (Finish ∷ []))))
+-- What one stream gives, whatever lines follow.
+one_stream : (pieces : List (List ℕ)) (old end : ReaderState) (before after : UserInput) (warned : List ℕ) (more : List Line) →
+    AllAnswered (feeds pieces ++ Finish ∷ []) old end before after warned →
+    reading old.tree old.prefix before (lines_from old.name old.position.number (old.position.pending ++ concat pieces) ++ more)
+    ≡ with_warnings warned (reading old.tree old.prefix after more)
+one_stream [] old end before after warned more (mid, middle, first, later, (is, ends), (same, places, nothing), joined) =
+    rw (joined, nothing, places, append-nil first, append-nil old.position.pending) (ends more)
+one_stream (piece ∷ pieces) old end before after warned more (mid, middle, first, later, (is, goes), run, joined) =
+    let rest = rw is at (one_stream pieces mid end middle after later more run) in
+    rw joined (rw is at (goes (concat pieces) more) ∙ ap (with_warnings first) rest ∙ with_warnings-with_warnings first later (reading old.tree old.prefix after more))
 
 pub streams_are_read : StreamsAreRead
-streams_are_read first streams old new before after warned named fresh run =
-    let all = feeds first.pieces ++ calls_after streams in
-    let joined = calls_join all old new before after warned run in
-    let (calls, is) = ends_with_finish streams in
-    let split : all ≡ (feeds first.pieces ++ calls) ++ Finish ∷ [] = ap (λ t. feeds first.pieces ++ t) is ∙ sym (append_assoc (feeds first.pieces) calls (Finish ∷ [])) in
-    let empty : new.position.pending ≡ [] = ends_empty (feeds first.pieces ++ calls) old new before after warned (subst (λ c. AllAnswered c old new before after warned) split run) in
-    let rest : rest_of all ≡ concat first.pieces = rest_of_feeds first.pieces (calls_after streams) ∙ ap (λ t. concat first.pieces ++ t) (rest_of_after streams) ∙ append-nil (concat first.pieces) in
-    let fed_lines : lines_fed old all ≡ lines_of (map stream_of (first ∷ streams)) =
-    rw (named, fresh, rest, more_of_feeds first.pieces first.name stream_start streams) refl in
-    let nothing : lines_from new.name new.position.number new.position.pending ≡ [] = ap (lines_from new.name new.position.number) empty ∙ no_lines new.name new.position.number in
-    ap (reading old.tree old.prefix before) (sym fed_lines) ∙ joined
-    ∙ ap (λ lines. with_warnings warned (reading old.tree old.prefix after lines)) nothing ∙ ap (with_warnings warned) (reading-nothing old.tree old.prefix after)
-    ∙ told_end after warned
-  where
-    told_end : (after : UserInput) (warned : List ℕ) → with_warnings warned (record { input = after; warned = []; stopped = None }) ≡ record { input = after; warned = warned; stopped = None }
-    told_end after warned = rw (append-nil warned) refl
+streams_are_read tree prefix [] before after warned (same, nothing) = rw (same, nothing) (reading-nothing tree prefix before)
+streams_are_read tree prefix (s ∷ streams) before after warned (end, middle, first, later, run, handed, joined) =
+    rw joined (one_stream s.pieces (reader_of tree prefix s.name) end before middle first (lines_of (map stream_of streams)) run
+    ∙ ap (with_warnings first) (streams_are_read tree prefix streams middle after later handed))
 
 -- Places that hold what is allowed.
 module _ (tree : TreeFacts) (prefix : Notation) (formed : IsWellFormed tree) (setting : SettingKeepsPlaces) (selecting : SelectingKeepsPlaces) where
@@ -251,8 +207,6 @@ module _ (setting : SettingKeepsPlaces) (selecting : SelectingKeepsPlaces) where
         (subst HasNoLf (sym (ap (λ (r : ReaderState). r.position.pending) is)) (waiting_no_lf (old.position.pending ++ piece))) goes held,
   )
   call_keeps Finish old new before after warned formed (is, ends) held =
-      (ap (λ (r : ReaderState). r.tree) is, end_keeps old.tree old.prefix old.name old.position before after warned formed ends held)
-  call_keeps (NextStream name) old new before after warned formed (is, ends) held =
       (ap (λ (r : ReaderState). r.tree) is, end_keeps old.tree old.prefix old.name old.position before after warned formed ends held)
 
   pub calls_keep : ReadingKeepsPlaces

@@ -1,6 +1,6 @@
 -- Trusted: What any list of calls of a reader comes to.
 use Rattle.std.specs.Prelude.{◌≡◌, ℕ, ◌++◌, List, [], ◌∷◌}
-use Rattle.kc_config_file.specs.Feeding.{StreamPosition, fed, ended, stream_start, ReadsPiece, EndsStream}
+use Rattle.kc_config_file.specs.Feeding.{StreamPosition, fed, ended, ReadsPiece, EndsStream}
 use Rattle.kc_config_file.specs.ReaderState.{ReaderState}
 use Rattle.kc_language.specs.ConfigFile.{Line, UserInput, lines_from, reading}
 use Rattle.kc_config_file.specs.Reading.{with_warnings}
@@ -8,7 +8,6 @@ use Rattle.kc_config_file.specs.Reading.{with_warnings}
 pub data Call : Type 0 where
   Feed : List ℕ → Call
   Finish : Call
-  NextStream : List ℕ → Call
 
 -- a call that was answered Ok, with these warnings handed out
 abbrev pub Answers : Call → ReaderState → ReaderState → UserInput → UserInput → List ℕ → Type 0
@@ -16,8 +15,6 @@ Answers (Feed piece) old new before after warned =
     (new ≡ record old { position = fed piece old.position }) × ReadsPiece old.tree old.prefix old.name piece old.position new.position before after warned
 Answers Finish old new before after warned =
     (new ≡ record old { position = ended old.position }) × EndsStream old.tree old.prefix old.name old.position before after warned
-Answers (NextStream name) old new before after warned =
-    (new ≡ record old { name = name; position = stream_start }) × EndsStream old.tree old.prefix old.name old.position before after warned
 
 -- calls, one after another, each answered Ok
 abbrev pub AllAnswered : List Call → ReaderState → ReaderState → UserInput → UserInput → List ℕ → Type 0
@@ -26,19 +23,17 @@ AllAnswered (call ∷ calls) old new before after warned =
     (mid : ReaderState) × (middle : UserInput) × (first later : List ℕ)
     × Answers call old mid before middle first × AllAnswered calls mid new middle after later × (warned ≡ first ++ later)
 
--- The bytes that calls feed before the first of them that ends a stream, and the lines of the streams after it, whose
+-- The bytes that calls feed before the first of them that ends the last line, and the lines that they feed after it, whose
 -- first line follows the line at this position.
 abbrev pub rest_of : List Call → List ℕ
 rest_of [] = []
 rest_of (Feed piece ∷ calls) = piece ++ rest_of calls
 rest_of (Finish ∷ calls) = []
-rest_of (NextStream name ∷ calls) = []
 
 abbrev pub more_of : List ℕ → StreamPosition → List Call → List Line
 more_of name position [] = []
 more_of name position (Feed piece ∷ calls) = more_of name (fed piece position) calls
 more_of name position (Finish ∷ calls) = lines_from name (ended position).number (rest_of calls) ++ more_of name (ended position) calls
-more_of name position (NextStream next ∷ calls) = lines_from next 1 (rest_of calls) ++ more_of next stream_start calls
 
 -- all lines that are fed from a reader on: each stretch between two ends is cut into lines by itself
 abbrev pub lines_fed : ReaderState → List Call → List Line

@@ -11,7 +11,6 @@ pub mod LineSteps
 pub mod Named
 pub mod PartsOfConfigFile
 pub mod PartsOfTexts
-pub mod Pending
 pub mod Prefixes
 pub mod ReaderCalls
 pub mod ReaderState
@@ -20,8 +19,6 @@ pub mod Reading
 pub mod ReadingLaws
 pub mod RoundTrip
 pub mod ShownView
-pub mod Sink
 pub mod Streams
 pub mod WholeLines
-pub mod Writing
 pub mod WrittenLaws

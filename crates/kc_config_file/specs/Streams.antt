@@ -4,7 +4,7 @@ use Rattle.std.specs.List.{concat}
 use Rattle.kc_user.specs.Places.{ArePlaces}
 use Rattle.kc_language.specs.Symbols.{TreeFacts}
 use Rattle.kc_tree.specs.TreeFacts.{IsWellFormed}
-use Rattle.kc_config_file.specs.Calls.{Call, Feed, Finish, NextStream, AllAnswered}
+use Rattle.kc_config_file.specs.Calls.{Call, Feed, Finish, AllAnswered}
 use Rattle.kc_config_file.specs.declared.fault.InputFault.{InputFault}
 use Rattle.kc_config_file.specs.Feeding.{StreamPosition, Refuses, stream_start}
 use Rattle.kc_config_file.specs.ReaderState.{ReaderState}
@@ -21,17 +21,24 @@ stream_of s = record { name = s.name; bytes = concat s.pieces }
 abbrev pub feeds : List (List ℕ) → List Call
 feeds pieces = map Feed pieces
 
--- the calls that hand in the streams after the first, and end the last
-abbrev pub calls_after : List Pieces → List Call
-calls_after [] = Finish ∷ []
-calls_after (s ∷ streams) = NextStream s.name ∷ (feeds s.pieces ++ calls_after streams)
+-- a new reader of a stream
+abbrev pub reader_of : TreeFacts → Notation → List ℕ → ReaderState
+reader_of tree prefix name = record { tree = tree; prefix = prefix; name = name; position = stream_start; refusal = None }
 
--- The calls of a new reader that hand in all streams give what reading them at once gives.
+-- Streams, one after another: a new reader of each was handed its pieces, and then ended its last line.
+abbrev pub AreHandedIn : TreeFacts → Notation → List Pieces → UserInput → UserInput → List ℕ → Type 0
+AreHandedIn tree prefix [] before after warned = (after ≡ before) × (warned ≡ [])
+AreHandedIn tree prefix (s ∷ streams) before after warned =
+    (end : ReaderState) × (middle : UserInput) × (first later : List ℕ)
+    × AllAnswered (feeds s.pieces ++ Finish ∷ []) (reader_of tree prefix s.name) end before middle first
+    × AreHandedIn tree prefix streams middle after later × (warned ≡ first ++ later)
+
+-- Streams that are handed in so give what reading them at once gives.
 abbrev pub StreamsAreRead : Type 0
 StreamsAreRead =
-    (first : Pieces) (streams : List Pieces) (old new : ReaderState) (before after : UserInput) (warned : List ℕ) →
-    old.name ≡ first.name → old.position ≡ stream_start → AllAnswered (feeds first.pieces ++ calls_after streams) old new before after warned →
-    reading_of old.tree old.prefix before (map stream_of (first ∷ streams)) ≡ record { input = after; warned = warned; stopped = None }
+    (tree : TreeFacts) (prefix : Notation) (streams : List Pieces) (before after : UserInput) (warned : List ℕ) →
+    AreHandedIn tree prefix streams before after warned →
+    reading_of tree prefix before (map stream_of streams) ≡ record { input = after; warned = warned; stopped = None }
 
 -- Places that hold what is allowed still do after any calls.
 abbrev pub ReadingKeepsPlaces : Type 0

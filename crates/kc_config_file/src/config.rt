@@ -3,18 +3,12 @@ ghost use Rattle.std.specs.Prelude.{◌≡◌, ◌++◌, ◌<◌, length, slice_
 ghost use Rattle.std.specs.Option.{option_copied};
 ghost use Rattle.kc_language.specs.Symbols.{SymbolShown};
 ghost use Rattle.kc_tree.specs.Layouts.{shown_of, title_at, title_text};
-ghost use Rattle.kc_language.specs.Texts.{ConfigGivesBack, HasShortLines, solution_view, shown_title, entry_text, config_text, is_shown, value_of};
+ghost use Rattle.kc_language.specs.Texts.{solution_view, shown_title, entry_text, config_text, is_shown};
 ghost use Rattle.kc_config_file.specs.PartsOfTexts.{title_if, end_if, gap, entries_text, config_heading};
 ghost use Rattle.kc_config_file.specs.EntryTexts.{ends_after};
 ghost use Rattle.kc_config_file.specs.Named.{HasName};
-ghost use Rattle.kc_config_file.specs.Writing.{Writes};
-ghost use Rattle.kc_user.specs.Places.{ArePlaces};
 
-use crate::batch::put_text;
-use crate::fault::WriteFault;
-use crate::laws::{config_is_idempotent, written_texts_are_short};
 use crate::prefix::Prefix;
-use crate::sink::Sink;
 use crate::symbol_line::{add_config_file_line, symbol_value};
 use crate::text::{add_parts, new_text};
 use kc_expr::expression::{SymId, Tri};
@@ -211,44 +205,4 @@ pub fn config_text(
     add_heading(solved.tree().main_menu(), &mut file)?;
     add_entries(solved, prefix, &mut file)?;
     Ok(file)
-}
-
-// Makes the full `.config`, and hands it out.
-fn put_config<S: Sink>(
-    alloc: Global,
-    solved: &Solved<'_>,
-    prefix: &Prefix,
-    sink: &mut S,
-) -> Result<(), WriteFault>
-    ensures { Writes S.Sink (config_text solved.now.tree prefix.now (solution_view solved.now)) result sink.old sink.new }
-{
-    let text = config_text(alloc, solved, prefix)?;
-    put_text(&text, sink)
-}
-
-/// Hands out the full `.config`, the text that `config_text` makes. After an error, also out of memory, the sink took a
-/// proper prefix of it.
-///
-/// With the places that reading it leaves, from empty places, the one solution is the one that was written exactly where
-/// no visible tristate symbol outside a choice stands above both its visibility and what it is selected to. This asks
-/// that the user's places hold what is allowed, that no int or hex value that is written ends in a blank or a carriage
-/// return, and that neither the main menu's text nor that of a menu or comment that is shown is written as a line that
-/// reads as an unset line. Where the user's places hold what is allowed, no line is too long to be read again.
-pub fn write_config<S: Sink>(
-    alloc: Global,
-    solved: &Solved<'_>,
-    prefix: &Prefix,
-    sink: &mut S,
-) -> Result<(), WriteFault>
-    ensures written { Writes S.Sink (config_text solved.now.tree prefix.now (solution_view solved.now)) result sink.old sink.new }
-    ensures short { ArePlaces solved.now.tree solved.now.places → HasShortLines (config_text solved.now.tree prefix.now (solution_view solved.now)) }
-    ensures idempotent { ArePlaces solved.now.tree solved.now.places → ConfigGivesBack solved.now.tree prefix.now solved.now.places (value_of solved.now) }
-{
-    config_is_idempotent();
-    written_texts_are_short();
-    solved.is_solution();
-    solved.is_accepted();
-    let _prefix = prefix.as_bytes();
-    let _count = solved.tree().symbol_count();
-    put_config(alloc, solved, prefix, sink)
 }

@@ -1,9 +1,7 @@
 //! Why reading stopped.
 ghost use Rattle.std.specs.Prelude.{◌≡◌};
 ghost use Rattle.kc_config_file.specs.declared.fault.InputFault.TheVariants.{Memory};
-ghost use Rattle.kc_config_file.specs.declared.fault.WriteFault.TheVariants as write;
 
-use crate::sink::Fault;
 use std::alloc::{AllocError, AllocFailed};
 
 /// Why a `.config` could not be read on.
@@ -28,30 +26,5 @@ impl<T: Drop> From<AllocFailed<T>> for InputFault {
 
     fn from(_e: AllocFailed<T>) -> InputFault {
         InputFault::Memory
-    }
-}
-
-/// Why a text could not be written to its end. The sink took a beginning of it, never the whole.
-#[derive(Clone, Copy, Debug, PartialEq, Eq)]
-pub enum WriteFault {
-    /// The sink failed (E19).
-    Sink,
-    /// No memory was to be had (E20).
-    Memory,
-}
-
-impl From<AllocError> for WriteFault {
-    ghost from_gives = { λ _ e. e ≡ write.Memory };
-
-    fn from(_e: AllocError) -> WriteFault {
-        WriteFault::Memory
-    }
-}
-
-impl From<Fault> for WriteFault {
-    ghost from_gives = { λ _ e. e ≡ write.Sink };
-
-    fn from(_e: Fault) -> WriteFault {
-        WriteFault::Sink
     }
 }

@@ -1,16 +1,10 @@
 //! The writers of the header, of the minimal file and of the list of new symbols.
 ghost use Rattle.std.specs.Prelude.{◌≡◌, ◌<◌, ◌++◌, length, OnOk, OnErr, IfOk, flat_map};
-ghost use Rattle.kc_language.specs.Texts.{HasShortLines, MinimalGivesBack, MinimalNeedsEach, header_text, minimal_text, new_text, solution_view, symbol_new, value_of};
+ghost use Rattle.kc_language.specs.Texts.{header_text, minimal_text, new_text, solution_view, symbol_new};
 ghost use Rattle.kc_config_file.specs.PartsOfTexts.{header_heading, header_if, minimal_if, new_if};
-ghost use Rattle.kc_config_file.specs.Writing.{Writes};
-ghost use Rattle.kc_user.specs.Places.{ArePlaces};
 ghost use Rattle.kc_language.specs.Values.{name_count};
 
-use crate::batch::put_text;
-use crate::fault::WriteFault;
-use crate::laws::{minimal_gives_back, written_texts_are_short};
 use crate::prefix::Prefix;
-use crate::sink::Sink;
 use crate::symbol_line::{add_config_file_line, add_header_line, add_line_of_new, symbol_value};
 use crate::text::{add_parts, new_text};
 use kc_expr::expression::SymId;
@@ -142,20 +136,6 @@ pub fn header_text(
     Ok(file)
 }
 
-/// Hands out the header, the text that `header_text` makes. After an error, also out of memory, the sink took a proper
-/// prefix of it.
-pub fn write_header<S: Sink>(
-    alloc: Global,
-    solved: &Solved<'_>,
-    prefix: &Prefix,
-    sink: &mut S,
-) -> Result<(), WriteFault>
-    ensures { Writes S.Sink (header_text solved.now.tree prefix.now (solution_view solved.now)) result sink.old sink.new }
-{
-    let text = header_text(alloc, solved, prefix)?;
-    put_text(&text, sink)
-}
-
 /// The minimal file: the lines of the symbols that differ, in the order of their first definition. (Our own form.)
 ///
 /// The only error is to be out of memory, for a file with a line: one without
@@ -193,43 +173,4 @@ pub fn list_of_new(
         add_new_if(solved, prefix, tree.symbol(i), &mut file)?;
     }
     Ok(file)
-}
-
-// Makes the minimal file, and hands it out.
-fn put_minimal<S: Sink>(
-    alloc: Global,
-    solved: &Solved<'_>,
-    prefix: &Prefix,
-    sink: &mut S,
-) -> Result<(), WriteFault>
-    ensures { Writes S.Sink (minimal_text solved.now.tree prefix.now (solution_view solved.now)) result sink.old sink.new }
-{
-    let text = minimal_text(alloc, solved, prefix)?;
-    put_text(&text, sink)
-}
-
-/// Hands out the minimal file, the text that `minimal_text` makes. The caller owes the solution of that tree. After an
-/// error, also where there was no memory, the sink took a beginning of it, never the whole.
-///
-/// With the places that reading it leaves, from empty places, the one solution is the one that was written. It has one line
-/// for each symbol that differs, and with any nonempty set of these left out it is not. No line is too long to be read again.
-/// All three ask that the user's places hold what is allowed.
-pub fn write_minimal<S: Sink>(
-    alloc: Global,
-    solved: &Solved<'_>,
-    prefix: &Prefix,
-    sink: &mut S,
-) -> Result<(), WriteFault>
-    ensures written { Writes S.Sink (minimal_text solved.now.tree prefix.now (solution_view solved.now)) result sink.old sink.new }
-    ensures short { ArePlaces solved.now.tree solved.now.places → HasShortLines (minimal_text solved.now.tree prefix.now (solution_view solved.now)) }
-    ensures restores { ArePlaces solved.now.tree solved.now.places → MinimalGivesBack solved.now.tree prefix.now solved.now.places (value_of solved.now) }
-    ensures nothing_to_spare { ArePlaces solved.now.tree solved.now.places → MinimalNeedsEach solved.now.tree prefix.now solved.now.places (value_of solved.now) }
-{
-    minimal_gives_back();
-    written_texts_are_short();
-    solved.is_solution();
-    solved.is_accepted();
-    let _prefix = prefix.as_bytes();
-    let _count = solved.tree().symbol_count();
-    put_minimal(alloc, solved, prefix, sink)
 }

@@ -30,14 +30,14 @@ pub fn lines_give_in_turn()
 {}
 
 /// Any list of calls of a reader, each answered Ok, is one reading: of the lines of all bytes that were fed, each
-/// stretch between two ends of a stream cut into lines by itself, the warnings are those that the calls handed out,
+/// stretch between two calls of `finish` cut into lines by itself, the warnings are those that the calls handed out,
 /// one after another, and the places those that they left.
 pub fn calls_join()
     ensures { CallsJoin }
 {}
 
-/// Streams that a new reader is handed in pieces of any size, one after another and the last one ended, are read as they
-/// are at once: each stream ends its own last line.
+/// Streams that are handed in pieces of any size, one after another, each to a new reader that then ends its last line, are
+/// read as they are at once.
 pub fn streams_are_read()
     ensures { StreamsAreRead }
 {}

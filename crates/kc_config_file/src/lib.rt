@@ -15,11 +15,9 @@
 //! - [`config`]: the text of the `.config`.
 //! - [`header`]: the texts of the C header, of the minimal file and of the list of new symbols.
 //! - [`prefix`]: what stands before each name, `CONFIG_` by default.
-//! - [`batch`] and [`sink`]: [`put`] hands a text to a [`Sink`], which may fail with a [`Fault`].
 //!
 //! [`laws`]: what is written is read again as it was, and what holds of reading.
 
-pub mod batch;
 pub mod config;
 pub mod effect;
 pub mod fault;
@@ -31,12 +29,8 @@ mod line_buffer;
 pub mod prefix;
 pub mod reader;
 pub mod shown;
-pub mod sink;
 mod step;
 mod symbol_line;
 mod text;
 pub mod user_input;
 pub mod value;
-
-pub use batch::put;
-pub use sink::{Fault, Sink};

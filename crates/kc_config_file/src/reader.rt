@@ -14,7 +14,7 @@ use kc_tree::tree::Tree;
 use std::alloc::Global;
 use std::marker::Model;
 
-/// Reads streams of `.config` text line by line: as a line ends, a valid assignment goes to the user's input, and a warning
+/// Reads a stream of `.config` text line by line: as a line ends, a valid assignment goes to the user's input, and a warning
 /// is told, as whole lines behind those told before. Besides the tree, the prefix and the stream's name it keeps the number of the line not yet
 /// ended, that line's bytes, of which there are at most 65,535, and the first refusal, which every later call answers
 /// again, changing nothing.
@@ -56,7 +56,7 @@ impl<'a> InputReader<'a> {
         }
     }
 
-    /// How many bytes were fed since the last LF, `finish` or `next_stream`.
+    /// How many bytes were fed since the last LF or `finish`.
     pub fn pending(&self) -> usize
         ensures count { result ≡ length self.now.position.pending }
         ensures few { result ≤ longest_input_line }
@@ -114,22 +114,5 @@ impl<'a> InputReader<'a> {
                 Err(InputFault::Memory)
             }
         }
-    }
-
-    /// Ends the last line, and goes on at line 1 of another stream. After an error it is as after one of `finish`, and the
-    /// stream is the one that was to end.
-    pub fn next_stream(
-        &mut self,
-        name: &'a [u8],
-        user: &mut UserInput<'a>,
-        told: &mut Vec<u8>,
-    ) -> Result<(), InputFault>
-        requires { ArePlacesOf self.old.tree user.old.places }
-        ensures { AnswersEnd (record self.old { name = name.now; position = stream_start }) result self.old self.new user.old user.new told.old.items told.new.items }
-    {
-        self.finish(user, told)?;
-        self.stream.name = name;
-        self.line_buffer.number = 1;
-        Ok(())
     }
 }

@@ -4,7 +4,6 @@
 //! - [`kconf`]: the program; [`exit_status`] is the status that it ends with. [`kconf_with`]: the same over a device that the caller made.
 //! - [`kconf_over`]: the same over any folder and device. An [`Ended`] says how it ended.
 //! - [`Arguments`]: the arguments of the process.
-//! - [`showing_for`]: how diagnostics are shown.
 //! - [`SystemDevice`] and [`SystemFolder`]: the system calls for files, diagnostics and the files of a tree.
 //! - [`laws`]: how runs of many configurations end.
 
@@ -34,4 +33,3 @@ pub use device::SystemDevice;
 pub use ended::{Ended, kconf_over};
 pub use folder::SystemFolder;
 pub use program::{exit_status, kconf, kconf_with};
-pub use showing::showing_for;

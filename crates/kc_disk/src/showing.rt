@@ -53,9 +53,3 @@ pub(crate) fn showing_of(options: &Option<Options>) -> Showing {
         None => Showing::PLAIN,
     }
 }
-
-/// Returns how the diagnostics of a run with these arguments are shown: as they are, unless the arguments ask for something else
-/// (our own). Pass it to [`SystemDevice::show`](crate::SystemDevice::show) before the run.
-pub fn showing_for(alloc: Global, arguments: &Arguments) -> Showing {
-    showing_of(&shown_options(alloc, arguments))
-}

@@ -1,4 +1,4 @@
--- Trusted: What a form says.
+-- For proofs: What a form says.
 use Rattle.std.specs.Prelude.{List, ℕ}
 use Rattle.kc_hints.specs.declared.form.Form.{Form}
 
