@@ -10,7 +10,7 @@ use Rattle.kc_language.specs.Statements.{Cause, Numbered, Located, Named, statem
 use Rattle.kc_diagnostics.specs.Causes.{owned_cause}
 use Rattle.kc_language.specs.declared.diagnostics.Cause.TheVariants as cause
 use Rattle.kc_read.specs.declared.refusal.Refusal.{Refusal}
-use Rattle.kc_language.specs.Expansion.{Expands, Log, Refused, refused, Files, names_of, numbered_lines}
+use Rattle.kc_language.specs.Expansion.{Expands, ReadSoFar, Refused, refused_at, Files, mentioned_names, numbered_lines}
 use Rattle.kc_read.specs.PartsOfExpansion.{defined}
 use Rattle.kc_read.specs.Expansion.{OneExpansion}
 use Rattle.kc_read.specs.Entries.{lines_in}
@@ -46,7 +46,7 @@ refusal_codes names ls =
 
     one_code : (c : List ℕ → Cause) → ((n : List ℕ) → c n ≢ cause.Memory) → (i : ℕ) → All (λ r. r.cause ≢ cause.Memory) (refused_at names ls c i)
     one_code c ne i = All-map_each (λ (r : Refused). r.cause ≢ cause.Memory)
-        (λ (l : Located Numbered). refused (c (entry_name names (entry_symbol (menu_entry_at line_statements i)))) l.file l.line) (λ l. ne (entry_name names (entry_symbol (menu_entry_at line_statements i)))) (listed (slice_get ls i))
+        (λ (l : Located Numbered). refused_at (c (entry_name names (entry_symbol (menu_entry_at line_statements i)))) l.file l.line) (λ l. ne (entry_name names (entry_symbol (menu_entry_at line_statements i)))) (listed (slice_get ls i))
 
 not_memory : (rs : List Refused) (t : TreeFacts) (v : Refused) → All (λ r. r.cause ≢ cause.Memory) rs → Err v ≡ unless_refused rs t → v.cause ≢ cause.Memory
 not_memory [] t v a h = absurd cc
@@ -60,19 +60,19 @@ whole_by (r ∷ rs) t u h = absurd cc
 
 pub refused-memory : (ls : List (Located Named)) (r : Refusal) → Err (refusal_view r) ≡ tree_of_lines ls → IsMemory r
 refused-memory ls r h m =
-    absurd (not_memory (whole_list_refusals (names_of (statements ls)) (numbered_lines ls))
-    (facts_with (names_of (statements ls)) (numbered_lines ls)) (refusal_view r)
-    (refusal_codes (names_of (statements ls)) (numbered_lines ls)) h (ap owned_cause m))
+    absurd (not_memory (whole_list_refusals (mentioned_names (statements ls)) (numbered_lines ls))
+    (facts_with (mentioned_names (statements ls)) (numbered_lines ls)) (refusal_view r)
+    (refusal_codes (mentioned_names (statements ls)) (numbered_lines ls)) h (ap owned_cause m))
 
 -- the tree that lines give is well formed
-pub whole-formed : (ls : List (Located Named)) (t : TreeFacts) → AreNames (defined (statements ls)) → AreDistinct (names_of (statements ls)) → IsShaped ls → Ok t ≡ tree_of_lines ls → IsWellFormed t
+pub whole-formed : (ls : List (Located Named)) (t : TreeFacts) → AreNames (defined (statements ls)) → AreDistinct (mentioned_names (statements ls)) → IsShaped ls → Ok t ≡ tree_of_lines ls → IsWellFormed t
 whole-formed ls t known distinct shaped h =
-    let w = whole_by (whole_list_refusals (names_of (statements ls)) (numbered_lines ls)) t
-    (facts_with (names_of (statements ls)) (numbered_lines ls)) h in
+    let w = whole_by (whole_list_refusals (mentioned_names (statements ls)) (numbered_lines ls)) t
+    (facts_with (mentioned_names (statements ls)) (numbered_lines ls)) h in
     subst IsWellFormed (sym w.1) (well_formed ls known distinct shaped w.0)
 
 -- what the numbered lines of an expanded list give
-module _ (log : Log) (l : Listing) (h : IsListing log l) where
+module _ (log : ReadSoFar) (l : Listing) (h : IsListing log l) where
   abbrev line_statements : List Numbered
   line_statements = map (λ x. x.statement) (numbered_lines log.lines)
 
@@ -89,7 +89,7 @@ module _ (log : Log) (l : Listing) (h : IsListing log l) where
 
   pub lines-modules : l.modules ≡ modules_symbol l.names (statements_in l.entries)
   lines-modules =
-      h.modules_is ∙ ap (modules_symbol (names_of (statements log.lines))) statements_here
+      h.modules_is ∙ ap (modules_symbol (mentioned_names (statements log.lines))) statements_here
       ∙ ap (λ (ns : List (List ℕ)). modules_symbol ns (statements_in l.entries)) (sym h.names_are)
 
   pub lines-apart : (files : Files) (root : List ℕ) → Expands files root (Ok log) → AreChoicesApart (statements_in l.entries)
@@ -97,7 +97,7 @@ module _ (log : Log) (l : Listing) (h : IsListing log l) where
 
   pub lines-typed : (files : Files) (root : List ℕ) → Expands files root (Ok log) → AreTypesDefined (statements_in l.entries)
   lines-typed files root x =
-      subst AreTypesDefined statements_here (numbered_typed (number_of (names_of (statements log.lines))) log.lines (expanded_allowed files root log x))
+      subst AreTypesDefined statements_here (numbered_typed (number_of (mentioned_names (statements log.lines))) log.lines (expanded_allowed files root log x))
 
   pub lines-opened : (files : Files) (root : List ℕ) → Expands files root (Ok log) → AreMenusOpened (statements_in l.entries)
   lines-opened files root x =
@@ -115,5 +115,5 @@ module _ (log : Log) (l : Listing) (h : IsListing log l) where
 
 pub one-tree : OneExpansion → OneTree
 one-tree one files root r other x y =
-    let same : ◌≡◌ {A = Result Log Refused} x.0 y.0 = one files root x.0 y.0 x.1 y.1 in
+    let same : ◌≡◌ {A = Result ReadSoFar Refused} x.0 y.0 = one files root x.0 y.0 x.1 y.1 in
     x.2 ∙ ap tree_of_log same ∙ sym y.2

@@ -1,6 +1,6 @@
 -- The names of a tree are distinct, and so the tree of a root file is well formed.
 use Rattle.std.proofs.Common.{◌≡◌, ℕ, List, Result, Ok, Err}
-use Rattle.kc_language.specs.Expansion.{Expands, Log, Refused, Files}
+use Rattle.kc_language.specs.Expansion.{Expands, ReadSoFar, Refused, Files}
 use Rattle.kc_language.specs.Statements.{statements}
 use Rattle.kc_tree.specs.TreeFacts.{IsWellFormed}
 use Rattle.kc_language.specs.Symbols.{TreeFacts}
@@ -11,7 +11,7 @@ use Rattle.kc_read.proofs.DefinedLemmas.{expanded_known}
 use Rattle.kc_read.proofs.NumberingLemmas.{names-distinct}
 use Rattle.kc_read.proofs.WholeLemmas.{shaped}
 
-log-formed : (files : Files) (root : List ℕ) (tree : TreeFacts) (e : Result Log Refused) → Expands files root e → Ok tree ≡ tree_of_log e → IsWellFormed tree
+log-formed : (files : Files) (root : List ℕ) (tree : TreeFacts) (e : Result ReadSoFar Refused) → Expands files root e → Ok tree ≡ tree_of_log e → IsWellFormed tree
 log-formed files root tree (Ok log) expands is =
     whole-formed log.lines tree (expanded_known files root log expands) (names-distinct (statements log.lines)) (shaped files root log expands) is
 log-formed files root tree (Err r) expands is = absurd cc

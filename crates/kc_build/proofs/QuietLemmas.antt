@@ -21,7 +21,7 @@ use Rattle.kc_build.specs.declared.diagnostics.EntrySummary.{EntrySummary}
 use Rattle.kc_language.specs.declared.symbols.MenuEntry.{MenuEntry}
 use Rattle.kc_language.specs.declared.symbols.MenuEntry.TheVariants as menu_entry
 use Rattle.kc_build.specs.Diagnosed.{Diagnosis, line_diagnosed, lines_diagnosed}
-use Rattle.kc_language.specs.Symbols.{has_text, prompt_of, same_type, begun}
+use Rattle.kc_language.specs.Symbols.{holds_text, prompt_of, same_type, begun}
 use Rattle.kc_read.specs.PartsOfSymbols.{is_single, has_type, is_bad_default, is_bad_member, line_of, line_warnings_by}
 use Rattle.kc_build.specs.Passes.{statements_of}
 use Rattle.kc_build.specs.Quiet.{are_quiet, may_have_default, is_quiet_attribute, is_quiet_line}
@@ -92,8 +92,8 @@ module _ (symbols : List Symbol) (k : SymbolType) (prompted first : Bool) (withi
   of_same_type : (t : SymId) (o : SymbolType) → type_by symbols t ≡ k → same_type o k ≡ true → not (same_type o (type_by symbols t)) ≡ false
   of_same_type t o e h = ap (λ x. not (same_type o x)) e ∙ ap not h
 
-  allowed : (t : SymId) (v : Form) → type_by symbols t ≡ k → may_have_default k v ≡ true → ((has_text (type_by symbols t) || false) && not (is_single v)) ≡ false
-  allowed t v e h = ap (λ x. (has_text x || false) && not (is_single v)) e ∙ no_text (has_text k) (is_single v) h
+  allowed : (t : SymId) (v : Form) → type_by symbols t ≡ k → may_have_default k v ≡ true → ((holds_text (type_by symbols t) || false) && not (is_single v)) ≡ false
+  allowed t v e h = ap (λ x. (holds_text x || false) && not (is_single v)) e ∙ no_text (holds_text k) (is_single v) h
 
   of_symbol : (t : SymId) (s : Numbered) → type_by symbols t ≡ k → (prompted && is_some (prompt_of s)) ≡ false → is_quiet_attribute k s ≡ true → IsQuiet (menu_entry.Symbol t) s
   of_symbol t (ConfigLine u) e q h = absurd cc

@@ -8,12 +8,12 @@ use Rattle.kc_language.specs.declared.symbols.ChoiceId.{ChoiceId}
 use Rattle.kc_build.specs.declared.diagnostics.EntrySummary.{EntrySummary}
 use Rattle.kc_language.specs.declared.symbols.MenuEntry.{MenuEntry}
 use Rattle.kc_language.specs.declared.symbols.MenuEntry.TheVariants as menu_entry
-use Rattle.kc_language.specs.Symbols.{has_text, prompt_of, same_type}
+use Rattle.kc_language.specs.Symbols.{holds_text, prompt_of, same_type}
 use Rattle.kc_read.specs.PartsOfSymbols.{is_single}
 
 -- a symbol of this type may have this default
 abbrev pub may_have_default : SymbolType → Form → Bool
-may_have_default k v = not (has_text k) || is_single v
+may_have_default k v = not (holds_text k) || is_single v
 
 -- an attribute of a symbol of this type, prompts aside
 abbrev pub is_quiet_attribute : SymbolType → Numbered → Bool

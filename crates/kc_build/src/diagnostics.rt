@@ -213,7 +213,7 @@ fn is_bad_member(head: &Head, summary: EntrySummary, symbols: &[Symbol]) -> bool
 
 // The entry is that of a symbol whose value is a text.
 fn is_text_entry(entry: MenuEntry, symbols: &[Symbol]) -> bool
-    ensures { result ≡ list_any (λ t. facts.has_text (type_by symbols.now t)) (listed (facts.entry_symbol entry)) }
+    ensures { result ≡ list_any (λ t. facts.holds_text (type_by symbols.now t)) (listed (facts.entry_symbol entry)) }
 {
     match entry_symbol(entry) {
         Some(symbol) => has_text(type_of(symbols, symbol)),

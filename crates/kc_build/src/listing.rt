@@ -5,7 +5,7 @@ ghost use Rattle.std.specs.Prelude.{◌≡◌, ◌≢◌, IfOk, IfErr, Err, [], 
 ghost use Rattle.std.specs.Option.{option_or};
 ghost use Rattle.kc_language.specs.Expressions.{same_name, symbol};
 ghost use Rattle.kc_read.specs.Expanded.{IsExpansion};
-ghost use Rattle.kc_language.specs.Expansion.{Log, Expands, AreOpened};
+ghost use Rattle.kc_language.specs.Expansion.{ReadSoFar, Expands, AreOpened};
 ghost use Rattle.kc_read.specs.RefusalView.{IsMemory, refusal_view};
 ghost use Rattle.kc_language.specs.declared.diagnostics.Cause.TheVariants.{Memory};
 ghost use Rattle.kc_build.specs.Listings.{IsListing, IsListingOf};
@@ -50,8 +50,8 @@ fn modules_symbol(names: &Names, modules: Option<SymId>) -> Option<SymId>
 
 // The listing of an expansion.
 fn listing_of(names: Names, expansion: Expansion) -> RootReading
-    requires { (log : Log) × IsExpansion [] names log expansion }
-    ensures listing { (log : Log) → IsExpansion [] names log expansion → IsListing log result.listing }
+    requires { (log : ReadSoFar) × IsExpansion [] names log expansion }
+    ensures listing { (log : ReadSoFar) → IsExpansion [] names log expansion → IsListing log result.listing }
     ensures opened { result.opened ≡ expansion.opened }
 {
     let Expansion {

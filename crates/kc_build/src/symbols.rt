@@ -127,7 +127,7 @@ pub(crate) fn is_new(symbols: &[Symbol], symbol: SymId) -> bool
 
 /// The value of a symbol of this type is a text.
 pub(crate) fn has_text(symbol_type: SymbolType) -> bool
-    ensures { result ≡ facts.has_text symbol_type }
+    ensures { result ≡ facts.holds_text symbol_type }
 {
     matches!(
         symbol_type,

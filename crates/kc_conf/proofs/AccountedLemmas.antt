@@ -20,7 +20,7 @@ use Rattle.kc_language.specs.Symbols.{SymbolFacts, TreeFacts, Warning}
 use Rattle.kc_tree.specs.TreeFacts.{IsWellFormed}
 use Rattle.kc_build.specs.Trees.{TreesAreWellFormed}
 use Rattle.kc_language.specs.Values.{GivenValue, GivenTruth, GivenText, Member, SymbolPlace, same_given, same_tri, given_of, facts, name, type_in}
-use Rattle.kc_language.specs.{ConfigFile.{ArePlacesOf, Assigns, Effect, Line, Notation, Places, Silent, StreamLocation, UserInput, Warns, change_text, effect, input_after, is_reported, is_within, lines_of, meaning, place_at, plain_line, plain_location, reading, stream_location, warning, warning_line, warnings}}
+use Rattle.kc_language.specs.{ConfigFile.{ArePlacesOf, Assigns, Effect, Line, Notation, Places, Silent, StreamLocation, UserInput, Warns, change_text, effect, input_after, is_reported, is_within, lines_of, line_meaning, place_at, plain_line, plain_location, reading, stream_location, warning, located_warning_line, warnings}}
 use Rattle.kc_config_file.specs.PartsOfConfigFile.{change_line}
 use Rattle.kc_config_file.specs.PartsOfConfigFile.{type_of, before_too_long, effect_text, warning_line_if}
 use Rattle.kc_language.specs.Texts.{Solution, known, warnings as value_warnings, has_prompt, lost_at, lost_by, lost_lines, lost_of}
@@ -29,7 +29,7 @@ use Rattle.kc_language.specs.declared.diagnostics.Warning.TheVariants.{SetAgain}
 use Rattle.kc_config_file.specs.ReadingLaws.{LinesGiveInTurn, LinesInTurn}
 use Rattle.kc_conf.specs.Laws.{DoneAreWhole, HoldsLine, IsAccountedFor, IsSetAgain, NothingIsLost, RefusesNothing}
 use Rattle.kc_conf.specs.PartsOfLaws.{IsKeptOrWarned, LeavesAlone}
-use Rattle.kc_language.specs.Outcome.{Options, lead, Outcome, lines_text, lost_text, lost_warnings, names_of, reported, read_of, root_file, streams, warned_files, with_rule}
+use Rattle.kc_language.specs.Outcome.{Options, lead, Outcome, lines_text, lost_text, lost_warnings, input_names, reported, read_of, root_file, streams, warned_files, with_rule}
 use Rattle.kc_language.specs.Outcome.{fresh_input}
 use Rattle.kc_conf.specs.Computed.{explanation_lead}
 use Rattle.kc_conf.specs.Faults.{AreLines}
@@ -301,7 +301,7 @@ module _ (tree : TreeFacts) (prefix : Notation) (turn : LinesInTurn tree prefix)
 module _ (files : Files) (options : Options) (all : List (List ℕ)) (tree : TreeFacts) (solution : Solution)
     (is_whole : RefusesNothing files options all tree solution) where
   abbrev lines : List Line
-  lines = lines_of (streams (names_of options) all)
+  lines = lines_of (streams (input_names options) all)
 
   abbrev prefix : Notation
   prefix = options.prefix
@@ -452,7 +452,7 @@ module _ (files : Files) (options : Options) (all : List (List ℕ)) (tree : Tre
         had_then = subst (λ (q : UserInput). Has q s.0 given (stream_location l)) mid_is had
 
         abbrev first : List ℕ
-        first = warning_line m.stream m.number (SetAgain (name tree s))
+        first = located_warning_line m.stream m.number (SetAgain (name tree s))
 
         abbrev change : List ℕ
         change = change_text prefix.is_raw (stream_location m) (name tree s) (type_of tree s) (Some given) (Some from) other
@@ -493,13 +493,13 @@ module _ (files : Files) (options : Options) (all : List (List ℕ)) (tree : Tre
     each_accounted_for : (before later : List Line) (l : Line) → lines ≡ before ++ l ∷ later → IsAccountedFor tree prefix (lead options) solution outcome.warned l later (effect tree prefix l)
     each_accounted_for before later l split = by (effect tree prefix l) refl where
       by : (e : Effect) → effect tree prefix l ≡ e → IsAccountedFor tree prefix (lead options) solution outcome.warned l later e
-      by Silent is_effect = silent_says prefix.is_raw tree (meaning tree prefix l) (effect_is tree prefix l ∙ is_effect)
+      by Silent is_effect = silent_says prefix.is_raw tree (line_meaning tree prefix l) (effect_is tree prefix l ∙ is_effect)
       by (Warns line_warning) is_effect =
-          stands_within [] (warning_line l.stream l.number line_warning) [] outcome.warned AreLines-nothing
+          stands_within [] (located_warning_line l.stream l.number line_warning) [] outcome.warned AreLines-nothing
           (subst (λ b. StandsIn (warning_line_if l.stream l.number (if b then Some line_warning else None) ++ []) outcome.warned)
           (ap (λ b. is_reported b line_warning) asked ∙ all_reported line_warning) (line_told before later l (Warns line_warning) split is_effect))
       by (Assigns s given) is_effect =
-          let (f, defined, typed) = assigned_typed prefix.is_raw tree (meaning tree prefix l) s given (effect_is tree prefix l ∙ is_effect) in
+          let (f, defined, typed) = assigned_typed prefix.is_raw tree (line_meaning tree prefix l) s given (effect_is tree prefix l ∙ is_effect) in
           (f, defined, heard before later l split s given is_effect f defined typed)
 
 pub nothing_lost : TreesAreWellFormed → DoneAreWhole → LinesGiveInTurn → NothingIsLost

@@ -2,7 +2,7 @@
 use Rattle.std.proofs.Common.{◌≡◌, ℕ, map, Bool, true, false, List, [], ◌∷◌, ◌++◌, codes, refl, sym, ap, subst, ◌∙◌, append_assoc, append-nil, Option, Some, None}
 use Rattle.std.specs.Prelude.{decimal, if◌then◌else◌, ◌&&◌}
 use Rattle.kc_language.specs.Statements.{cause_text}
-use Rattle.kc_language.specs.Outcome.{Options, run_error_text, lead, first_line, refusal_line, IsLenientOutcome, IsOutcomeOfReading, Outcome, accepted_tree, has_text, is_done, lines_text, long_line, lost_text, names_of, near_text, reported, read_of, refused, refused_name, refused_tree, streams, strictly, unknown_symbol, whole, refused_if, warned_files, refuses_input}
+use Rattle.kc_language.specs.Outcome.{Options, run_error_text, lead, first_line, refusal_line, IsLenientOutcome, IsOutcomeOfReading, Outcome, accepted_tree, is_not_empty, is_done, lines_text, long_line, lost_text, input_names, near_text, reported, read_of, refused_outcome, refused_name, refused_tree, streams, strictly, unknown_symbol, whole, refused_if, warned_files, refuses_input}
 use Rattle.kc_conf.specs.PartsOfOutcome.{error_if_at, too_long_line, unknown_line, unreadable_line}
 use Rattle.kc_language.specs.Outcome.{fresh_input}
 use Rattle.kc_conf.specs.Faults.{AreLines}
@@ -45,18 +45,18 @@ AddsLines-reported : (text : List ℕ) (outcome : Outcome) → AreLines text →
 AddsLines-reported text outcome lines (warned, refusal) = (AreLines-append text outcome.warned lines warned, refusal)
 
 if_strict : (options : Options) (b : Bool) (outcome : Outcome) → AddsLines outcome → AddsLines (refused_if options b outcome)
-if_strict options true outcome adds = (adds.0, AreLines-ended (lead options) strict_line (codes "error E21: warnings are refused", refl))
+if_strict options true outcome adds = (adds.0, AreLines-ended (lead options) strict_line (codes "error E21: warnings are refused_outcome", refl))
 if_strict options false outcome adds = adds
 
 of_reading : (files : Files) (options : Options) (tree : TreeFacts) (lines : List (Located Numbered)) (all : List (List ℕ)) (outcome : Outcome) →
     IsOutcomeOfReading files options tree lines (read_of options tree all) outcome → AddsLines outcome
 of_reading files options tree lines all outcome (long_line stop stopped is) =
-    subst AddsLines (sym is) (AddsLines-reported (read_of options tree all).warned (refused (too_long_line stop))
-    (AreLines-reading tree options.prefix (lines_of (streams (names_of options) all)) (fresh_input options tree)) (AreLines-nothing, AreLines-too_long stop))
+    subst AddsLines (sym is) (AddsLines-reported (read_of options tree all).warned (refused_outcome (too_long_line stop))
+    (AreLines-reading tree options.prefix (lines_of (streams (input_names options) all)) (fresh_input options tree)) (AreLines-nothing, AreLines-too_long stop))
 of_reading files options tree lines all outcome (whole solution none solves is) =
     let input = (read_of options tree all).input in
     subst AddsLines (sym is) (AddsLines-reported (read_of options tree all).warned (outcome_of files options tree lines input solution)
-    (AreLines-reading tree options.prefix (lines_of (streams (names_of options) all)) (fresh_input options tree))
+    (AreLines-reading tree options.prefix (lines_of (streams (input_names options) all)) (fresh_input options tree))
     (if_strict options (refuses_input options input solution) (warned_files files options tree lines input solution) (
       AreLines-append (lines_text (map (λ line. lead options ++ line) (warnings solution))) (lost_text options lines input solution)
           (map (λ line. lead options ++ line) (warnings solution), refl) (AreLines-lost options lines input solution),
@@ -84,5 +84,5 @@ diagnostics_are_lines files options all outcome (lenient, opened, is_lenient, ar
     let strict = strictly options lenient in
     let adds = subst AddsLines (sym is)
     (if_ruled (is_done strict.status) options opened strict
-    (if_strict options (is_done lenient.status && (options.strict_tree && has_text lenient.warned)) lenient (of_lenient files options opened all lenient is_lenient))) in
+    (if_strict options (is_done lenient.status && (options.strict_tree && is_not_empty lenient.warned)) lenient (of_lenient files options opened all lenient is_lenient))) in
     AreLines-append outcome.warned outcome.refusal adds.0 adds.1

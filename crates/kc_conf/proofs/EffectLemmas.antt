@@ -1,6 +1,6 @@
 -- What a line says and does: only a line that says nothing is silent, and what has a value has a type.
 use Rattle.std.proofs.Common.{◌≡◌, ◌≢◌, true, Bool, List, ℕ, Option, Some, None, refl, subst}
-use Rattle.kc_language.specs.ConfigFile.{Assigns, Line, LineMeaning, Malformed, Notation, Nothing, Set, Silent, Unset, effect, effect_of, is_reported, meaning, set_by_type, symbol_named, unset_by_type}
+use Rattle.kc_language.specs.ConfigFile.{Assigns, Line, LineMeaning, Malformed, Notation, Nothing, Set, Silent, Unset, effect, effect_of, is_reported, line_meaning, set_by_type, symbol_named, unset_by_type}
 use Rattle.kc_language.specs.Symbols.{SymbolFacts, TreeFacts, Warning}
 use Rattle.kc_language.specs.Values.{GivenValue, facts, type_in}
 use Rattle.kc_language.specs.declared.diagnostics.Warning.TheVariants as warning
@@ -9,7 +9,7 @@ use Rattle.kc_language.specs.declared.expressions.SymbolType.{SymbolType}
 use Rattle.kc_language.specs.declared.expressions.SymbolType.TheVariants as symbol_type
 use Rattle.kc_config_file.specs.PartsOfConfigFile.{assigned_or, line_value, set_effect, unset_effect}
 
-pub effect_is : (tree : TreeFacts) (prefix : Notation) (l : Line) → effect_of prefix.is_raw tree (meaning tree prefix l) ≡ effect tree prefix l
+pub effect_is : (tree : TreeFacts) (prefix : Notation) (l : Line) → effect_of prefix.is_raw tree (line_meaning tree prefix l) ≡ effect tree prefix l
 unfolding effect
 effect_is tree prefix l = refl
 

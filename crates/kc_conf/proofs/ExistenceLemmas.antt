@@ -6,7 +6,7 @@ use Rattle.kc_language.specs.declared.expressions.SymId.{SymId}
 use Rattle.std.proofs.lemmas.List.FromFn.{get_or-map-range_with_len, length-map-range_with_len}
 use Rattle.kc_language.specs.Expressions.{SymbolValue, TextValue}
 use Rattle.kc_language.specs.declared.expressions.SymbolType.TheVariants.{Undefined}
-use Rattle.kc_language.specs.Expansion.{AreOpened, Log, Refused, Files, numbered_lines}
+use Rattle.kc_language.specs.Expansion.{AreOpened, ReadSoFar, Refused, Files, numbered_lines}
 use Rattle.kc_read.specs.OpenedFiles.{OpenedAreOneList}
 use Rattle.kc_read.specs.Existing.{HasOneExpansion}
 use Rattle.kc_language.specs.Symbols.{TreeFacts, IsTreeOf}
@@ -20,7 +20,7 @@ use Rattle.kc_values.specs.Laws.{AcceptedHaveOneSolution, EquationsReadNeeds, Ne
 use Rattle.kc_language.specs.Needs.{needs, needs_of, loop_text, loop_refused}
 use Rattle.kc_language.specs.Texts.{Solution, value_of}
 use Rattle.kc_config_file.specs.Streams.{StreamsLeavePlaces}
-use Rattle.kc_language.specs.Outcome.{Options, fresh_input, lead, refusal_line, IsAcceptedTree, IsLenientOutcome, IsOutcome, IsOutcomeOfReading, IsRefusedTree, Outcome, accepted_tree, lines_text, long_line, looped, names_of, no_tree, reported, read_of, refused, refused_name, refused_tree, root_file, streams, strictly, unknown_name, unknown_symbol, unreadable_name, whole, with_rule}
+use Rattle.kc_language.specs.Outcome.{Options, fresh_input, lead, refusal_line, IsAcceptedTree, IsLenientOutcome, IsOutcome, IsOutcomeOfReading, IsRefusedTree, Outcome, accepted_tree, lines_text, long_line, looped, input_names, no_tree, reported, read_of, refused_outcome, refused_name, refused_tree, root_file, streams, strictly, unknown_name, unknown_symbol, unreadable_name, whole, with_rule}
 use Rattle.kc_conf.specs.PartsOfOutcome.{too_long_line, unknown_line, unreadable_line}
 use Rattle.kc_conf.specs.PartsOfOutcome.{outcome_of}
 use Rattle.kc_conf.specs.LawSteps.{SolutionExists}
@@ -93,13 +93,13 @@ ended files options opened all lenient are is =
     (with_rule options opened (strictly options lenient), (lenient, opened, is, are, refl))
 
 module _ (opens : OpenedAreOneList) (formed : TreesAreWellFormed) (leaves : StreamsLeavePlaces) (solved : SolutionExists) where
-  of_stop : (files : Files) (options : Options) (all : List (List ℕ)) (tree : TreeFacts) (log : Log) → IsAcceptedTree files (root_file options) tree →
+  of_stop : (files : Files) (options : Options) (all : List (List ℕ)) (tree : TreeFacts) (log : ReadSoFar) → IsAcceptedTree files (root_file options) tree →
       (stopped : Option StreamLocation) → (read_of options tree all).stopped ≡ stopped →
       (rest : Outcome) × IsOutcomeOfReading files options tree (numbered_lines log.lines) (read_of options tree all) rest
-  of_stop files options all tree log accepted (Some stop) is = (reported (read_of options tree all).warned (refused (too_long_line stop)), long_line stop is refl)
+  of_stop files options all tree log accepted (Some stop) is = (reported (read_of options tree all).warned (refused_outcome (too_long_line stop)), long_line stop is refl)
   of_stop files options all tree log accepted None is =
       let held : ArePlaces tree (read_of options tree all).input.places =
-      leaves tree options.prefix (options.warn_lost || is_some options.explanation) (fresh_input options tree).gone options.warn_lost (lead options) (streams (names_of options) all) (formed files (root_file options) tree accepted.built) in
+      leaves tree options.prefix (options.warn_lost || is_some options.explanation) (fresh_input options tree).gone options.warn_lost (lead options) (streams (input_names options) all) (formed files (root_file options) tree accepted.built) in
       let (solution, for) = solved tree (read_of options tree all).input.places accepted.accepted held.there in (
         reported (read_of options tree all).warned (outcome_of files options tree (numbered_lines log.lines) (read_of options tree all).input solution),
         whole solution is for refl,
@@ -112,9 +112,9 @@ module _ (opens : OpenedAreOneList) (formed : TreesAreWellFormed) (leaves : Stre
     where
       by : (opened : List (List ℕ)) → AreOpened files (root_file options) opened → (found unknown : Option (List ℕ)) → unreadable_name options opened ≡ found → unknown_name options tree ≡ unknown →
           (outcome : Outcome) × IsOutcome files options all outcome
-      by opened are (Some name) unknown unread is = ended files options opened all (refused (lead options ++ unreadable_line name)) are (refused_name tree name accepted unread refl)
+      by opened are (Some name) unknown unread is = ended files options opened all (refused_outcome (lead options ++ unreadable_line name)) are (refused_name tree name accepted unread refl)
       by opened are None (Some asked) read is =
-          ended files options opened all (refused (lead options ++ unknown_line tree asked)) are (unknown_symbol tree asked accepted read is refl)
+          ended files options opened all (refused_outcome (lead options ++ unknown_line tree asked)) are (unknown_symbol tree asked accepted read is refl)
       by opened are None None read known =
           let (log, expands) = expansion_of files (root_file options) tree accepted in
           let (rest, part) = of_stop files options all tree log accepted (read_of options tree all).stopped refl in
@@ -125,5 +125,5 @@ module _ (opens : OpenedAreOneList) (formed : TreesAreWellFormed) (leaves : Stre
     | inl a ↦ accepted_outcome files options all a.0 a.1
     | inr b ↦
         let (opened, are, only) = opens files (root_file options) in
-        ended files options opened all (refused (refusal_line b.0)) are (refused_tree b.0 b.1 refl)
+        ended files options opened all (refused_outcome (refusal_line b.0)) are (refused_tree b.0 b.1 refl)
   ]

@@ -1,6 +1,6 @@
 -- Over files that expand alike, trees, refusals, outcomes and runs are the same.
 use Rattle.std.proofs.Common.{◌≡◌, ◌⊎◌, inl, inr, ℕ, suc, Bool, List, Result, Ok, ap, subst, sym, ◌∙◌}
-use Rattle.kc_language.specs.Expansion.{AreOpened, Expands, Files, Log as TreeLog, Refused, numbered_lines}
+use Rattle.kc_language.specs.Expansion.{AreOpened, Expands, Files, ReadSoFar as TreeLog, Refused, numbered_lines}
 use Rattle.kc_language.specs.Symbols.{TreeFacts, IsTreeOf}
 use Rattle.kc_io.specs.Log.{Event, Log}
 use Rattle.kc_load.specs.Loading.{ExpandsAlike}

@@ -15,7 +15,7 @@ use Rattle.kc_config_file.specs.Feeding.{stream_start}
 use Rattle.kc_language.specs.Texts.{HasShortLines}
 use Rattle.kc_config_file.specs.ReaderState.{ReaderState}
 use Rattle.kc_config_file.specs.Reading.{with_warnings}
-use Rattle.kc_language.specs.Outcome.{Options, input_files, lead, names_of, streams}
+use Rattle.kc_language.specs.Outcome.{Options, input_files, lead, input_names, streams}
 use Rattle.kc_options.specs.PartsOfOutcome.{holds_warnings}
 use Rattle.kc_language.specs.Outcome.{fresh_input}
 use Rattle.kc_conf.specs.Faults.{AreLines}
@@ -164,7 +164,7 @@ places-fresh options tree input fresh =
     (record { symbols = length-replicate (length tree.symbols) None; choices = length-replicate (length tree.choices) None })
 
 -- one name for each file
-pub names-count : (options : Options) → length (names_of options) ≡ length (input_files options)
+pub names-count : (options : Options) → length (input_names options) ≡ length (input_files options)
 names-count options =
     ap suc (length-map options.fragments.items (λ name. lead options ++ string_bytes name) ∙ sym (length-map options.fragments.items string_bytes))
 
@@ -192,7 +192,7 @@ module _ (options : Options) (tree : TreeFacts) where
     there = All-nil (IsThere (still_told stand.log stand.log));
     short = All-nil HasShortLines;
     warned = [];
-    goes = λ more. ap (λ ls. reading tree options.prefix stand.input (lines_of ls ++ more)) (streams-none (names_of options));
+    goes = λ more. ap (λ ls. reading tree options.prefix stand.input (lines_of ls ++ more)) (streams-none (input_names options));
     warns = warns-done [] stand stand refl (leads_nothing stand.log);
   }
 
@@ -212,7 +212,7 @@ module _ (options : Options) (tree : TreeFacts) where
     there = λ i file is turn. there-each (still_told old.log new.log) so_far.files i file so_far.there is;
     warned = so_far.warned;
     reading_is =
-        let lines = lines_of (streams (names_of options) (bytes_of so_far.files)) in
+        let lines = lines_of (streams (input_names options) (bytes_of so_far.files)) in
         ap (reading tree options.prefix old.input) (sym (append-nil lines)) ∙ so_far.goes [] ∙ ap (with_warnings so_far.warned) (nothing new.input)
         ∙ ap (λ w. ended_with new.input w None) (append-nil so_far.warned);
     log = subst (λ h. Leads (reads so_far.files) (said_now h so_far.warned) old.log new.log) (sym so_far.warns.holds) so_far.warns.log;
@@ -221,7 +221,7 @@ module _ (options : Options) (tree : TreeFacts) where
 
   -- For the files before this one.
   module _ (count : ℕ) (stream name : List ℕ) (old mid : Stand) (so_far : ReadsSoFar options tree count old mid) (within : count < length (input_files options))
-      (stream_is : get_or (names_of options) count [] ≡ stream) (name_is : get_or (input_files options) count [] ≡ name) where
+      (stream_is : get_or (input_names options) count [] ≡ stream) (name_is : get_or (input_files options) count [] ≡ name) where
     abbrev reader : ReaderState
     reader = record { tree = tree; prefix = options.prefix; name = stream; position = stream_start; refusal = None }
 
@@ -229,22 +229,22 @@ module _ (options : Options) (tree : TreeFacts) where
     may = may_at (not options.must_exist) count
 
     abbrev later_streams : List (List ℕ)
-    later_streams = drop (count + 1) (names_of options)
+    later_streams = drop (count + 1) (input_names options)
 
-    at-stream : drop (length (bytes_of so_far.files)) (names_of options) ≡ stream ∷ later_streams
+    at-stream : drop (length (bytes_of so_far.files)) (input_names options) ≡ stream ∷ later_streams
     at-stream =
-        ap (λ n. drop n (names_of options)) (length-map so_far.files (λ (f : InputFile). f.bytes) ∙ so_far.counted)
-        ∙ drop_more (names_of options) count [] (let e = names-count options in omega (arith, within, e))
+        ap (λ n. drop n (input_names options)) (length-map so_far.files (λ (f : InputFile). f.bytes) ∙ so_far.counted)
+        ∙ drop_more (input_names options) count [] (let e = names-count options in omega (arith, within, e))
         ∙ ap (λ n. n ∷ later_streams) stream_is
 
     -- the lines of this stream stand behind those before it
-    lines-at : (bytes : List ℕ) (left : List (List ℕ)) → lines_of (streams (names_of options) (bytes_of so_far.files ++ bytes ∷ left))
-        ≡ lines_of (streams (names_of options) (bytes_of so_far.files)) ++ (lines_from stream 1 bytes ++ lines_of (streams later_streams left))
+    lines-at : (bytes : List ℕ) (left : List (List ℕ)) → lines_of (streams (input_names options) (bytes_of so_far.files ++ bytes ∷ left))
+        ≡ lines_of (streams (input_names options) (bytes_of so_far.files)) ++ (lines_from stream 1 bytes ++ lines_of (streams later_streams left))
     lines-at bytes left =
-        ap lines_of (streams-more (names_of options) (bytes_of so_far.files) left later_streams stream bytes at-stream)
-        ∙ flat_map-append (λ (s : Stream). lines_from s.name 1 s.bytes) (streams (names_of options) (bytes_of so_far.files)) (record { name = stream; bytes = bytes } ∷ streams later_streams left)
+        ap lines_of (streams-more (input_names options) (bytes_of so_far.files) left later_streams stream bytes at-stream)
+        ∙ flat_map-append (λ (s : Stream). lines_from s.name 1 s.bytes) (streams (input_names options) (bytes_of so_far.files)) (record { name = stream; bytes = bytes } ∷ streams later_streams left)
 
-    goes-at : (bytes : List ℕ) (left : List (List ℕ)) → reading tree options.prefix old.input (lines_of (streams (names_of options) (bytes_of so_far.files ++ bytes ∷ left)))
+    goes-at : (bytes : List ℕ) (left : List (List ℕ)) → reading tree options.prefix old.input (lines_of (streams (input_names options) (bytes_of so_far.files ++ bytes ∷ left)))
         ≡ with_warnings so_far.warned (reading tree options.prefix mid.input (lines_from stream 1 bytes ++ lines_of (streams later_streams left)))
     goes-at bytes left = ap (reading tree options.prefix old.input) (lines-at bytes left) ∙ so_far.goes (lines_from stream 1 bytes ++ lines_of (streams later_streams left))
 
@@ -297,22 +297,22 @@ module _ (options : Options) (tree : TreeFacts) where
           let before : j < length (bytes_of so_far.files) = let c = so_far.counted in let l = length-map so_far.files (λ (f : InputFile). f.bytes) in omega (arith, below, c, l) in
           subst HasShortLines (sym (ap (λ bs. get_or bs j []) bytes-inputs ∙ get_or_append_left (bytes_of so_far.files) (file.bytes ∷ bytes_of later) [] j before)) (so_far.short j [] before)
 
-      goes-inputs : reading tree options.prefix old.input (lines_of (streams (names_of options) (bytes_of inputs)))
+      goes-inputs : reading tree options.prefix old.input (lines_of (streams (input_names options) (bytes_of inputs)))
           ≡ with_warnings so_far.warned (reading tree options.prefix mid.input (lines_from stream 1 file.bytes ++ lines_of (streams later_streams (bytes_of later))))
-      goes-inputs = ap (λ bs. reading tree options.prefix old.input (lines_of (streams (names_of options) bs))) bytes-inputs ∙ goes-at file.bytes (bytes_of later)
+      goes-inputs = ap (λ bs. reading tree options.prefix old.input (lines_of (streams (input_names options) bs))) bytes-inputs ∙ goes-at file.bytes (bytes_of later)
 
       -- what was done of this file and said of it, behind the files before it
       stops-as : old.input ≡ fresh_input options tree → old.waiting.holds ≡ holds_warnings options → (stop : Stop) (done : List Event) (front : List ℕ) →
           StopsFile reader file mid.waiting.holds mid.input stop done front →
-          StopsInputs (still_told old.log new.log) options tree inputs (reading tree options.prefix old.input (lines_of (streams (names_of options) (bytes_of inputs)))).warned stop (reads so_far.files ++ done)
+          StopsInputs (still_told old.log new.log) options tree inputs (reading tree options.prefix old.input (lines_of (streams (input_names options) (bytes_of inputs)))).warned stop (reads so_far.files ++ done)
           (said_now old.waiting.holds so_far.warned ++ front)
       stops-as fresh holds _ _ _ (in_lines stop done left front split stops) =
-          stops-inputs (still_told old.log new.log) options tree inputs old.waiting.holds stop (reading tree options.prefix old.input (lines_of (streams (names_of options) (bytes_of inputs)))).warned (reads so_far.files ++ done)
+          stops-inputs (still_told old.log new.log) options tree inputs old.waiting.holds stop (reading tree options.prefix old.input (lines_of (streams (input_names options) (bytes_of inputs)))).warned (reads so_far.files ++ done)
           (left ++ reads later) (said_now old.waiting.holds so_far.warned ++ front)
           (append_assoc (reads so_far.files) done (left ++ reads later)
           ∙ ap (λ es. reads so_far.files ++ es) (sym (append_assoc done left (reads later)) ∙ ap (λ es. es ++ reads later) split)
           ∙ sym (flat_map-append reads_one so_far.files (file ∷ later)))
-          (stops-behind-warns stop so_far.warned front (reads so_far.files) old mid (reading tree options.prefix old.input (lines_of (streams (names_of options) (bytes_of inputs))))
+          (stops-behind-warns stop so_far.warned front (reads so_far.files) old mid (reading tree options.prefix old.input (lines_of (streams (input_names options) (bytes_of inputs))))
           (reading tree options.prefix mid.input (lines_from stream 1 file.bytes ++ lines_of (streams later_streams (bytes_of later)))) so_far.warns goes-inputs
           (stops (lines_of (streams later_streams (bytes_of later)))))
       stops-as fresh holds _ _ _ (in_file f done front action called part) =
@@ -332,9 +332,9 @@ module _ (options : Options) (tree : TreeFacts) where
                 let rest = (reading tree options.prefix mid.input (ended_lines stream part.bytes)).warned in
                 let warned : so_far.warned ++ rest ≡ warned_by options tree inputs count part.bytes =
                 sym (ap (λ (r : ReadResult). r.warned) (so_far.goes (ended_lines stream part.bytes)))
-                ∙ ap (λ i. (reading tree options.prefix i (lines_of (streams (names_of options) (bytes_of so_far.files)) ++ ended_lines stream part.bytes)).warned) fresh
-                ∙ ap (λ (fs : List InputFile). (reading tree options.prefix (fresh_input options tree) (lines_of (streams (names_of options) (bytes_of fs)) ++ ended_lines stream part.bytes)).warned) (sym take-inputs)
-                ∙ ap (λ n. (reading tree options.prefix (fresh_input options tree) (lines_of (streams (names_of options) (bytes_of (take count inputs))) ++ ended_lines n part.bytes)).warned) (sym stream_is) in
+                ∙ ap (λ i. (reading tree options.prefix i (lines_of (streams (input_names options) (bytes_of so_far.files)) ++ ended_lines stream part.bytes)).warned) fresh
+                ∙ ap (λ (fs : List InputFile). (reading tree options.prefix (fresh_input options tree) (lines_of (streams (input_names options) (bytes_of fs)) ++ ended_lines stream part.bytes)).warned) (sym take-inputs)
+                ∙ ap (λ n. (reading tree options.prefix (fresh_input options tree) (lines_of (streams (input_names options) (bytes_of (take count inputs))) ++ ended_lines n part.bytes)).warned) (sym stream_is) in
                 ap (λ t. said_now old.waiting.holds so_far.warned ++ t) (part.front_is ∙ ap (λ h. said_now h rest) so_far.warns.holds)
                 ∙ said-both old.waiting.holds so_far.warned rest
                 ∙ ap (λ h. said_now h (so_far.warned ++ rest)) holds
@@ -361,13 +361,13 @@ module _ (options : Options) (tree : TreeFacts) where
               (short-stream tree options.prefix stream file.file.bytes mid.input new.input file.warned file.goes));
           warned = so_far.warned ++ file.warned;
           goes = λ more.
-              let lines : lines_of (streams (names_of options) (bytes_of (so_far.files ++ file.file ∷ []))) ≡ lines_of (streams (names_of options) (bytes_of so_far.files)) ++ lines_from stream 1 file.file.bytes =
-              ap (λ bs. lines_of (streams (names_of options) bs)) (map-append (λ (f : InputFile). f.bytes) so_far.files (file.file ∷ []))
+              let lines : lines_of (streams (input_names options) (bytes_of (so_far.files ++ file.file ∷ []))) ≡ lines_of (streams (input_names options) (bytes_of so_far.files)) ++ lines_from stream 1 file.file.bytes =
+              ap (λ bs. lines_of (streams (input_names options) bs)) (map-append (λ (f : InputFile). f.bytes) so_far.files (file.file ∷ []))
               ∙ lines-at file.file.bytes []
-              ∙ ap (λ ls. lines_of (streams (names_of options) (bytes_of so_far.files)) ++ (lines_from stream 1 file.file.bytes ++ lines_of ls)) (streams-none later_streams)
-              ∙ ap (λ ls. lines_of (streams (names_of options) (bytes_of so_far.files)) ++ ls) (append-nil (lines_from stream 1 file.file.bytes)) in
+              ∙ ap (λ ls. lines_of (streams (input_names options) (bytes_of so_far.files)) ++ (lines_from stream 1 file.file.bytes ++ lines_of ls)) (streams-none later_streams)
+              ∙ ap (λ ls. lines_of (streams (input_names options) (bytes_of so_far.files)) ++ ls) (append-nil (lines_from stream 1 file.file.bytes)) in
               ap (λ ls. reading tree options.prefix old.input (ls ++ more)) lines
-              ∙ ap (reading tree options.prefix old.input) (append_assoc (lines_of (streams (names_of options) (bytes_of so_far.files))) (lines_from stream 1 file.file.bytes) more)
+              ∙ ap (reading tree options.prefix old.input) (append_assoc (lines_of (streams (input_names options) (bytes_of so_far.files))) (lines_from stream 1 file.file.bytes) more)
               ∙ so_far.goes (lines_from stream 1 file.file.bytes ++ more)
               ∙ ap (with_warnings so_far.warned) (file.goes more)
               ∙ with_warnings-both so_far.warned file.warned (reading tree options.prefix new.input more);
@@ -420,13 +420,13 @@ module _ (options : Options) (tree : TreeFacts) where
 
 -- ---- the names of the streams
 
-pub within-inputs : (options : Options) (names : List (Vec ℕ Global)) (i : ℕ) → map (λ (name : Vec ℕ Global). name.items) names ≡ names_of options → i < length names → i < length (input_files options)
+pub within-inputs : (options : Options) (names : List (Vec ℕ Global)) (i : ℕ) → map (λ (name : Vec ℕ Global). name.items) names ≡ input_names options → i < length names → i < length (input_files options)
 within-inputs options names i are within =
     let same = ap length are in let count = names-count options in let mapped = length-map names (λ (name : Vec ℕ Global). name.items) in
     omega (arith, within, same, count, mapped)
 
-pub stream-at : (options : Options) (names : List (Vec ℕ Global)) (i : ℕ) (name : Vec ℕ Global) (stream : List ℕ) → map (λ (name : Vec ℕ Global). name.items) names ≡ names_of options → i < length names →
-    name ≡ get_or names i name → stream ≡ name.items → get_or (names_of options) i [] ≡ stream
+pub stream-at : (options : Options) (names : List (Vec ℕ Global)) (i : ℕ) (name : Vec ℕ Global) (stream : List ℕ) → map (λ (name : Vec ℕ Global). name.items) names ≡ input_names options → i < length names →
+    name ≡ get_or names i name → stream ≡ name.items → get_or (input_names options) i [] ≡ stream
 stream-at options names i name stream are within is same =
     ap (λ ns. get_or ns i []) (sym are) ∙ get_or-map (λ (name : Vec ℕ Global). name.items) names i name [] within
     ∙ ap (λ (n : Vec ℕ Global). n.items) (sym is) ∙ sym same

@@ -1,7 +1,7 @@
 -- What a run leaves behind the tree's warnings, by how its input files were read.
 use Rattle.std.proofs.Common.{◌≡◌, ℕ, Bool, true, false, List, [], ◌++◌, refl, sym, ap, subst, ◌∙◌, append_assoc, append-nil, Option, None, Some, Result, Err}
 use Rattle.std.specs.Prelude.{◌||◌, if◌then◌else◌, Ok}
-use Rattle.kc_language.specs.Expansion.{AreOpened, Expands, Files, Log as TreeLog, numbered_lines}
+use Rattle.kc_language.specs.Expansion.{AreOpened, Expands, Files, ReadSoFar as TreeLog, numbered_lines}
 use Rattle.kc_language.specs.Statements.{Located, Numbered}
 use Rattle.kc_language.specs.Symbols.{TreeFacts}
 use Rattle.kc_io.specs.Log.{Event, Log, Leads}
@@ -9,7 +9,7 @@ use Rattle.kc_io.specs.Delivery.{NamedText}
 use Rattle.kc_io.proofs.LogLemmas.{leads_nothing}
 use Rattle.kc_language.specs.ConfigFile.{ReadResult, StreamLocation, UserInput, lines_of, reading}
 use Rattle.kc_language.specs.Text.{BeginsWith}
-use Rattle.kc_language.specs.Outcome.{Options, names_of, IsAcceptedTree, IsOutcomeOfReading, Outcome, has_text, lines_text, names_listed, reported, read_of, refused, root_file, streams}
+use Rattle.kc_language.specs.Outcome.{Options, input_names, IsAcceptedTree, IsOutcomeOfReading, Outcome, is_not_empty, lines_text, names_listed, reported, read_of, refused_outcome, root_file, streams}
 use Rattle.kc_options.specs.PartsOfOutcome.{holds_warnings}
 use Rattle.kc_conf.specs.PartsOfOutcome.{too_long_line}
 use Rattle.kc_language.specs.Outcome.{fresh_input}
@@ -67,13 +67,13 @@ strict-holds options e = ap (λ b. options.strict || b) e ∙ by options.strict
 module _ (options : Options) (tree : TreeFacts) where
   -- where nothing was given before
   read-is : (inputs : List InputFile) (before after : UserInput) (warned : List ℕ) (stopped : Option StreamLocation) → before ≡ fresh_input options tree →
-      reading tree options.prefix before (lines_of (streams (names_of options) (bytes_of inputs))) ≡ ended_with after warned stopped → read_of options tree (bytes_of inputs) ≡ ended_with after warned stopped
+      reading tree options.prefix before (lines_of (streams (input_names options) (bytes_of inputs))) ≡ ended_with after warned stopped → read_of options tree (bytes_of inputs) ≡ ended_with after warned stopped
   read-is inputs before after warned stopped fresh is =
-      ap (λ (b : UserInput). reading tree options.prefix b (lines_of (streams (names_of options) (bytes_of inputs)))) (sym fresh) ∙ is
+      ap (λ (b : UserInput). reading tree options.prefix b (lines_of (streams (input_names options) (bytes_of inputs)))) (sym fresh) ∙ is
 
   lines-of : (inputs : List InputFile) (after : UserInput) (warned : List ℕ) (stopped : Option StreamLocation) → read_of options tree (bytes_of inputs) ≡ ended_with after warned stopped → AreLines warned
   lines-of inputs after warned stopped e =
-      subst AreLines (ap (λ (r : ReadResult). r.warned) e) (AreLines-reading tree options.prefix (lines_of (streams (names_of options) (bytes_of inputs))) (fresh_input options tree))
+      subst AreLines (ap (λ (r : ReadResult). r.warned) e) (AreLines-reading tree options.prefix (lines_of (streams (input_names options) (bytes_of inputs))) (fresh_input options tree))
 
   -- what waits behind the reading is whole lines
   pub AreLines-waiting : (stopped : Option StreamLocation) (before after : UserInput) (waiting : Waiting) (old new : Log) → before ≡ fresh_input options tree → ReadsInputs options tree stopped before after waiting old new →
@@ -88,7 +88,7 @@ module _ (law : OneAnswer) (outcomes : ExactlyOneOutcome) (files : Files) (optio
   lines_of_tree = numbered_lines log_of_tree.lines
 
   abbrev before_it : Bool
-  before_it = has_text (lines_text tree.warnings)
+  before_it = is_not_empty (lines_text tree.warnings)
 
   abbrev part_by : Outcome → Outcome
   part_by rest = part_of options opened before_it rest
@@ -123,15 +123,15 @@ module _ (law : OneAnswer) (outcomes : ExactlyOneOutcome) (files : Files) (optio
   LeavesPart-broken stop before old new fresh b =
       let all = bytes_of b.inputs in
       let (rest, of) = rest-exists law files options tree accepted opened are taken log_of_tree expands outcomes all in
-      let same : read_of options tree all ≡ reading tree options.prefix before (lines_of (streams (names_of options) all)) =
-      ap (λ (i : UserInput). reading tree options.prefix i (lines_of (streams (names_of options) all))) (sym fresh) in
+      let same : read_of options tree all ≡ reading tree options.prefix before (lines_of (streams (input_names options) all)) =
+      ap (λ (i : UserInput). reading tree options.prefix i (lines_of (streams (input_names options) all))) (sym fresh) in
       record {
         inputs = b.inputs;
         are_inputs = b.are_inputs;
         part = part_by rest;
         is_part = is_part law files options tree accepted opened are taken log_of_tree expands all rest of;
         ends = IsBrokenOff-reading files options tree accepted (names-taken law files options tree accepted opened are taken) b.inputs (part_by rest)
-            (reading tree options.prefix before (lines_of (streams (names_of options) all))).warned
+            (reading tree options.prefix before (lines_of (streams (input_names options) all))).warned
             (subst (λ (r : ReadResult). BeginsWith (part_by rest).warned r.warned) same (begins-part all rest of)) old new stop b.done b.front b.stops b.log;
       }
 
@@ -160,7 +160,7 @@ module _ (law : OneAnswer) (outcomes : ExactlyOneOutcome) (files : Files) (optio
       let are_inputs = AreInputs-later b t old mid new w options r.inputs r.are_inputs in
       let there = AreThere-later old mid new b t w r.inputs r.there in
       let e = read-is options tree r.inputs before after r.warned (Some stop) fresh r.reading_is in
-      let rest : Outcome = reported r.warned (refused (too_long_line stop)) in
+      let rest : Outcome = reported r.warned (refused_outcome (too_long_line stop)) in
       ended-part r.inputs (Some stop) after r.warned waiting.holds waiting.text.items r.events rest result old mid new are_inputs there e r.reads_to
       (rest-long files options tree lines_of_tree (read_of options tree (bytes_of r.inputs)) after r.warned stop e)
       (ap (λ l. (if waiting.holds then [] else r.warned) ++ l) (r.waits ∙ sym (append-nil (if waiting.holds then r.warned else []))) ∙ split-said waiting.holds r.warned [])

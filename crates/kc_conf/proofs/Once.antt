@@ -1,7 +1,7 @@
 -- A run has one outcome.
 use Rattle.std.proofs.Common.{◌≡◌, ℕ, ◌<◌, List, [], ◌++◌, length, map, Option, Some, None, Result, Ok, Err, true, false, sym, ap, subst, ◌∙◌}
 use Rattle.kc_language.specs.declared.expressions.SymId.{SymId}
-use Rattle.kc_language.specs.Expansion.{AreOpened, Expands, Log, Refused, Files, numbered_lines}
+use Rattle.kc_language.specs.Expansion.{AreOpened, Expands, ReadSoFar, Refused, Files, numbered_lines}
 use Rattle.kc_language.specs.Statements.{Located, Numbered}
 use Rattle.kc_read.specs.Existing.{HasOneExpansion}
 use Rattle.kc_language.specs.Symbols.{TreeFacts, IsTreeOf}
@@ -14,7 +14,7 @@ use Rattle.kc_order.specs.Laws.{NamedAreUnordered, OneNamedLoop}
 use Rattle.kc_language.specs.Values.{Solves, equations, name_count}
 use Rattle.kc_language.specs.Needs.{IsAccepted, needs, loop_text, IsLoopText, loop_refused}
 use Rattle.kc_language.specs.Texts.{Solution, value_of}
-use Rattle.kc_language.specs.Outcome.{Options, lead, refusal_line, Outcome, IsLenientOutcome, strictly, reported, lines_text, refused, read_of, root_file, IsRefusedTree, no_tree, looped, IsAcceptedTree, IsSolutionFor, refused_tree, refused_name, unknown_name, unknown_symbol, unreadable_name, accepted_tree, IsOutcomeOfReading, long_line, whole, with_rule}
+use Rattle.kc_language.specs.Outcome.{Options, lead, refusal_line, Outcome, IsLenientOutcome, strictly, reported, lines_text, refused_outcome, read_of, root_file, IsRefusedTree, no_tree, looped, IsAcceptedTree, IsSolutionFor, refused_tree, refused_name, unknown_name, unknown_symbol, unreadable_name, accepted_tree, IsOutcomeOfReading, long_line, whole, with_rule}
 use Rattle.kc_conf.specs.PartsOfOutcome.{too_long_line, unknown_line, unreadable_line}
 use Rattle.kc_conf.specs.PartsOfOutcome.{outcome_of}
 use Rattle.kc_conf.specs.LawSteps.{OneAnswer, OneOutcome}
@@ -63,7 +63,7 @@ module _ (law : OneTree) (loops : OneNamedLoop) (stuck : NamedAreUnordered) (fil
       never_both stuck tree text (subst (λ t. IsLoopText t text) (same_tree other tree a b.built) named) b.accepted
 
 -- a root file has one list of lines
-one_log_law : HasOneExpansion → (files : Files) (root : List ℕ) (log other : Log) → Expands files root (Ok log) → Expands files root (Ok other) → log ≡ other
+one_log_law : HasOneExpansion → (files : Files) (root : List ℕ) (log other : ReadSoFar) → Expands files root (Ok log) → Expands files root (Ok other) → log ≡ other
 one_log_law has files root log other a b =
     let (r, is, only) = has files root in
     ap (ok_or log) (sym (only (Ok log) a) ∙ only (Ok other) b)
@@ -103,7 +103,7 @@ some_or d (Some x) = x
 one_rest : (files : Files) (options : Options) (tree : TreeFacts) (lines : List (Located Numbered)) (read : ReadResult) (a b : Outcome) →
     IsOutcomeOfReading files options tree lines read a → IsOutcomeOfReading files options tree lines read b → a ≡ b
 one_rest files options tree lines read a b (long_line stop long is) (long_line other long' is') =
-    is ∙ ap (λ s. reported read.warned (refused (too_long_line s))) (ap (some_or stop) (sym long ∙ long')) ∙ sym is'
+    is ∙ ap (λ s. reported read.warned (refused_outcome (too_long_line s))) (ap (some_or stop) (sym long ∙ long')) ∙ sym is'
 one_rest files options tree lines read a b (long_line stop long is) (whole s none solves is') = absurd (let e : Some stop ≡ None = sym long ∙ none in cc)
 one_rest files options tree lines read a b (whole s none solves is) (long_line stop long is') = absurd (let e : Some stop ≡ None = sym long ∙ none in cc)
 one_rest files options tree lines read a b (whole s none solves is) (whole t none' solves' is') =
@@ -111,8 +111,8 @@ one_rest files options tree lines read a b (whole s none solves is) (whole t non
 
 -- over a refused tree it is the refusal
 lenient_refused : OneAnswer → (files : Files) (options : Options) (opened all : List (List ℕ)) (a : Outcome) (r : Refused) → IsRefusedTree files (root_file options) r →
-    IsLenientOutcome files options opened all a → a ≡ refused (refusal_line r)
-lenient_refused law files options opened all a r why (refused_tree s first is) = is ∙ ap (λ x. refused (refusal_line x)) (law.one_refusal files (root_file options) s r first why)
+    IsLenientOutcome files options opened all a → a ≡ refused_outcome (refusal_line r)
+lenient_refused law files options opened all a r why (refused_tree s first is) = is ∙ ap (λ x. refused_outcome (refusal_line x)) (law.one_refusal files (root_file options) s r first why)
 lenient_refused law files options opened all a r why (refused_name tree name accepted unread is) = absurd (law.not_both files (root_file options) r tree why accepted)
 lenient_refused law files options opened all a r why (unknown_symbol tree asked accepted read unknown is) = absurd (law.not_both files (root_file options) r tree why accepted)
 lenient_refused law files options opened all a r why (accepted_tree tree log accepted expands read known rest) = absurd (law.not_both files (root_file options) r tree why accepted)
@@ -120,9 +120,9 @@ lenient_refused law files options opened all a r why (accepted_tree tree log acc
 module _ (law : OneAnswer) (files : Files) (options : Options) (opened all : List (List ℕ)) (tree : TreeFacts) (accepted : IsAcceptedTree files (root_file options) tree) where
   -- over an accepted tree: a name that make cannot read, a name that no symbol has, or what follows from the input files
   abbrev AreOf : Option (List ℕ) → Option (List ℕ) → Outcome → Type 0
-  AreOf (Some name) unknown outcome = outcome ≡ refused (lead options ++ unreadable_line name)
-  AreOf None (Some asked) outcome = outcome ≡ refused (lead options ++ unknown_line tree asked)
-  AreOf None None outcome = (log : Log) × Expands files (root_file options) (Ok log)
+  AreOf (Some name) unknown outcome = outcome ≡ refused_outcome (lead options ++ unreadable_line name)
+  AreOf None (Some asked) outcome = outcome ≡ refused_outcome (lead options ++ unknown_line tree asked)
+  AreOf None None outcome = (log : ReadSoFar) × Expands files (root_file options) (Ok log)
       × ((rest : Outcome) × IsOutcomeOfReading files options tree (numbered_lines log.lines) (read_of options tree all) rest × (outcome ≡ reported (lines_text tree.warnings) rest))
 
   pub lenient_is : (a : Outcome) → IsLenientOutcome files options opened all a → AreOf (unreadable_name options opened) (unknown_name options tree) a
@@ -132,7 +132,7 @@ module _ (law : OneAnswer) (files : Files) (options : Options) (opened all : Lis
       let same : other ≡ tree = law.one_accepted files (root_file options) other tree second accepted in
       subst (λ u. AreOf u (unknown_name options tree) a) (sym read)
       (subst (λ u. AreOf None u a) (sym unknown ∙ ap (unknown_name options) same)
-      (is ∙ ap (λ (t : TreeFacts). refused (lead options ++ unknown_line t asked)) same))
+      (is ∙ ap (λ (t : TreeFacts). refused_outcome (lead options ++ unknown_line t asked)) same))
   lenient_is a (accepted_tree other log second expands read known (rest, part, is)) =
       let same : other ≡ tree = law.one_accepted files (root_file options) other tree second accepted in
       subst (λ u. AreOf u (unknown_name options tree) a) (sym read)
@@ -152,17 +152,17 @@ module _ (law : OneAnswer) (files : Files) (options : Options) (opened all : Lis
   one_of None None a b (log, expands, (rest, part, is)) (other, expands', (more, part', is')) =
       let same : other ≡ log = law.one_log files (root_file options) other log expands' expands in
       let part'' : IsOutcomeOfReading files options tree (numbered_lines log.lines) (read_of options tree all) more =
-      subst (λ (l : Log). IsOutcomeOfReading files options tree (numbered_lines l.lines) (read_of options tree all) more) same part' in
+      subst (λ (l : ReadSoFar). IsOutcomeOfReading files options tree (numbered_lines l.lines) (read_of options tree all) more) same part' in
       is ∙ ap (reported (lines_text tree.warnings)) (one_rest files options tree (numbered_lines log.lines) (read_of options tree all) rest more part part'') ∙ sym is'
 
   one_accepted_outcome : (a b : Outcome) → IsLenientOutcome files options opened all a → IsLenientOutcome files options opened all b → a ≡ b
   one_accepted_outcome a b first second = one_of (unreadable_name options opened) (unknown_name options tree) a b (lenient_is a first) (lenient_is b second)
 
 -- an accepted tree is that of an expansion that is accepted
-pub expansion_of : (files : Files) (root : List ℕ) (tree : TreeFacts) → IsAcceptedTree files root tree → (log : Log) × Expands files root (Ok log)
+pub expansion_of : (files : Files) (root : List ℕ) (tree : TreeFacts) → IsAcceptedTree files root tree → (log : ReadSoFar) × Expands files root (Ok log)
 expansion_of files root tree accepted = by accepted.built.0 accepted.built.1 accepted.built.2
   where
-    by : (e : Result Log Refused) → Expands files root e → Ok tree ≡ tree_of_log e → (log : Log) × Expands files root (Ok log)
+    by : (e : Result ReadSoFar Refused) → Expands files root e → Ok tree ≡ tree_of_log e → (log : ReadSoFar) × Expands files root (Ok log)
     by (Ok log) expands is = (log, expands)
     by (Err r) expands is = absurd (let clash : Ok tree ≡ Err r = is in cc)
 

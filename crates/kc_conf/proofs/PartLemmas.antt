@@ -13,7 +13,7 @@ use Rattle.kc_text.specs.PartsOfLines.{HoldsNoLineFeed}
 use Rattle.kc_language.specs.Symbols.{TreeFacts, Warning, located_warning}
 use Rattle.kc_language.specs.declared.expressions.SymbolType.{SymbolType}
 use Rattle.kc_language.specs.Values.{GivenValue, SymbolPlace, same_given, name as name_of}
-use Rattle.kc_language.specs.ConfigFile.{Notation, place_at, plain_line, StreamLocation, change_text, value_text, Effect, Silent, Warns, Assigns, warning_line, UserInput, Line, ReadResult, effect, effect_warning, is_within, lines_from, lines_in_stream, input_after, reading, stream_location, warning, warnings}
+use Rattle.kc_language.specs.ConfigFile.{Notation, place_at, plain_line, StreamLocation, change_text, value_text, Effect, Silent, Warns, Assigns, located_warning_line, UserInput, Line, ReadResult, effect, effect_warning, is_within, lines_from, lines_in_stream, input_after, reading, stream_location, warning, warnings}
 use Rattle.kc_config_file.specs.PartsOfConfigFile.{change_line}
 use Rattle.kc_config_file.specs.PartsOfConfigFile.{type_of, before_too_long, effect_change, effect_text, last_line, line, warning_line_if}
 use Rattle.kc_language.specs.declared.diagnostics.Warning.TheVariants.{Changed}
@@ -41,7 +41,7 @@ AreLines-each f (x ∷ xs) each = AreLines-append (f x) (flat_map f xs) (each x)
 pub AreLines-warning_if : (stream : List ℕ) (number : ℕ) (told : Option Warning) → AreLines (warning_line_if stream number told)
 AreLines-warning_if stream number None = AreLines-nothing
 AreLines-warning_if stream number (Some told) =
-    (located_warning stream number told ∷ [], sym (append-nil (warning_line stream number told)))
+    (located_warning stream number told ∷ [], sym (append-nil (located_warning_line stream number told)))
 
 AreLines-change : (is_raw : Bool) (at : StreamLocation) (name : List ℕ) (symbol_type : SymbolType) (old : Option GivenValue) (from : Option StreamLocation) (given : GivenValue) →
     AreLines (change_text is_raw at name symbol_type old from given)

@@ -2,7 +2,7 @@
 use Rattle.std.proofs.Common.{◌≡◌, ℕ, Bool, true, false, List, [], ◌++◌, refl, sym, ap, subst, ◌∙◌, Option, None, Some, String, Global}
 use Rattle.std.specs.Option.{option_or}
 use Rattle.std.specs.Prelude.{◌&&◌, ◌||◌, if◌then◌else◌, Ok, Result}
-use Rattle.kc_language.specs.Expansion.{AreOpened, Expands, Files, Log as TreeLog, numbered_lines}
+use Rattle.kc_language.specs.Expansion.{AreOpened, Expands, Files, ReadSoFar as TreeLog, numbered_lines}
 use Rattle.kc_language.specs.Statements.{Located, Numbered}
 use Rattle.kc_language.specs.Symbols.{TreeFacts}
 use Rattle.kc_language.specs.Texts.{Solution}
@@ -13,7 +13,7 @@ use Rattle.kc_io.specs.Delivery.{NamedText}
 use Rattle.kc_conf.specs.Computed.{refuses, ruled_files, value_lines}
 use Rattle.kc_conf.specs.Endings.{Ends, line_if, status_if, texts_or}
 use Rattle.kc_io.specs.Delivery.{text_at, texts_of}
-use Rattle.kc_language.specs.Outcome.{Options, IsAcceptedTree, IsLenientOutcome, IsOutcome, IsOutcomeOfReading, IsSolutionFor, Outcome, accepted_tree, has_text, is_done, lines_text, long_line, names_listed, reported, read_of, refused, refused_if, refused_name, refused_tree, root_file, unknown_name, unknown_symbol, unreadable_name, warned_files, whole, with_rule, refuses_input}
+use Rattle.kc_language.specs.Outcome.{Options, IsAcceptedTree, IsLenientOutcome, IsOutcome, IsOutcomeOfReading, IsSolutionFor, Outcome, accepted_tree, is_not_empty, is_done, lines_text, long_line, names_listed, reported, read_of, refused_outcome, refused_if, refused_name, refused_tree, root_file, unknown_name, unknown_symbol, unreadable_name, warned_files, whole, with_rule, refuses_input}
 use Rattle.kc_conf.specs.PartsOfOutcome.{too_long_line}
 use Rattle.kc_conf.specs.Faults.{NamesAreTaken, refused_name_of}
 use Rattle.kc_conf.specs.PartsOfOutcome.{outcome_of}
@@ -61,7 +61,7 @@ module _ (law : OneAnswer) (files : Files) (options : Options) (tree : TreeFacts
   module _ (log : TreeLog) (expands : Expands files (root_file options) (Ok log)) where
     -- with the tree's warnings before it, it is the outcome
     pub is_part : (all : List (List ℕ)) (rest : Outcome) → IsOutcomeOfReading files options tree (numbered_lines log.lines) (read_of options tree all) rest →
-        IsOutcome files options all (reported (lines_text tree.warnings) (part_of options opened (has_text (lines_text tree.warnings)) rest))
+        IsOutcome files options all (reported (lines_text tree.warnings) (part_of options opened (is_not_empty (lines_text tree.warnings)) rest))
     is_part all rest of_reading =
         let told = lines_text tree.warnings in
         let names = both-taken (unreadable_name options opened) (unknown_name options tree) taken in (
@@ -69,7 +69,7 @@ module _ (law : OneAnswer) (files : Files) (options : Options) (tree : TreeFacts
           opened,
           accepted_tree tree log accepted expands names.0 names.1 (rest, of_reading, refl),
           are,
-          with_rule-reported options opened told (strictly_after options (has_text told) rest) ∙ ap (with_rule options opened) (strictly-reported options told rest),
+          with_rule-reported options opened told (strictly_after options (is_not_empty told) rest) ∙ ap (with_rule options opened) (strictly-reported options told rest),
         )
 
     -- something follows from the streams
@@ -103,9 +103,9 @@ module _ (files : Files) (options : Options) (tree : TreeFacts) (lines : List (L
   -- ---- a line is too long
 
   pub rest-long : (input : UserInput) (warned : List ℕ) (stop : StreamLocation) → read ≡ ended_with input warned (Some stop) →
-      IsOutcomeOfReading files options tree lines read (reported warned (refused (too_long_line stop)))
+      IsOutcomeOfReading files options tree lines read (reported warned (refused_outcome (too_long_line stop)))
   rest-long input warned stop e =
-      subst (λ (r : ReadResult). IsOutcomeOfReading files options tree lines r (reported warned (refused (too_long_line stop)))) (sym e) (long_line stop refl refl)
+      subst (λ (r : ReadResult). IsOutcomeOfReading files options tree lines r (reported warned (refused_outcome (too_long_line stop)))) (sym e) (long_line stop refl refl)
 
   -- ---- all lines were read
 
@@ -115,8 +115,8 @@ module _ (files : Files) (options : Options) (tree : TreeFacts) (lines : List (L
       subst (λ (r : ReadResult). IsOutcomeOfReading files options tree lines r (reported warned (outcome_of files options tree lines input solution))) (sym e) (whole solution refl is refl)
 
 -- only under --strict-tree it matters what was said
-strict-same : (strict before : Bool) (x y : List ℕ) → (strict ≡ true → x ≡ y) → (strict && (before || has_text x)) ≡ (strict && (before || has_text y))
-strict-same true before x y same = ap (λ t. before || has_text t) (same refl)
+strict-same : (strict before : Bool) (x y : List ℕ) → (strict ≡ true → x ≡ y) → (strict && (before || is_not_empty x)) ≡ (strict && (before || is_not_empty y))
+strict-same true before x y same = ap (λ t. before || is_not_empty t) (same refl)
 strict-same false before x y same = refl
 
 module _ (files : Files) (options : Options) (tree : TreeFacts) (lines : List (Located Numbered)) (opened : List (List ℕ)) (input : UserInput) (warned : List ℕ)
@@ -143,7 +143,7 @@ module _ (files : Files) (options : Options) (tree : TreeFacts) (lines : List (L
       let told : (made r).warned ≡ warned ++ value_lines options lines input solution = ap (λ t. warned ++ t) (warned_if options (warned_files files options tree lines input solution) r) in
       subst (λ q. Has (part_of options opened before (made r)) (given_by (r || q)))
       (strict-same options.strict_tree before (made r).warned text (λ on. told ∙ sym (same on)))
-      (has-by r (options.strict_tree && (before || has_text (made r).warned)))
+      (has-by r (options.strict_tree && (before || is_not_empty (made r).warned)))
 
   pub part-says : (before : Bool) → (part_of options opened before (reported warned (outcome_of files options tree lines input solution))).warned ≡ warned ++ value_lines options lines input solution
   part-says before =

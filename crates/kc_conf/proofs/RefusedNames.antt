@@ -3,7 +3,7 @@ use Rattle.std.proofs.Common.{◌≡◌, ℕ, List, ◌++◌, Option, Some, None
 use Rattle.std.specs.Option.{option_or}
 use Rattle.kc_language.specs.Expansion.{Files}
 use Rattle.kc_language.specs.Symbols.{TreeFacts}
-use Rattle.kc_language.specs.Outcome.{IsAcceptedTree, IsLenientOutcome, Options, lead, refused, refused_name, root_file, unknown_name, unknown_symbol, unreadable_name}
+use Rattle.kc_language.specs.Outcome.{IsAcceptedTree, IsLenientOutcome, Options, lead, refused_outcome, refused_name, root_file, unknown_name, unknown_symbol, unreadable_name}
 use Rattle.kc_conf.specs.Faults.{refused_name_of}
 use Rattle.kc_conf.specs.PartsOfOutcome.{name_refusal, refusal_by, unknown_line, unreadable_line}
 
@@ -30,14 +30,14 @@ none_refused options opened tree e = no_name tree (unreadable_name options opene
 -- the outcome is that line
 module _ (files : Files) (options : Options) (opened all : List (List ℕ)) (tree : TreeFacts) (accepted : IsAcceptedTree files (root_file options) tree) where
   lenient_by : (unread unknown : Option (List ℕ)) (line : List ℕ) → unreadable_name options opened ≡ unread → unknown_name options tree ≡ unknown →
-      refusal_by tree unread unknown ≡ Some line → IsLenientOutcome files options opened all (refused (lead options ++ line))
+      refusal_by tree unread unknown ≡ Some line → IsLenientOutcome files options opened all (refused_outcome (lead options ++ line))
   lenient_by (Some name) unknown line is is' e =
       let same : unreadable_line name ≡ line = (let both : Some (unreadable_line name) ≡ Some line = e in cc) in
-      refused_name tree name accepted is (ap (λ l. refused (lead options ++ l)) (sym same))
+      refused_name tree name accepted is (ap (λ l. refused_outcome (lead options ++ l)) (sym same))
   lenient_by None (Some asked) line is is' e =
       let same : unknown_line tree asked ≡ line = (let both : Some (unknown_line tree asked) ≡ Some line = e in cc) in
-      unknown_symbol tree asked accepted is is' (ap (λ l. refused (lead options ++ l)) (sym same))
+      unknown_symbol tree asked accepted is is' (ap (λ l. refused_outcome (lead options ++ l)) (sym same))
   lenient_by None None line is is' e = absurd (let clash : None ≡ Some line = e in cc)
 
-  pub lenient_refusal : (line : List ℕ) → name_refusal options opened tree ≡ Some line → IsLenientOutcome files options opened all (refused (lead options ++ line))
+  pub lenient_refusal : (line : List ℕ) → name_refusal options opened tree ≡ Some line → IsLenientOutcome files options opened all (refused_outcome (lead options ++ line))
   lenient_refusal line e = lenient_by (unreadable_name options opened) (unknown_name options tree) line refl refl e

@@ -4,7 +4,7 @@ use Rattle.std.specs.Prelude.{◌&&◌, ◌||◌, Ok, is_some, not, string_bytes
 use Rattle.kc_language.specs.Expressions.{SymbolValue, TextValue}
 use Rattle.kc_language.specs.declared.expressions.SymbolType.TheVariants.{Undefined}
 use Rattle.std.proofs.lemmas.List.{ext_get_or}
-use Rattle.kc_language.specs.Expansion.{Expands, Files, Log, numbered_lines}
+use Rattle.kc_language.specs.Expansion.{Expands, Files, ReadSoFar, numbered_lines}
 use Rattle.kc_conf.specs.Faults.{refused_name_of}
 use Rattle.kc_conf.proofs.PartOutcomes.{both-taken}
 use Rattle.kc_language.specs.Symbols.{TreeFacts}
@@ -13,7 +13,7 @@ use Rattle.kc_user.specs.Places.{ArePlaces}
 use Rattle.kc_language.specs.{ConfigFile.{Notation, Places, ReadResult, is_prefix, place_at, reading, reading_of}, Texts.{HasShortLines, IsOneSolution, Solution, SolutionView, config_text, header_text, minimal_text, read_alone, solution_view, valuation_view, value_of}, Values.{GivenValue, Solves, UserPlace, equations, name_count}, declared.{outcome.{Status.{Status}}}}
 use Rattle.kc_config_file.specs.WrittenLaws.{ConfigIsIdempotent, ConfigIsOfValues, IsSolutionOf, MinimalHasNothingToSpare, MinimalRestores, WrittenTextsAreShort}
 use Rattle.kc_config_file.specs.Streams.{StreamsLeavePlaces}
-use Rattle.kc_language.specs.Outcome.{Options, lead, IsAcceptedTree, IsLenientOutcome, IsOutcomeOfReading, IsRefusedTree, IsSolutionFor, Outcome, accepted_tree, lines_text, long_line, names_of, reported, read_of, refused_name, refused_tree, root_file, streams, strictly, unknown_name, unknown_symbol, unreadable_name, whole, with_rule, refused_if, warned_files, refuses_input}
+use Rattle.kc_language.specs.Outcome.{Options, lead, IsAcceptedTree, IsLenientOutcome, IsOutcomeOfReading, IsRefusedTree, IsSolutionFor, Outcome, accepted_tree, lines_text, long_line, input_names, reported, read_of, refused_name, refused_tree, root_file, streams, strictly, unknown_name, unknown_symbol, unreadable_name, whole, with_rule, refused_if, warned_files, refuses_input}
 use Rattle.kc_conf.specs.PartsOfOutcome.{text_if, is_taken}
 use Rattle.kc_language.specs.Outcome.{fresh_input}
 use Rattle.kc_conf.specs.LawSteps.{OneAnswer}
@@ -24,7 +24,7 @@ use Rattle.kc_conf.specs.Laws.{AreAlone, DoneAreWhole, HasItsTexts, HasSameValue
 
 abbrev Values : Files → Options → List (List ℕ) → Outcome → Type 0
 Values files options all outcome =
-    (tree : TreeFacts) × (solution : Solution) × RefusesNothing files options all tree solution × (log : Log) × Expands files (root_file options) (Ok log)
+    (tree : TreeFacts) × (solution : Solution) × RefusesNothing files options all tree solution × (log : ReadSoFar) × Expands files (root_file options) (Ok log)
     × (outcome ≡ reported (lines_text tree.warnings)
     (reported (read_of options tree all).warned (warned_files files options tree (numbered_lines log.lines) (read_of options tree all).input solution)))
     × (refuses_input options (read_of options tree all).input solution ≡ false)
@@ -37,7 +37,7 @@ status_is one other is done = sym (ap (λ (o : Outcome). o.status) is) ∙ done
 refused_never : {A : Type 0} → Status.Refused ≡ Status.Done → A
 refused_never e = absurd cc
 
-rest_whole : (files : Files) (options : Options) (all : List (List ℕ)) (tree : TreeFacts) (log : Log) (rest outcome : Outcome) →
+rest_whole : (files : Files) (options : Options) (all : List (List ℕ)) (tree : TreeFacts) (log : ReadSoFar) (rest outcome : Outcome) →
     IsAcceptedTree files (root_file options) tree → Expands files (root_file options) (Ok log) →
     IsOutcomeOfReading files options tree (numbered_lines log.lines) (read_of options tree all) rest → outcome ≡ reported (lines_text tree.warnings) rest →
     outcome.status ≡ Status.Done → Values files options all outcome
@@ -74,7 +74,7 @@ done_whole files options all outcome (lenient, opened, is_lenient, are, is) done
     (tree, solution, is_whole, (opened, are, log, expands, is ∙ ap (with_rule options opened) (same ∙ values)), kept)
 
 -- the texts of such an outcome
-pub has_its_texts : (files : Files) (options : Options) (all : List (List ℕ)) (outcome : Outcome) (tree : TreeFacts) (solution : Solution) (opened : List (List ℕ)) (log : Log) →
+pub has_its_texts : (files : Files) (options : Options) (all : List (List ℕ)) (outcome : Outcome) (tree : TreeFacts) (solution : Solution) (opened : List (List ℕ)) (log : ReadSoFar) →
     outcome ≡ with_rule options opened (reported (lines_text tree.warnings)
     (reported (read_of options tree all).warned (warned_files files options tree (numbered_lines log.lines) (read_of options tree all).input solution))) →
     HasItsTexts options tree solution outcome
@@ -96,7 +96,7 @@ module _ (formed : TreesAreWellFormed) (leaves : StreamsLeavePlaces) (files : Fi
   pub whole_solution : IsSolutionOf tree solution.places (value_of solution)
   whole_solution =
       let well = formed files (root_file options) tree is.accepted.built in
-      let held : ArePlaces tree read_places = leaves tree options.prefix (options.warn_lost || is_some options.explanation) (fresh_input options tree).gone options.warn_lost (lead options) (streams (names_of options) all) well in
+      let held : ArePlaces tree read_places = leaves tree options.prefix (options.warn_lost || is_some options.explanation) (fresh_input options tree).gone options.warn_lost (lead options) (streams (input_names options) all) well in
       record {
         formed = well;
         accepted = is.accepted.accepted;
@@ -175,26 +175,26 @@ module _ (config_same : ConfigIsOfValues) (answer : OneAnswer) (again : TextsAre
         ap (λ (f : TreeFacts). minimal_text tree options.prefix (valuation_view f (place_at solution.places) (value_of solution))) (sym is.solution_is.tree_is) ∙ text_is in
         subst (λ t. let r = read_alone tree options.prefix name t in (r.stopped ≡ None) × IsOneSolution tree r.input.places (value_of solution)) told gives
 
-    alone_streams : streams (names_of alone) (text ∷ []) ≡ record { name = name; bytes = text } ∷ []
+    alone_streams : streams (input_names alone) (text ∷ []) ≡ record { name = name; bytes = text } ∷ []
     alone_streams =
         ap (λ ss. record { name = name; bytes = text } ∷ ss) (no_more_streams (map (λ name. lead alone ++ string_bytes name) alone.fragments.items) (ap (map (λ name. lead alone ++ string_bytes name)) same.no_fragments))
 
     reads_text : (read_of alone tree (text ∷ [])).stopped ≡ read.stopped
     unfolding reading
     reads_text =
-        ap (λ p. (reading_of tree p (fresh_input alone tree) (streams (names_of alone) (text ∷ []))).stopped) same.prefix
+        ap (λ p. (reading_of tree p (fresh_input alone tree) (streams (input_names alone) (text ∷ []))).stopped) same.prefix
         ∙ ap (λ ss. (reading_of tree options.prefix (fresh_input alone tree) ss).stopped) alone_streams
 
     leaves_places : (read_of alone tree (text ∷ [])).input.places ≡ read.input.places
     unfolding reading
     leaves_places =
-        ap (λ p. (reading_of tree p (fresh_input alone tree) (streams (names_of alone) (text ∷ []))).input.places) same.prefix
+        ap (λ p. (reading_of tree p (fresh_input alone tree) (streams (input_names alone) (text ∷ []))).input.places) same.prefix
         ∙ ap (λ ss. (reading_of tree options.prefix (fresh_input alone tree) ss).input.places) alone_streams
 
     same_root : IsAcceptedTree files (root_file alone) tree
     same_root = subst (λ root. IsAcceptedTree files root tree) (sym same.root) is.accepted
 
-    of_reading : (log : Log) (rest : Outcome) → IsOutcomeOfReading files alone tree (numbered_lines log.lines) (read_of alone tree (text ∷ [])) rest →
+    of_reading : (log : ReadSoFar) (rest : Outcome) → IsOutcomeOfReading files alone tree (numbered_lines log.lines) (read_of alone tree (text ∷ [])) rest →
         HasSameValues files alone (text ∷ []) tree solution rest
     of_reading log rest (long_line stop stopped was) =
         absurd (let e : Some stop ≡ None = sym stopped ∙ reads_text ∙ restored.0 in cc)

@@ -9,7 +9,7 @@ use Rattle.kc_io.specs.declared.device.Action.TheVariants.{Open, Read}
 use Rattle.kc_io.specs.declared.steps.Failure.{Failure}
 use Rattle.kc_io.proofs.LogLemmas.{leads_as, leads_both, leads_nothing, leads_said}
 use Rattle.kc_language.specs.Text.{BeginsWith, GoesBeyond}
-use Rattle.kc_language.specs.Outcome.{Options, lead, refusal_line, IsAcceptedTree, IsLenientOutcome, IsOutcome, IsRefusedTree, refused, unknown_name, unknown_symbol, unreadable_name, Outcome, accepted_tree, has_text, is_done, lines_text, reported, refused_name, refused_tree, root_file, strictly}
+use Rattle.kc_language.specs.Outcome.{Options, lead, refusal_line, IsAcceptedTree, IsLenientOutcome, IsOutcome, IsRefusedTree, refused_outcome, unknown_name, unknown_symbol, unreadable_name, Outcome, accepted_tree, is_not_empty, is_done, lines_text, reported, refused_name, refused_tree, root_file, strictly}
 use Rattle.kc_conf.specs.PartsOfOutcome.{name_refusal}
 use Rattle.kc_conf.specs.Faults.{AreLines, NamesAreTaken, diagnostics_of}
 use Rattle.kc_conf.specs.LawSteps.{OneAnswer}
@@ -295,7 +295,7 @@ module _ (law : OneAnswer) (outcomes : ExactlyOneOutcome) (files : Files) (optio
   begins-told : (all : List (List ℕ)) (outcome : Outcome) → IsOutcome files options all outcome → BeginsWith outcome.warned (lines_text tree.warnings)
   begins-told all outcome (lenient, opened, is_lenient, are, is) =
       let (rest, begins) = go is_lenient in
-      (rest, ap (λ (o : Outcome). o.warned) is ∙ rule-warned options opened (strictly options lenient) ∙ warned_if options lenient (is_done lenient.status && (options.strict_tree && has_text lenient.warned)) ∙ begins)
+      (rest, ap (λ (o : Outcome). o.warned) is ∙ rule-warned options opened (strictly options lenient) ∙ warned_if options lenient (is_done lenient.status && (options.strict_tree && is_not_empty lenient.warned)) ∙ begins)
     where
       go : IsLenientOutcome files options opened all lenient → BeginsWith lenient.warned (lines_text tree.warnings)
       go (refused_tree r refuses e) = absurd (law.not_both files (root_file options) r tree refuses accepted)
@@ -385,17 +385,17 @@ pub LeavesRun-name : (files : Files) (options : Options) (tree : TreeFacts) (ope
     Ends options [] (lead options ++ line) [] Refused result old new → LeavesRun files options result old new
 LeavesRun-name files options tree opened line result old new accepted are refuses ends =
     let (name, is) = refused_with options opened tree line refuses in
-    LeavesRun-refused files options (refused (lead options ++ line)) result old new
+    LeavesRun-refused files options (refused_outcome (lead options ++ line)) result old new
     (λ inputs log. name_refused name (record { tree = tree; accepted = accepted; opened = opened; are_opened = are; refuses = is }))
-    (λ all. (refused (lead options ++ line), opened, lenient_refusal files options opened all tree accepted line refuses, are, refl)) refl (texts-none options) ends
+    (λ all. (refused_outcome (lead options ++ line), opened, lenient_refusal files options opened all tree accepted line refuses, are, refl)) refl (texts-none options) ends
 
 -- a tree
 LeavesRun-tree : OpenedAreOneList → (files : Files) (options : Options) (r : RefusedTree) (result : Result Status Stop) (old new : Log) → IsRefusedTree files (root_file options) r →
     Ends options [] (refusal_line r) [] Refused result old new → LeavesRun files options result old new
 LeavesRun-tree opens files options r result old new why ends =
     let (opened, are, only) = opens files (root_file options) in
-    LeavesRun-refused files options (refused (refusal_line r)) result old new (λ inputs log. tree_refused r why)
-    (λ all. (refused (refusal_line r), opened, refused_tree r why refl, are, refl)) refl (texts-none options) ends
+    LeavesRun-refused files options (refused_outcome (refusal_line r)) result old new (λ inputs log. tree_refused r why)
+    (λ all. (refused_outcome (refusal_line r), opened, refused_tree r why refl, are, refl)) refl (texts-none options) ends
 
 -- or there was no memory for it
 pub LeavesRun-refusal : OpenedAreOneList → ExactlyOneOutcome → (files : Files) (options : Options) (r : Refusal) (result : Result Status Stop) (old new : Log) →

@@ -4,7 +4,7 @@ use Rattle.std.specs.List.{flat_map}
 use Rattle.std.specs.Prelude.{All, if◌then◌else◌, option_map, slice_get}
 use Rattle.std.proofs.lemmas.List.Elements.{All-head, All-map, All-tail}
 use Rattle.kc_language.specs.ConfigFile.{Notation, UserInput}
-use Rattle.kc_language.specs.Expansion.{Files, Log, names_of, numbered_lines}
+use Rattle.kc_language.specs.Expansion.{Files, ReadSoFar, mentioned_names, numbered_lines}
 use Rattle.kc_language.specs.Expressions.{number_of}
 use Rattle.kc_language.specs.Explanations.{definition_comments, excerpt, new_text_with_help}
 use Rattle.kc_language.specs.Outcome.{Options, Outcome, warned_files}
@@ -24,7 +24,7 @@ module _ (files others : Files) where
   -- the lines are of files that hold the same
   numbered_same : (lines : List (Located Named)) → All (λ (l : Located Named). others.bytes l.file ≡ files.bytes l.file) lines → All Same (numbered_lines lines)
   numbered_same lines same =
-      All-map Same (λ (l : Located Named). let n : Located Numbered = record { file = l.file; line = l.line; statement = numbered (number_of (names_of (statements lines))) l.statement } in n) lines same
+      All-map Same (λ (l : Located Named). let n : Located Numbered = record { file = l.file; line = l.line; statement = numbered (number_of (mentioned_names (statements lines))) l.statement } in n) lines same
 
   -- the comment of one line
   abbrev excerpt_of : Option (List ℕ) → ℕ → List ℕ
@@ -56,5 +56,5 @@ module _ (files others : Files) where
         (help_same tree options.prefix (solution_view solution))
 
 -- the files of the lines of a log hold the same
-pub lines-same : (files others : Files) (log : Log) → All (λ (l : Located Named). others.bytes l.file ≡ files.bytes l.file) log.lines → All (λ (l : Located Numbered). others.bytes l.file ≡ files.bytes l.file) (numbered_lines log.lines)
+pub lines-same : (files others : Files) (log : ReadSoFar) → All (λ (l : Located Named). others.bytes l.file ≡ files.bytes l.file) log.lines → All (λ (l : Located Numbered). others.bytes l.file ≡ files.bytes l.file) (numbered_lines log.lines)
 lines-same files others log same = numbered_same files others log.lines same

@@ -13,10 +13,10 @@ use Rattle.kc_tree.specs.TreeFacts.{IsWellFormed}
 use Rattle.kc_language.specs.Symbols.{SymbolFacts, TreeFacts, Warning}
 use Rattle.kc_build.specs.Trees.{TreesAreWellFormed}
 use Rattle.kc_language.specs.Values.{GivenValue, SymbolPlace, same_given, given_of, facts}
-use Rattle.kc_language.specs.{ConfigFile.{ArePlacesOf, Assigns, Effect, Line, Notation, Places, Silent, StreamLocation, UserInput, Warns, effect, input_after, is_change, is_reported, is_taken as is_taken_by, lines_of, meaning, place_at, places_after, stream_location, untaken, untaken_line}, Texts.{Solution, known, lost_lines, value_warnings}}
+use Rattle.kc_language.specs.{ConfigFile.{ArePlacesOf, Assigns, Effect, Line, Notation, Places, Silent, StreamLocation, UserInput, Warns, effect, input_after, is_change, is_reported, is_taken as is_taken_by, lines_of, line_meaning, place_at, places_after, stream_location, untaken, untaken_line}, Texts.{Solution, known, lost_lines, value_warnings}}
 use Rattle.kc_config_file.specs.ReadingLaws.{LinesGiveInTurn, LinesInTurn}
 use Rattle.kc_conf.proofs.{EffectLemmas.{assigned_typed, effect_is, silent_says}, RerunLemmas.{has_its_texts}}
-use Rattle.kc_language.specs.Outcome.{Options, Outcome, names_of, read_of, root_file, streams, is_outside, lost_warnings, refuses_input}
+use Rattle.kc_language.specs.Outcome.{Options, Outcome, input_names, read_of, root_file, streams, is_outside, lost_warnings, refuses_input}
 use Rattle.kc_conf.specs.PartsOfOutcome.{is_taken}
 use Rattle.kc_language.specs.Outcome.{fresh_input}
 use Rattle.kc_conf.proofs.{AccountedLemmas.{given_is, input_is, line_in, lost_if, no_line, number_of, places_are, same_symbol, value_in}}
@@ -189,7 +189,7 @@ module _ (tree : TreeFacts) (prefix : Notation) (turn : LinesInTurn tree prefix)
 module _ (files : Files) (options : Options) (all : List (List ℕ)) (tree : TreeFacts) (solution : Solution)
     (is_whole : RefusesNothing files options all tree solution) (formed : IsWellFormed tree) (turn : LinesInTurn tree options.prefix) (strict : options.strict ≡ true) (passed : refuses_input options (read_of options tree all).input solution ≡ false) where
   abbrev lines : List Line
-  lines = lines_of (streams (names_of options) all)
+  lines = lines_of (streams (input_names options) all)
 
   abbrev prefix : Notation
   prefix = options.prefix
@@ -273,11 +273,11 @@ module _ (files : Files) (options : Options) (all : List (List ℕ)) (tree : Tre
     is_taken_as_written = by (effect tree prefix l) refl
       where
         by : (e : Effect) → effect tree prefix l ≡ e → IsTakenAsWritten tree prefix options.warn_lost solution l later e
-        by Silent is = silent_says prefix.is_raw tree (meaning tree prefix l) (effect_is tree prefix l ∙ is)
+        by Silent is = silent_says prefix.is_raw tree (line_meaning tree prefix l) (effect_is tree prefix l ∙ is)
         by (Warns line_warning) is =
             not_is_true (is_reported options.warn_lost line_warning) (taken_here tree prefix turn keeps_lines here l later (Warns line_warning) is from_here)
         by (Assigns s given) is =
-            let (f, defined, typed) = assigned_typed prefix.is_raw tree (meaning tree prefix l) s given (effect_is tree prefix l ∙ is) in
+            let (f, defined, typed) = assigned_typed prefix.is_raw tree (line_meaning tree prefix l) s given (effect_is tree prefix l ∙ is) in
             ((after s given is f defined typed).0, value_is s given is f defined typed)
 
 pub strict_takes_all : TreesAreWellFormed → DoneAreWhole → LinesGiveInTurn → StrictTakesAll

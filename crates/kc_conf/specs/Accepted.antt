@@ -4,7 +4,7 @@ use Rattle.std.specs.Borrow.{Bor}
 use Rattle.std.specs.Prelude.{◌≡◌, ◌≢◌, ℕ, Bool, false, List, Option, None, Some, Result, Ok, Err, IfOk, IfErr}
 use Rattle.kc_language.specs.Statements.{Located, Numbered}
 use Rattle.kc_language.specs.Symbols.{IsTreeOf}
-use Rattle.kc_language.specs.Expansion.{AreOpened, Expands, Files, Log, numbered_lines}
+use Rattle.kc_language.specs.Expansion.{AreOpened, Expands, Files, ReadSoFar, numbered_lines}
 use Rattle.kc_read.specs.Entries.{lines_in}
 use Rattle.kc_read.specs.RefusalView.{refusal_view}
 use Rattle.kc_language.specs.declared.diagnostics.Cause.TheVariants.{Memory}
@@ -38,7 +38,7 @@ AreSources files lines options (Some sources) = IsSources files lines sources.no
 pub record IsReadOf (files : Files) (root : List ℕ) (keeps : Bool) (read : TreeReading) : Type 0 where
   pub built : IsTreeOf files root (Ok read.tree)
   pub opened : AreOpened files root read.opened
-  pub sources : (log : Log) × Expands files root (Ok log) × AreKept files (numbered_lines log.lines) keeps read.sources
+  pub sources : (log : ReadSoFar) × Expands files root (Ok log) × AreKept files (numbered_lines log.lines) keeps read.sources
 
 -- or why there is none, unless there was no memory
 pub record IsReadingOf (files : Files) (root : List ℕ) (keeps : Bool) (reading : Result TreeReading Refusal) : Type 0 where
@@ -53,10 +53,10 @@ IsReady accepted = IsGraphOf accepted.laid accepted.order.now
 pub record IsOrderedOf (files : Files) (root : List ℕ) (keeps : Bool) (accepted : OrderedTree) : Type 0 where
   pub tree : IsAcceptedTree files root accepted.laid.tree.now
   pub opened : AreOpened files root accepted.opened.now
-  pub sources : (log : Log) × Expands files root (Ok log) × AreHeld files (numbered_lines log.lines) keeps accepted.sources
+  pub sources : (log : ReadSoFar) × Expands files root (Ok log) × AreHeld files (numbered_lines log.lines) keeps accepted.sources
 
 -- the same, if the options want them
 pub record IsAcceptedOf (files : Files) (options : Options) (accepted : OrderedTree) : Type 0 where
   pub tree : IsAcceptedTree files (root_file options) accepted.laid.tree.now
   pub opened : AreOpened files (root_file options) accepted.opened.now
-  pub sources : (log : Log) × Expands files (root_file options) (Ok log) × AreSources files (numbered_lines log.lines) options accepted.sources
+  pub sources : (log : ReadSoFar) × Expands files (root_file options) (Ok log) × AreSources files (numbered_lines log.lines) options accepted.sources

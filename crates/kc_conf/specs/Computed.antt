@@ -9,7 +9,7 @@ use Rattle.kc_language.specs.Symbols.{TreeFacts}
 use Rattle.kc_language.specs.Texts.{Solution, SolutionView, lost_at, new_text, solution_view, warnings}
 use Rattle.kc_language.specs.ConfigFile.{Notation, UserInput}
 use Rattle.kc_io.specs.Delivery.{NamedText}
-use Rattle.kc_language.specs.Outcome.{Options, rule_text, lead, target, IsSolutionFor, Outcome, explained_text, has_text, lines_text, lost_text, lost_warnings, refuses_input}
+use Rattle.kc_language.specs.Outcome.{Options, rule_text, lead, target, IsSolutionFor, Outcome, explained_text, is_not_empty, lines_text, lost_text, lost_warnings, refuses_input}
 use Rattle.kc_read.specs.Entries.{lines_in}
 use Rattle.kc_conf.specs.PartsOfOutcome.{files_of, text_if}
 use Rattle.kc_conf.specs.declared.accepted.TreeSources.{TreeSources}
@@ -70,7 +70,7 @@ value_lines options lines input solution = lines_text (map (λ line. lead option
 
 -- the texts are refused, where there was a warning before or these are warnings
 abbrev pub refuses : Options → UserInput → Solution → Bool → List ℕ → Bool
-refuses options input solution before warned = refuses_input options input solution || (options.strict_tree && (before || has_text warned))
+refuses options input solution before warned = refuses_input options input solution || (options.strict_tree && (before || is_not_empty warned))
 
 -- The warnings of the one solution for the user's values were added, and these are its texts, unless they are refused.
 -- The files and the lines are those of the tree.

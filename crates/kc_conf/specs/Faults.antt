@@ -2,7 +2,7 @@
 -- Our own. It ends in `Runs` and, for the tree of a folder, `FolderRuns`. Claims about files are for devices that record what files hold (kc_io).
 use Rattle.std.specs.Prelude.{◌≡◌, ◌⊎◌, ℕ, if◌then◌else◌, List, [], ◌++◌, ◌||◌, take, filter, slice_get, slice_index_or, string_bytes, Option, None, Some, Result, Ok, Err, ⊤}
 use Rattle.std.specs.Option.{option_or}
-use Rattle.kc_language.specs.{ConfigFile.{lines_from, lines_of, reading}, Expansion.{AreOpened, Files, Refused}, Symbols.TreeFacts, Text.{BeginsWith, GoesBeyond}, Texts.HasShortLines, Outcome.{IsAcceptedTree, IsOutcome, IsRefusedTree, Options, Outcome, cannot_read_line, fresh_input, lead, lines_text, names_of, out_of_memory_line, read_of, root_file, run_error_text, streams, unknown_name, unreadable_name}, Statements.error_line, declared.{diagnostics.RunError.RunError, outcome.{Delivery.Delivery, Status.Status}}}
+use Rattle.kc_language.specs.{ConfigFile.{lines_from, lines_of, reading}, Expansion.{AreOpened, Files, Refused}, Symbols.TreeFacts, Text.{BeginsWith, GoesBeyond}, Texts.HasShortLines, Outcome.{IsAcceptedTree, IsOutcome, IsRefusedTree, Options, Outcome, cannot_read_line, fresh_input, lead, lines_text, input_names, out_of_memory_line, read_of, root_file, run_error_text, streams, unknown_name, unreadable_name}, Statements.error_line, declared.{diagnostics.RunError.RunError, outcome.{Delivery.Delivery, Status.Status}}}
 use Rattle.kc_io.specs.{Delivery.{NamedText, StopsBefore, cleared_by, delivers, stale_lines, stale_texts, status_with, texts_of}, Inputs.{AreInputs, AreThere, HasTurn, InputFile, ReadsTo, begun, bytes_of, reads, still_told}, Log.{Event, Leads, Log, Tells, TriesToSay, failed, reported, said}, declared.{device.{Action.{Action, TheVariants.{Open, Read, Report}}, Fault.Fault}, steps.Failure.Failure}}
 use Rattle.kc_load.specs.{Folder.{AreFilesOf, IsLoadFault, failed_load, FolderState, Leads as FolderLeads, files_told}, declared.fault.LoadFault.LoadFault}
 use Rattle.kc_conf.specs.declared.stop.Stop.{Stop}
@@ -34,8 +34,8 @@ AreLines text = (lines : List (List ℕ)) × (text ≡ lines_text lines)
 -- ---- An input file that cannot be read
 -- The warnings of the files before file i, and of the lines that a line feed ends in these first bytes of it.
 abbrev pub warned_by : Options → TreeFacts → List InputFile → ℕ → List ℕ → List ℕ
-warned_by options tree files i bytes = (reading tree options.prefix (fresh_input options tree) (lines_of (streams (names_of options)
-    (bytes_of (take i files))) ++ filter (λ l. l.ended) (lines_from (slice_index_or (names_of options) i []) 1 bytes))).warned
+warned_by options tree files i bytes = (reading tree options.prefix (fresh_input options tree) (lines_of (streams (input_names options)
+    (bytes_of (take i files))) ++ filter (λ l. l.ended) (lines_from (slice_index_or (input_names options) i []) 1 bytes))).warned
 
 -- This was done when a file could not be opened or read on. The files before it were there and were read, its turn had come, and these of its bytes
 -- were read, in which no line is too long. The warnings up to there were reported, unless --strict or --strict-tree holds them back.

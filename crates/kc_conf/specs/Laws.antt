@@ -1,6 +1,6 @@
 -- Trusted: The laws of outcomes: there is exactly one, its texts give the values back, no line is lost, and --strict passes only lines taken as written.
 -- Our own. Each law is the contract of a function that does nothing (src/laws.rt).
-use Rattle.kc_language.specs.{ConfigFile.{Assigns, Effect, Line, Notation, Nothing, Silent, StreamLocation, Warns, effect, is_prefix, is_reported, lines_of, meaning, plain_location, stream_location, value_text, warning_line}, Expansion.{AreOpened, Expands, Files, Log, Refused, numbered_lines}, Outcome.{IsAcceptedTree, IsOutcome, IsRefusedTree, IsSolutionFor, Options, Outcome, is_outside, lead, lines_text, names_of, read_of, refuses_input, reported, root_file, streams, warned_files, with_rule}, Symbols.{SymbolFacts, TreeFacts}, Texts.{ConfigGivesBack, HasShortLines, MinimalGivesBack, MinimalNeedsEach, Solution, config_text, has_prompt, header_text, known, lost_warning, minimal_text, solution_view, value_of, value_warnings}, Values.{GivenValue, facts, given_of, name, same_given}, declared.{diagnostics.{Warning.{TheVariants.{Changed, SetAgain}}}, expressions.{SymId.{SymId}, SymbolType.{SymbolType}}, outcome.{Status.{Status}}}}
+use Rattle.kc_language.specs.{ConfigFile.{Assigns, Effect, Line, Notation, Nothing, Silent, StreamLocation, Warns, effect, is_prefix, is_reported, lines_of, line_meaning, plain_location, stream_location, value_text, located_warning_line}, Expansion.{AreOpened, Expands, Files, ReadSoFar, Refused, numbered_lines}, Outcome.{IsAcceptedTree, IsOutcome, IsRefusedTree, IsSolutionFor, Options, Outcome, is_outside, lead, lines_text, input_names, read_of, refuses_input, reported, root_file, streams, warned_files, with_rule}, Symbols.{SymbolFacts, TreeFacts}, Texts.{ConfigGivesBack, HasShortLines, MinimalGivesBack, MinimalNeedsEach, Solution, config_text, has_prompt, header_text, known, lost_warning, minimal_text, solution_view, value_of, value_warnings}, Values.{GivenValue, facts, given_of, name, same_given}, declared.{diagnostics.{Warning.{TheVariants.{Changed, SetAgain}}}, expressions.{SymId.{SymId}, SymbolType.{SymbolType}}, outcome.{Status.{Status}}}}
 use Rattle.std.specs.{List.{list_any}, Prelude.{All, Bool, Contains, List, None, Ok, Some, [], false, option_map, true, ℕ, ◌++◌, ◌∷◌, ◌≡◌, ◌⊎◌}}
 use Rattle.kc_conf.specs.Faults.{AreLines, NamesAreTaken, diagnostics_of}
 
@@ -40,7 +40,7 @@ abbrev pub DoneAreWhole : Type 0
 DoneAreWhole = (files : Files) (options : Options) (all : List (List ℕ)) (outcome : Outcome) →
     IsOutcome files options all outcome → outcome.status ≡ Status.Done →
     (tree : TreeFacts) × (solution : Solution) × RefusesNothing files options all tree solution
-    × ((opened : List (List ℕ)) × AreOpened files (root_file options) opened × (log : Log) × Expands files (root_file options) (Ok log)
+    × ((opened : List (List ℕ)) × AreOpened files (root_file options) opened × (log : ReadSoFar) × Expands files (root_file options) (Ok log)
     × (outcome ≡ with_rule options opened (reported (lines_text tree.warnings)
     (reported (read_of options tree all).warned (warned_files files options tree (numbered_lines log.lines) (read_of options tree all).input solution)))))
     × (refuses_input options (read_of options tree all).input solution ≡ false)
@@ -99,18 +99,18 @@ abbrev pub IsSetAgain : TreeFacts → Notation → List ℕ → StreamLocation �
 IsSetAgain tree prefix warned from s symbol_type given later = (front back : List Line) × (next : Line) × (other : GivenValue)
     × (later ≡ front ++ next ∷ back) × All (λ m. (value : GivenValue) → effect tree prefix m ≡ Assigns s value → ⊥) front
     × (effect tree prefix next ≡ Assigns s other)
-    × HoldsLine warned (warning_line next.stream next.number (SetAgain (name tree s))) × (same_given given other ≡ false →
-    HoldsLine warned (warning_line next.stream next.number
+    × HoldsLine warned (located_warning_line next.stream next.number (SetAgain (name tree s))) × (same_given given other ≡ false →
+    HoldsLine warned (located_warning_line next.stream next.number
     (Changed (name tree s) (value_text prefix.is_raw symbol_type given) from.stream from.number (value_text prefix.is_raw symbol_type other))))
 
 -- A line of this effect, before these lines, is accounted for: it says nothing, it is warned of, or what it gives is replaced, kept or reported.
 module _ (tree : TreeFacts) (prefix : Notation) (lead : List ℕ) (solution : Solution) (warned : List ℕ) where
   abbrev pub IsAccountedFor : Line → List Line → Effect → Type 0
-  IsAccountedFor l later Silent = meaning tree prefix l ≡ Nothing
-  IsAccountedFor l later (Warns line_warning) = HoldsLine warned (warning_line l.stream l.number line_warning)
+  IsAccountedFor l later Silent = line_meaning tree prefix l ≡ Nothing
+  IsAccountedFor l later (Warns line_warning) = HoldsLine warned (located_warning_line l.stream l.number line_warning)
   IsAccountedFor l later (Assigns s given) = (f : SymbolFacts) × (facts tree s ≡ Some f)
       × (IsSetAgain tree prefix warned (plain_location lead (stream_location l)) s f.symbol_type given later ⊎ ((given ≡ given_of (known solution s))
-      ⊎ HoldsLine warned (warning_line l.stream l.number
+      ⊎ HoldsLine warned (located_warning_line l.stream l.number
       (lost_warning prefix.is_raw (has_prompt f.prompts) (name tree s) f.symbol_type given (given_of (known solution s))))))
 
 -- If the status is Done, the texts are those of the solution, and the warnings account for each line of the input files by its values.
@@ -118,7 +118,7 @@ abbrev pub NothingIsLost : Type 0
 NothingIsLost = (files : Files) (options : Options) (all : List (List ℕ)) (outcome : Outcome) →
     IsOutcome files options all outcome → outcome.status ≡ Status.Done → options.warn_lost ≡ true →
     (tree : TreeFacts) × (solution : Solution) × RefusesNothing files options all tree solution × HasItsTexts options tree solution outcome
-    × ((before later : List Line) (l : Line) → lines_of (streams (names_of options) all) ≡ before ++ l ∷ later →
+    × ((before later : List Line) (l : Line) → lines_of (streams (input_names options) all) ≡ before ++ l ∷ later →
     IsAccountedFor tree options.prefix (lead options) solution outcome.warned l later (effect tree options.prefix l))
 
 -- ---- With --strict, no line passes that was not taken as written
@@ -126,7 +126,7 @@ NothingIsLost = (files : Files) (options : Options) (all : List (List ℕ)) (out
 -- symbol another value, and with warn_lost the value that it gives is the symbol's.
 module _ (tree : TreeFacts) (prefix : Notation) (warn_lost : Bool) (solution : Solution) where
   abbrev pub IsTakenAsWritten : Line → List Line → Effect → Type 0
-  IsTakenAsWritten l later Silent = meaning tree prefix l ≡ Nothing
+  IsTakenAsWritten l later Silent = line_meaning tree prefix l ≡ Nothing
   IsTakenAsWritten l later (Warns line_warning) = is_reported warn_lost line_warning ≡ false
   IsTakenAsWritten l later (Assigns s given) =
       ((m : Line) (other : GivenValue) → Contains later m → effect tree prefix m ≡ Assigns s other → other ≡ given)
@@ -138,5 +138,5 @@ StrictTakesAll = (files : Files) (options : Options) (all : List (List ℕ)) (ou
     IsOutcome files options all outcome → outcome.status ≡ Status.Done → options.strict ≡ true →
     (tree : TreeFacts) × (solution : Solution) × RefusesNothing files options all tree solution × HasItsTexts options tree solution outcome
     × (list_any is_outside (value_warnings solution) ≡ false)
-    × ((before later : List Line) (l : Line) → lines_of (streams (names_of options) all) ≡ before ++ l ∷ later →
+    × ((before later : List Line) (l : Line) → lines_of (streams (input_names options) all) ≡ before ++ l ∷ later →
     IsTakenAsWritten tree options.prefix options.warn_lost solution l later (effect tree options.prefix l))

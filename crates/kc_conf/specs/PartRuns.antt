@@ -7,7 +7,7 @@ use Rattle.kc_conf.specs.Faults.{Breaks, Completes, clearing, event_of}
 use Rattle.kc_conf.specs.PartsOfFaults.{nothing_said, said_of_tree}
 use Rattle.kc_io.specs.Inputs.{AreInputs, InputFile, bytes_of, still_told}
 use Rattle.kc_conf.specs.Many.{IsPart}
-use Rattle.kc_language.specs.Outcome.{Options, IsOutcome, Outcome, has_text, is_done, lines_text, reported, refused_if}
+use Rattle.kc_language.specs.Outcome.{Options, IsOutcome, Outcome, is_not_empty, is_done, lines_text, reported, refused_if}
 use Rattle.kc_conf.specs.Reads.{IsReportStop}
 use Rattle.kc_language.specs.declared.outcome.Status.{Status}
 use Rattle.kc_conf.specs.declared.stop.Stop.{Stop}
@@ -25,7 +25,7 @@ SaysLines text (Err stop) old new = StopsLines text stop old new
 
 -- `strictly`, where a part of the run is left to come, and whether anything was told before it
 abbrev pub strictly_after : Options → Bool → Outcome → Outcome
-strictly_after options before part = refused_if options (is_done part.status && (options.strict_tree && (before || has_text part.warned))) part
+strictly_after options before part = refused_if options (is_done part.status && (options.strict_tree && (before || is_not_empty part.warned))) part
 
 module _ (files : Files) (options : Options) where
   -- A run with this outcome was broken off: it was not yet said why.

@@ -12,7 +12,7 @@ use Rattle.kc_language.specs.Texts.{HasShortLines}
 use Rattle.kc_config_file.specs.ReaderState.{ReaderState}
 use Rattle.kc_config_file.specs.Reading.{with_warnings}
 use Rattle.kc_language.specs.Text.{BeginsWith, GoesBeyond}
-use Rattle.kc_language.specs.Outcome.{Options, input_files, names_of, streams}
+use Rattle.kc_language.specs.Outcome.{Options, input_files, input_names, streams}
 use Rattle.kc_conf.specs.Faults.{AreLines}
 use Rattle.kc_conf.specs.Faults.{event_of}
 use Rattle.kc_io.specs.Inputs.{InputFile, IsAsTold, IsThere, ReadsInto, begun, bytes_of, reads, reads_one, still_told}
@@ -232,6 +232,6 @@ pub record ReadsSoFar (options : Options) (tree : TreeFacts) (count : ℕ) (old 
   pub there : All (IsThere (still_told old.log new.log)) files
   pub short : All HasShortLines (bytes_of files)
   pub warned : List ℕ
-  pub goes : (more : List Line) → reading tree options.prefix old.input (lines_of (streams (names_of options) (bytes_of files)) ++ more)
+  pub goes : (more : List Line) → reading tree options.prefix old.input (lines_of (streams (input_names options) (bytes_of files)) ++ more)
       ≡ with_warnings warned (reading tree options.prefix new.input more)
   pub warns : Warns warned (reads files) old new

@@ -10,7 +10,7 @@ use Rattle.kc_io.specs.declared.device.Fault.TheVariants as fault
 use Rattle.kc_io.specs.declared.steps.Failure.{Failure}
 use Rattle.kc_language.specs.ConfigFile.{ReadResult, StreamLocation, UserInput, lines_of, reading}
 use Rattle.kc_language.specs.Text.{BeginsWith, GoesBeyond}
-use Rattle.kc_language.specs.Outcome.{Options, names_of, streams}
+use Rattle.kc_language.specs.Outcome.{Options, input_names, streams}
 use Rattle.kc_language.specs.Outcome.{out_of_memory_line}
 use Rattle.kc_conf.specs.Faults.{AreLines}
 use Rattle.kc_conf.specs.Faults.{event_of, ReadsUpTo}
@@ -36,7 +36,7 @@ pub record ReadsInputs (options : Options) (tree : TreeFacts) (stopped : Option 
   pub reads_to : ReadsTo inputs stopped events
   pub there : AreThere (still_told old new) inputs
   pub warned : List ℕ
-  pub reading_is : reading tree options.prefix before (lines_of (streams (names_of options) (bytes_of inputs))) ≡ ended_with after warned stopped
+  pub reading_is : reading tree options.prefix before (lines_of (streams (input_names options) (bytes_of inputs))) ≡ ended_with after warned stopped
   pub log : Leads events (if waiting.holds then [] else warned) old new
   pub waits : waiting.text.items ≡ (if waiting.holds then warned else [])
 
@@ -53,7 +53,7 @@ pub record BreaksInputs (options : Options) (tree : TreeFacts) (stop : Stop) (be
   pub are_inputs : AreInputs (still_told old new) options inputs
   pub done : List Event
   pub front : List ℕ
-  pub stops : StopsInputs (still_told old new) options tree inputs (reading tree options.prefix before (lines_of (streams (names_of options) (bytes_of inputs)))).warned stop done front
+  pub stops : StopsInputs (still_told old new) options tree inputs (reading tree options.prefix before (lines_of (streams (input_names options) (bytes_of inputs)))).warned stop done front
   pub log : Leads (done ++ event_of stop) front old new
 
 -- the diagnostics are what failed

@@ -13,7 +13,7 @@ ghost use Rattle.kc_language.specs.Expansion.{Files};
 ghost use Rattle.kc_language.specs.Statements.{Located, Numbered};
 ghost use Rattle.kc_conf.specs.Accepted.{AreSources, IsReady};
 ghost use Rattle.kc_conf.specs.Faults.{AreLines};
-ghost use Rattle.kc_language.specs.Outcome.{lead, target, has_text, lines_text, names_listed, is_outside, lost_warnings, refuses_input};
+ghost use Rattle.kc_language.specs.Outcome.{lead, target, is_not_empty, lines_text, names_listed, is_outside, lost_warnings, refuses_input};
 ghost use Rattle.kc_conf.specs.PartsOfOutcome.{text_if};
 ghost use Rattle.kc_conf.specs.Computed.{Computes, explained_by, explained_lost, explanation_lead, files_from, lost_by, lost_from, new_by, new_from, sources_if};
 ghost use Rattle.kc_read.specs.Entries.{lines_in};
@@ -233,7 +233,7 @@ fn refuses_input(
 // Whether anything was warned of before, or is by this text.
 #[tactic(auto, using(crate::proofs::OutcomeLemmas::text_some))]
 fn is_warned_by(before: bool, text: &[u8]) -> bool
-    ensures { result ≡ (before || has_text text.now) }
+    ensures { result ≡ (before || is_not_empty text.now) }
 {
     before || !text.is_empty()
 }

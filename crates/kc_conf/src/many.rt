@@ -8,7 +8,7 @@ ghost use Rattle.kc_io.specs.Log.{Log};
 ghost use Rattle.kc_conf.specs.Accepted.{IsAcceptedOf, IsOrderedOf, IsReadOf, IsReady};
 ghost use Rattle.kc_conf.specs.Many.{AreRootedAt, KeepsFor, RunsEach, RunsTurn, StopsAtTree, TakeTurns, TakesTurn, ends_all, greater};
 ghost use Rattle.kc_language.specs.Symbols.{TreeFacts};
-ghost use Rattle.kc_language.specs.Outcome.{Options, IsAcceptedTree, IsRefusedTree, has_text, lines_text};
+ghost use Rattle.kc_language.specs.Outcome.{Options, IsAcceptedTree, IsRefusedTree, is_not_empty, lines_text};
 ghost use Rattle.kc_conf.specs.PartRuns.{LeavesTurn, StopsLines};
 
 use crate::accepted::{AcceptedTree, OrderedTree, TreeReading, borrowed, read_tree};
@@ -70,7 +70,7 @@ fn run_part<'o, D: Device>(
     device: &mut D,
 ) -> Result<Status, Stop<'o>>
     requires ready { IsReady accepted.now }
-    requires warned { is_warned ≡ has_text (lines_text accepted.now.laid.tree.now.warnings) }
+    requires warned { is_warned ≡ is_not_empty (lines_text accepted.now.laid.tree.now.warnings) }
     ensures { (files : Files) → IsAcceptedOf files options.now accepted.now → LeavesTurn files options.now accepted.now.laid.tree.now result (D.log device.old) (D.log device.new) }
 {
     one_answer();
@@ -116,7 +116,7 @@ fn run_turn<D: Device>(
     device: &mut D,
 ) -> Turn
     requires ready { IsReady accepted.now }
-    requires warned { is_warned ≡ has_text (lines_text accepted.now.laid.tree.now.warnings) }
+    requires warned { is_warned ≡ is_not_empty (lines_text accepted.now.laid.tree.now.warnings) }
     ensures { (files : Files) → IsAcceptedOf files options.now accepted.now →
         RunsTurn files accepted.now.laid.tree.now options.now (D.log device.old) (D.log device.new) result.status result.is_over }
 {
@@ -147,7 +147,7 @@ fn take_turn<C: Configurations, D: Device>(
 ) -> Turn
     requires within { i < C.number configurations.now }
     requires ready { IsReady accepted.now }
-    requires warned { is_warned ≡ has_text (lines_text accepted.now.laid.tree.now.warnings) }
+    requires warned { is_warned ≡ is_not_empty (lines_text accepted.now.laid.tree.now.warnings) }
     ensures { (files : Files) → ((options : Options) → C.options configurations.now i options → IsAcceptedOf files options accepted.now) →
         TakesTurn (RunsTurn files accepted.now.laid.tree.now) (C.options configurations.now i) (D.log device.old) (D.log device.new) result.status result.is_over }
 {
@@ -186,7 +186,7 @@ fn take_turns<C: Configurations, D: Device>(
     device: &mut D,
 ) -> Status
     requires ready { IsReady accepted.now }
-    requires warned { is_warned ≡ has_text (lines_text accepted.now.laid.tree.now.warnings) }
+    requires warned { is_warned ≡ is_not_empty (lines_text accepted.now.laid.tree.now.warnings) }
     ensures { (files : Files) → ((i : ℕ) (options : Options) → C.options configurations.now i options → IsAcceptedOf files options accepted.now) →
         TakeTurns (RunsTurn files accepted.now.laid.tree.now) (C.options configurations.now) 0 (C.number configurations.now) (D.log device.old) (D.log device.new) result }
 {

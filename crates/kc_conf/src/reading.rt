@@ -4,7 +4,7 @@ ghost use Rattle.std.specs.Prelude.{◌≡◌, ◌≤◌, ◌++◌, [], false, t
 ghost use Rattle.kc_io.specs.Log.{Leads, ReadsOn, reading, is_whole_lines};
 ghost use Rattle.kc_language.specs.ConfigFile.{ArePlacesOf};
 ghost use Rattle.kc_config_file.specs.Feeding.{stream_start};
-ghost use Rattle.kc_language.specs.Outcome.{lead, names_of};
+ghost use Rattle.kc_language.specs.Outcome.{lead, input_names};
 ghost use Rattle.kc_options.specs.PartsOfOutcome.{holds_warnings};
 ghost use Rattle.kc_language.specs.Outcome.{fresh_input};
 ghost use Rattle.kc_conf.specs.Reads.{BreaksInputs, ReadsInputs, stop_of};
@@ -221,7 +221,7 @@ fn fragment_name(alloc: Global, options: &Options, fragment: &str) -> Result<Vec
 
 /// The names of the input files in diagnostics.
 pub(crate) fn stream_names(alloc: Global, options: &Options) -> Result<Vec<Vec<u8>>, AllocError>
-    ensures { IfOk result (λ names. map (λ name. name.items) names.items ≡ names_of options.now) }
+    ensures { IfOk result (λ names. map (λ name. name.items) names.items ≡ input_names options.now) }
 {
     let mut names = Vec::new(alloc);
     names.push(Vec::from_slice(alloc, options.config.as_bytes())?)?;
@@ -244,7 +244,7 @@ pub(crate) fn read_inputs<'o, 'a, D: Device>(
     waiting: &mut Waiting,
 ) -> Result<Option<LongLine<'a>>, Stop<'o>>
     requires prefix { prefix.now ≡ options.now.prefix }
-    requires names { map (λ name. name.items) names.now ≡ names_of options.now }
+    requires names { map (λ name. name.items) names.now ≡ input_names options.now }
     requires user { user.old ≡ fresh_input options.now tree.now }
     requires waiting { (waiting.old.text.items ≡ []) × (waiting.old.holds ≡ holds_warnings options.now) }
     ensures ok { IfOk result (λ long. ReadsInputs options.now tree.now (option_map stop_of long) user.old user.new waiting.new (D.log device.old) (D.log device.new)) }

@@ -6,7 +6,7 @@ ghost use Rattle.kc_read.specs.RefusalView.{refusal_view};
 ghost use Rattle.kc_language.specs.declared.diagnostics.Cause.TheVariants.{Memory};
 ghost use Rattle.kc_io.specs.Delivered.{text_view};
 ghost use Rattle.kc_conf.specs.Accepted.{IsAcceptedOf, IsReadOf, IsReady};
-ghost use Rattle.kc_language.specs.Outcome.{Options, fresh_input, lead, refusal_line, root_file, has_text, lines_text, names_listed};
+ghost use Rattle.kc_language.specs.Outcome.{Options, fresh_input, lead, refusal_line, root_file, is_not_empty, lines_text, names_listed};
 ghost use Rattle.kc_conf.specs.PartsOfOutcome.{too_long_line};
 ghost use Rattle.kc_conf.specs.Faults.{AreLines};
 ghost use Rattle.kc_conf.specs.PartsOfOutcome.{strict_line};
@@ -234,7 +234,7 @@ pub(crate) fn run_inputs<'o, D: Device>(
     requires ready { IsReady accepted.now }
     requires names { names.now ≡ names_listed options.now accepted.now.opened.now }
     requires taken { refused_name_of options.now accepted.now.opened.now accepted.now.laid.tree.now ≡ None }
-    requires warned { is_warned ≡ has_text (lines_text accepted.now.laid.tree.now.warnings) }
+    requires warned { is_warned ≡ is_not_empty (lines_text accepted.now.laid.tree.now.warnings) }
     ensures { (files : Files) → IsAcceptedOf files options.now accepted.now → LeavesPart files options.now accepted.now.laid.tree.now result (D.log device.old) (D.log device.new) }
 {
     one_answer();

@@ -4,7 +4,7 @@ use Rattle.std.specs.Prelude.{slice_set}
 use Rattle.kc_language.specs.declared.expressions.SymId.{SymId}
 use Rattle.kc_language.specs.Symbols.{TreeFacts}
 use Rattle.kc_language.specs.Values.{GivenValue}
-use Rattle.kc_language.specs.ConfigFile.{Notation, Places, Effect, Silent, Warns, Assigns, Line, UserInput, StreamLocation, effect, gone_after, input_after, meaning, not_allowed, places_after, refused_after, stream_location, untaken, untaken_line, warning, warnings}
+use Rattle.kc_language.specs.ConfigFile.{Notation, Places, Effect, Silent, Warns, Assigns, Line, UserInput, StreamLocation, effect, gone_after, input_after, line_meaning, not_allowed, places_after, refused_after, stream_location, untaken, untaken_line, warning, warnings}
 use Rattle.kc_config_file.specs.PartsOfConfigFile.{assignments}
 use Rattle.kc_config_file.specs.LineSteps.{gone_by, input_by, refused_by}
 use Rattle.kc_config_file.specs.ReadingLaws.{GoesLineByLine, LinesAddUp, LinesAreCut, LinesDoWhatTheySay, LinesInTurn, LinesKeepCounts}
@@ -71,7 +71,7 @@ module _ (tree : TreeFacts) (prefix : Notation) where
       let kept : refused_after tree prefix input.refused (l ∷ []) ≡ input.refused =
       refused_after-line tree prefix input.refused l ∙ ap (λ e. refused_by (stream_location l) (not_allowed tree e) input.refused) is in
       let same : gone_after tree prefix input.gone (l ∷ []) ≡ input.gone =
-      gone_after-line tree prefix input.gone l ∙ ap (λ e. gone_by prefix (meaning tree prefix l) e input.gone) is in
+      gone_after-line tree prefix input.gone l ∙ ap (λ e. gone_by prefix (line_meaning tree prefix l) e input.gone) is in
       step input l Silent is
       ∙ ap (λ (refused : List (Option StreamLocation)). record input { refused = refused; gone = gone_after tree prefix input.gone (l ∷ []) }) kept
       ∙ ap (λ (gone : Option (List ℕ × List ℕ)). record input { gone = gone }) same

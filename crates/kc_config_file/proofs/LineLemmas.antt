@@ -7,7 +7,7 @@ use Rattle.std.proofs.lemmas.List.Splits.{slice_split_at, slice_split_none, slic
 use Rattle.kc_language.specs.Lines.{is_line_feed}
 use Rattle.kc_language.specs.declared.expressions.SymId.{SymId}
 use Rattle.kc_language.specs.Symbols.{TreeFacts}
-use Rattle.kc_language.specs.{ConfigFile.{Assigns, Effect, Line, Notation, Places, Silent, StreamLocation, UserInput, Warns, each_from, effect, effect_of, gone_after, input_after, is_gone, is_on, is_reported, is_taken, is_within, lines_after, lines_from, meaning, meaning_of, not_allowed, places_given, refused_after, said_line, stream_location, untaken, untaken_line, warning}}
+use Rattle.kc_language.specs.{ConfigFile.{Assigns, Effect, Line, Notation, Places, Silent, StreamLocation, UserInput, Warns, each_from, effect, effect_of, gone_after, input_after, is_gone, is_on, is_reported, is_taken, is_within, lines_after, lines_from, line_meaning, meaning_of, not_allowed, places_given, refused_after, said_line, stream_location, untaken, untaken_line, warning}}
 use Rattle.kc_config_file.specs.PartsOfConfigFile.{line, last_line, text_of, effect_text, assignment_of, line_for, refused_for}
 use Rattle.kc_config_file.specs.LineSteps.{gone_by, input_by, input_with, refused_by}
 use Rattle.kc_config_file.proofs.StepEffects.{places_by, lines_by, all_by}
@@ -101,9 +101,9 @@ one_gone text true false (Some told) = λ i. Some (append-nil told.0 i, told.1 +
 one_gone text false on (Some told) = λ i. Some (append-nil told.0 i, append-nil told.1 i)
 
 pub gone_after-line : (tree : TreeFacts) (prefix : Notation) (old : Option (List ℕ × List ℕ)) (l : Line) →
-    gone_after tree prefix old (l ∷ []) ≡ gone_by prefix (meaning tree prefix l) (effect tree prefix l) old
+    gone_after tree prefix old (l ∷ []) ≡ gone_by prefix (line_meaning tree prefix l) (effect tree prefix l) old
 unfolding gone_after
-gone_after-line tree prefix old l = one_gone (said_line prefix.prefix (meaning tree prefix l)) (is_gone (effect tree prefix l)) (is_on (meaning tree prefix l)) old
+gone_after-line tree prefix old l = one_gone (said_line prefix.prefix (line_meaning tree prefix l)) (is_gone (effect tree prefix l)) (is_on (line_meaning tree prefix l)) old
 
 pub input_after-parts : (tree : TreeFacts) (prefix : Notation) (input : UserInput) (l : Line) →
     input_after tree prefix input (l ∷ [])

@@ -4,7 +4,7 @@ use Rattle.std.specs.List.{after_first, before_first, filter_map, list_any, posi
 use Rattle.std.specs.Option.{option_and_then, option_map_or}
 use Rattle.std.specs.Prelude.{Bool, List, None, Option, Some, [], codes, drop, false, find, if◌then◌else◌, length, nat_le, nat_lt, not, option_map, slice_index, take, take_while, ℕ, ◌&&◌, ◌++◌, ◌-◌, ◌==◌, ◌∷◌}
 use Rattle.std.specs.Str.Lines.{strip_carriage_return}
-use Rattle.kc_language.specs.ConfigFile.{Notation, Assignment, Assigns, Effect, Line, LineMeaning, Malformed, Nothing, Set, Silent, StreamLocation, Unset, UserInput, Warns, change_text, effect, effect_warning, is_within, meaning_of, name_and_value, place_at, plain_line, raw_string, set_by_type, unset_by_type, unset_name, until_quote, value_by, value_text, without_prefix, without_suffix, warning_line, yes_or_no}
+use Rattle.kc_language.specs.ConfigFile.{Notation, Assignment, Assigns, Effect, Line, LineMeaning, Malformed, Nothing, Set, Silent, StreamLocation, Unset, UserInput, Warns, change_text, effect, effect_warning, is_within, meaning_of, name_and_value, place_at, plain_line, raw_string, set_by_type, unset_by_type, unset_name, until_quote, value_by, value_text, without_prefix, without_suffix, located_warning_line, yes_or_no}
 use Rattle.kc_language.specs.Expressions.{symbol}
 use Rattle.kc_language.specs.Symbols.{TreeFacts, Warning}
 use Rattle.kc_language.specs.Text.{byte, longest_value, unescape}
@@ -143,12 +143,12 @@ given_to i a = if a.symbol.0 == i then Some a.given else None
 
 abbrev pub warning_line_if : List ℕ → ℕ → Option Warning → List ℕ
 warning_line_if stream number None = []
-warning_line_if stream number (Some line_warning) = warning_line stream number line_warning
+warning_line_if stream number (Some line_warning) = located_warning_line stream number line_warning
 
 -- a line gives the symbol another value than an earlier line (K15)
 abbrev pub change_line : Bool → StreamLocation → List ℕ → SymbolType → GivenValue → StreamLocation → GivenValue → List ℕ
 change_line is_raw at called kind old from given =
-    warning_line at.stream at.number (Changed called (value_text is_raw kind old) from.stream from.number (value_text is_raw kind given))
+    located_warning_line at.stream at.number (Changed called (value_text is_raw kind old) from.stream from.number (value_text is_raw kind given))
 
 -- what a line changes, where the lines of the user's values are kept
 abbrev pub effect_change : Bool → TreeFacts → UserInput → StreamLocation → Effect → List ℕ

@@ -108,7 +108,7 @@ pub fn warn(
     line_warning: Warning<&[u8]>,
     told: &mut Vec<u8>,
 ) -> Result<(), AllocError>
-    ensures whole { OnOk result (told.new.items ≡ told.old.items ++ spec.warning_line stream.now number (shown_warning line_warning.entry)) }
+    ensures whole { OnOk result (told.new.items ≡ told.old.items ++ spec.located_warning_line stream.now number (shown_warning line_warning.entry)) }
     ensures nothing { OnErr result (told.new.items ≡ told.old.items) }
 {
     let before = told.len();

@@ -1,7 +1,7 @@
 //! What one line of a stream does to the user's input.
 ghost use Rattle.std.specs.Prelude.{◌≡◌, ◌++◌, ◌<◌, true, [], ◌∷◌, length, map, slice_set, Some, None, IfOk, OnOk, OnErr, IfSome, option_map};
 ghost use Rattle.kc_user.specs.ValueView.{given_of_value};
-ghost use Rattle.kc_language.specs.ConfigFile.{change_text, is_change, meaning_of, Assigns, Warns, effect_of, is_gone, is_reported, not_allowed, warning_line, ArePlacesOf, place_at, places_given};
+ghost use Rattle.kc_language.specs.ConfigFile.{change_text, is_change, meaning_of, Assigns, Warns, effect_of, is_gone, is_reported, not_allowed, located_warning_line, ArePlacesOf, place_at, places_given};
 ghost use Rattle.kc_config_file.specs.PartsOfConfigFile.{change_line};
 ghost use Rattle.kc_config_file.specs.PartsOfConfigFile.{effect_text, choice_of};
 ghost use Rattle.kc_language.specs.declared.diagnostics.Warning.TheVariants.{Changed, SetAgain};
@@ -138,7 +138,7 @@ fn tell_values<'a>(
     told: &mut Vec<u8>,
 ) -> Result<(), AllocError>
     ensures { OnOk result (told.new.items ≡ told.old.items
-        ++ warning_line at.entry.file.now at.entry.number (Changed name.now before.now from.entry.file.now from.entry.number now.now)) }
+        ++ located_warning_line at.entry.file.now at.entry.number (Changed name.now before.now from.entry.file.now from.entry.number now.now)) }
 {
     let warning = Warning::Changed {
         name,
@@ -172,7 +172,7 @@ fn add_change<'a>(
 
 // Tells that the symbol is set again.
 fn tell_again(at: InputLine<'_>, name: &[u8], told: &mut Vec<u8>) -> Result<(), AllocError>
-    ensures whole { OnOk result (told.new.items ≡ told.old.items ++ warning_line at.entry.file.now at.entry.number (SetAgain name.now)) }
+    ensures whole { OnOk result (told.new.items ≡ told.old.items ++ located_warning_line at.entry.file.now at.entry.number (SetAgain name.now)) }
     ensures nothing { OnErr result (told.new.items ≡ told.old.items) }
 {
     warn(at.file, at.number, Warning::SetAgain(name), told)
@@ -188,7 +188,7 @@ fn tell_change<'a>(
     new: Given<'a>,
     told: &mut Vec<u8>,
 ) -> Result<(), AllocError>
-    ensures whole { OnOk result (told.new.items ≡ told.old.items ++ (warning_line new.entry.at.file.now new.entry.at.number (SetAgain name.now)
+    ensures whole { OnOk result (told.new.items ≡ told.old.items ++ (located_warning_line new.entry.at.file.now new.entry.at.number (SetAgain name.now)
         ++ change_line is_raw (location_of new.entry.at) name.now symbol_type (given_by old.entry.value) (location_of old.entry.at) (given_by new.entry.value))) }
     ensures nothing { OnErr result (told.new.items ≡ told.old.items) }
 {
@@ -209,7 +209,7 @@ fn tell_both(
     new: Given<'_>,
     told: &mut Vec<u8>,
 ) -> Result<(), AllocError>
-    ensures whole { OnOk result (told.new.items ≡ told.old.items ++ (warning_line new.entry.at.file.now new.entry.at.number (SetAgain name.now)
+    ensures whole { OnOk result (told.new.items ≡ told.old.items ++ (located_warning_line new.entry.at.file.now new.entry.at.number (SetAgain name.now)
         ++ change_text is_raw (location_of new.entry.at) name.now symbol_type (Some (given_by old.entry)) (option_map location_of from.entry) (given_by new.entry.value))) }
     ensures nothing { OnErr result (told.new.items ≡ told.old.items) }
 {

@@ -5,7 +5,7 @@ use Rattle.kc_language.specs.Explanations as rules
 use Rattle.kc_language.specs.Explanations.{Said, expression_text, operand_text}
 use Rattle.kc_language.specs.Expressions.{Form, Leaf, lesser, tri_text, truth_of_value, value}
 use Rattle.kc_language.specs.Statements.{DependsLine, Located, Numbered, VisibleLine}
-use Rattle.kc_language.specs.Symbols.{Bounds, StatedDefault, has_text, listed}
+use Rattle.kc_language.specs.Symbols.{Bounds, StatedDefault, holds_text, listed}
 use Rattle.kc_language.specs.Texts.{Solution, known}
 use Rattle.kc_language.specs.Values.{is_n, name, number_text, single_text}
 use Rattle.kc_language.specs.declared.expressions.SymId.{SymId}
@@ -56,7 +56,7 @@ abbrev pub truth_in : Solution → Form → Tri
 truth_in solution e = value (known solution) solution.tree.modules e
 
 abbrev pub worth_by : Solution → SymbolType → Form → List ℕ
-worth_by solution kind e = if has_text kind then text_in solution e else tri_text (truth_in solution e)
+worth_by solution kind e = if holds_text kind then text_in solution e else tri_text (truth_in solution e)
 
 abbrev pub default_line : List (Located Numbered) → Solution → SymbolType → Said StatedDefault → List ℕ
 default_line lines solution kind d = rules.default_text lines solution d ++ rules.applied_text lines solution kind d

@@ -7,7 +7,7 @@ ghost use Rattle.kc_expr.specs.Value.{value_by_type};
 ghost use Rattle.kc_expr.specs.When.{when_view};
 ghost use Rattle.kc_language.specs.Explanations as rules;
 ghost use Rattle.kc_language.specs.Expressions.{lesser, truth_of_value};
-ghost use Rattle.kc_language.specs.Symbols.{has_text, listed};
+ghost use Rattle.kc_language.specs.Symbols.{holds_text, listed};
 ghost use Rattle.kc_language.specs.Texts.{known};
 ghost use Rattle.kc_language.specs.Values.{given_of};
 ghost use Rattle.kc_values.specs.Small.{HasSmallBounds};
@@ -328,8 +328,8 @@ fn add_default(
 }
 
 // Whether a symbol of this type is worth a text.
-fn has_text(symbol_type: SymbolType) -> bool
-    ensures { result ≡ has_text symbol_type }
+fn holds_text(symbol_type: SymbolType) -> bool
+    ensures { result ≡ holds_text symbol_type }
 {
     matches!(
         symbol_type,
@@ -362,7 +362,7 @@ fn add_default_worth(
 ) -> Result<(), AllocError>
     ensures { OnOk result (text.new.items ≡ text.old.items ++ spec.worth_by t.now.solved.now symbol_type (form_of e.now)) }
 {
-    if has_text(symbol_type) {
+    if holds_text(symbol_type) {
         text.extend_from_slice(text_of(t.solved, e))
     } else {
         text.extend_from_slice(tri_text(truth_of_form(t.solved, e)))

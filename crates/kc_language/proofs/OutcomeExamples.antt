@@ -5,7 +5,7 @@ use Rattle.std.specs.List.{list_all, list_any}
 use Rattle.std.specs.Prelude.{List, None, Ok, Option, Some, [], codes, false, find, if◌then◌else◌, is_some, not, String, length, map, min, string_bytes, take, true, ℕ, ◌++◌, ◌-◌, ◌^◌, ◌||◌, ◌∷◌}
 use Rattle.std.specs.Fmt.{digits}
 use Rattle.std.specs.declared.alloc.Global.{Global}
-use Rattle.kc_language.specs.{ConfigFile.{Notation, ReadResult, effect, gone_after, lines_after, lines_from, no_input, place_at, places_given, reading, reading_of, refused_after, untaken, untaken_line, warning, warnings}, Expansion.{AreOpened, Expands, FileContext, Files, Log, NextStatement, Rest, at_end, bytes_in, first_log, numbered_lines, statement, without_help}}
+use Rattle.kc_language.specs.{ConfigFile.{Notation, ReadResult, effect, gone_after, lines_after, lines_from, no_input, place_at, places_given, reading, reading_of, refused_after, untaken, untaken_line, warning, warnings}, Expansion.{AreOpened, Expands, FileContext, Files, ReadSoFar, NextStatement, Rest, at_end, bytes_in, first_log, numbered_lines, statement, without_help}}
 use Rattle.kc_language.specs.Expressions.{Atom, Disjunction, OperandToken, QuotedAtom, Single, Symbol, Text, TextValue, Truth, WordAtom, conjunction, lone, negation, only, symbol, terminal_of}
 use Rattle.kc_language.specs.Explanations.{asked_symbol}
 use Rattle.kc_language.specs.Lines.{Physical, UnreadLines, continues, joined_text, physical_lines, unread_lines}
@@ -112,7 +112,7 @@ read_statements =
     at 6 (ConfigLine (codes "C")) ∷ at 7 (TypeLine Int (Some (record { text = codes "c"; when = None }))) ∷
     at 8 (DefaultLine (single (QuotedAtom (codes "7"))) None) ∷ []
 
-abbrev log_of : List (Located Named) → Log
+abbrev log_of : List (Located Named) → ReadSoFar
 log_of ls = record { lines = ls; total_lines = 8; opened = codes "Kconfig" ∷ [] }
 
 -- One operand to the end of the line is a value.

@@ -111,7 +111,7 @@ abbrev pub is_gone : Effect → Bool
 is_gone e = elim e [ Warns w ↦ elim w [ UnknownSymbol called ↦ true | _ ↦ false ] | _ ↦ false ]
 
 abbrev pub is_on : LineMeaning → Bool
-is_on meaning = elim meaning [ Set called text ↦ not (bytes_eq text (codes "n")) | _ ↦ false ]
+is_on line_meaning = elim line_meaning [ Set called text ↦ not (bytes_eq text (codes "n")) | _ ↦ false ]
 
 abbrev pub said_line : List ℕ → LineMeaning → List ℕ
 said_line prefix (Unset called) = codes "# " ++ prefix ++ called ++ codes " is not set\n"
@@ -243,13 +243,13 @@ effect_warning asked tree places e =
     elim e [ Silent ↦ None | Warns w ↦ if is_reported asked w then Some w else None | Assigns s given ↦ if is_some (place_at places (SymbolPlace s.0)) then Some (SetAgain (name tree s)) else None ]
 
 -- The line of a warning. K15: a line gives the symbol another value than an earlier line, if that line is known.
-abbrev pub warning_line : List ℕ → ℕ → Warning → List ℕ
-warning_line stream number w = located_warning stream number w ++ codes "\n"
+abbrev pub located_warning_line : List ℕ → ℕ → Warning → List ℕ
+located_warning_line stream number w = located_warning stream number w ++ codes "\n"
 
 abbrev pub change_text : Bool → StreamLocation → List ℕ → SymbolType → Option GivenValue → Option StreamLocation → GivenValue → List ℕ
 change_text is_raw at called kind (Some old) (Some from) given =
     if same_given old given then []
-    else warning_line at.stream at.number (Changed called (value_text is_raw kind old) from.stream from.number (value_text is_raw kind given))
+    else located_warning_line at.stream at.number (Changed called (value_text is_raw kind old) from.stream from.number (value_text is_raw kind given))
 change_text is_raw at called kind _ _ given = []
 
 -- What a reading gives: the user's input, the lines of diagnostics, and the line that stopped it because it is too long.
@@ -260,11 +260,11 @@ pub record ReadResult : Type 0 where
 
 module _ (tree : TreeFacts) (notation : Notation) where
   -- What a line says and does. A carriage return directly before the line feed belongs to the line's end.
-  abbrev pub meaning : Line → LineMeaning
-  meaning l = meaning_of notation.prefix (if l.ended then strip_carriage_return l.bytes else l.bytes)
+  abbrev pub line_meaning : Line → LineMeaning
+  line_meaning l = meaning_of notation.prefix (if l.ended then strip_carriage_return l.bytes else l.bytes)
 
   unfoldable pub effect : Line → Effect
-  effect l = effect_of notation.is_raw tree (meaning l)
+  effect l = effect_of notation.is_raw tree (line_meaning l)
 
   -- The values after these lines, and for each symbol the line that gave its value last.
   abbrev pub places_after : Places → List Line → Places
@@ -282,7 +282,7 @@ module _ (tree : TreeFacts) (notation : Notation) where
 
   -- The texts of the gone lines: those of this kind, and those before and among these lines.
   abbrev pub gone_text : (LineMeaning → Bool) → List Line → List ℕ
-  gone_text is_kind lines = flat_map (λ l. if is_gone (effect l) && is_kind (meaning l) then said_line notation.prefix (meaning l) else []) lines
+  gone_text is_kind lines = flat_map (λ l. if is_gone (effect l) && is_kind (line_meaning l) then said_line notation.prefix (line_meaning l) else []) lines
 
   unfoldable pub gone_after : Option (List ℕ × List ℕ) → List Line → Option (List ℕ × List ℕ)
   gone_after old lines = option_map (λ told. (told.0 ++ gone_text is_on lines, told.1 ++ gone_text (λ m. not (is_on m)) lines)) old
@@ -309,7 +309,7 @@ module _ (tree : TreeFacts) (notation : Notation) where
   -- The diagnostics of one line and of all lines. Each is judged with the input that the lines before it give.
   unfoldable pub warning : UserInput → Line → List ℕ
   warning input l =
-      elim (effect_warning input.asks_unset tree input.places (effect l)) [ None ↦ [] | Some w ↦ warning_line l.stream l.number w ]
+      elim (effect_warning input.asks_unset tree input.places (effect l)) [ None ↦ [] | Some w ↦ located_warning_line l.stream l.number w ]
       ++ elim (effect l) [
         | Assigns s given ↦ change_text notation.is_raw (stream_location l) (name tree s)
             (type_in (facts tree s)) (place_at input.places (SymbolPlace s.0)) (plain_line input input.lines s) given

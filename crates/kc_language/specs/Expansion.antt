@@ -97,11 +97,11 @@ module _ {E L S : Type 0} where
   modules_of ss = if list_any is_modules ss then last_of (definitions (before_first is_modules ss)) else None
 
 -- The names of a tree, each once, in the order of their first mention, and its lines with each name as its number in that order.
-abbrev pub names_of : List Named → List (List ℕ)
-names_of ss = all_mentioned [] (flat_map names_in_statement ss)
+abbrev pub mentioned_names : List Named → List (List ℕ)
+mentioned_names ss = all_mentioned [] (flat_map names_in_statement ss)
 
 abbrev pub numbered_lines : List (Located Named) → List (Located Numbered)
-numbered_lines ls = map (λ l. record { file = l.file; line = l.line; statement = numbered (number_of (names_of (statements ls))) l.statement }) ls
+numbered_lines ls = map (λ l. record { file = l.file; line = l.line; statement = numbered (number_of (mentioned_names (statements ls))) l.statement }) ls
 
 -- ---- What a line is read with
 -- An error and where it stands: a file and a line. A dependency loop has no location.
@@ -109,8 +109,8 @@ pub record Refused : Type 0 where
   pub cause : Cause
   pub location : Option (List ℕ × ℕ)
 
-abbrev pub refused : Cause → List ℕ → ℕ → Refused
-refused c file line = record { cause = c; location = Some (file, line) }
+abbrev pub refused_at : Cause → List ℕ → ℕ → Refused
+refused_at c file line = record { cause = c; location = Some (file, line) }
 
 -- What surrounds a file: the open files, of which it is the last, and the blocks that are open in the files that source it.
 pub record FileContext : Type 0 where
@@ -119,7 +119,7 @@ pub record FileContext : Type 0 where
   pub blocks : List Block
 
 -- What was read of all files: their statements, the number of their physical lines, and their names, each once, in the order of opening.
-pub record Log : Type 0 where
+pub record ReadSoFar : Type 0 where
   pub lines : List (Located Named)
   pub total_lines : ℕ
   pub opened : List (List ℕ)
@@ -129,19 +129,19 @@ abbrev pub may_be_modules : List Named → Bool
 may_be_modules ss = elim (modules_of ss) [ None ↦ true | Some n ↦ elim (last_of (definitions ss)) [ None ↦ false | Some m ↦ same_name n m ] ]
 
 -- The context of a file's next line, where own are the file's statements so far.
-abbrev pub is_choice : Block → Bool
-is_choice b = elim b [ Block.Choice ↦ true | _ ↦ false ]
+abbrev pub is_choice_block : Block → Bool
+is_choice_block b = elim b [ Block.Choice ↦ true | _ ↦ false ]
 
-abbrev pub context_of : FileContext → List (Located Named) → Log → LineContext
+abbrev pub context_of : FileContext → List (Located Named) → ReadSoFar → LineContext
 context_of a own log = record {
   entry = entry_of (last_of (filter is_no_attribute (statements own)));
   own = last_of (open_blocks (statements own));
-  in_choice = list_any is_choice a.blocks || list_any is_choice (open_blocks (statements own));
+  in_choice = list_any is_choice_block a.blocks || list_any is_choice_block (open_blocks (statements own));
   modules = may_be_modules (statements log.lines);
 }
 
 -- The limit that this statement passes: too many symbols are defined (E16), or too many blocks are open (E12).
-abbrev pub limit_cause : FileContext → List (Located Named) → Log → Named → Option Cause
+abbrev pub limit_cause : FileContext → List (Located Named) → ReadSoFar → Named → Option Cause
 limit_cause a own log (ConfigLine n) =
     if nat_lt most_symbols (length (mention (all_mentioned [] (definitions (statements log.lines))) n)) then Some cause.TooManySymbols else None
 limit_cause a own log s =
@@ -161,7 +161,7 @@ sourcing_cause files names n name = if list_any (same_name name) names then Some
 abbrev pub inside : FileContext → List (Located Named) → List ℕ → FileContext
 inside a own name = record { open_files = a.open_files ++ name ∷ []; file = name; blocks = a.blocks ++ open_blocks (statements own) }
 
-abbrev pub with_file : Log → List ℕ → List ℕ → Log
+abbrev pub with_file : ReadSoFar → List ℕ → List ℕ → ReadSoFar
 with_file log name bytes = record log { total_lines = log.total_lines + length (physical_lines bytes); opened = mention log.opened name }
 
 -- A statement of the file is added to lines.
@@ -209,54 +209,54 @@ IsUnclosed own opener = (j : ℕ) × (last_of (open_block_indices (statements ow
 
 -- ---- A whole file
 -- What the rest of a file gives: the log at its end, or the first error. l is unread of it, own are its statements so far, log is what was read.
-pub data Rest (files : Files) : FileContext → UnreadLines → List (Located Named) → Log → Result Log Refused → Type 0 where
-  at_end : (a : FileContext) (l : UnreadLines) (own : List (Located Named)) (log : Log) → l.lines ≡ [] → open_blocks (statements own) ≡ [] →
+pub data Rest (files : Files) : FileContext → UnreadLines → List (Located Named) → ReadSoFar → Result ReadSoFar Refused → Type 0 where
+  at_end : (a : FileContext) (l : UnreadLines) (own : List (Located Named)) (log : ReadSoFar) → l.lines ≡ [] → open_blocks (statements own) ≡ [] →
       Rest files a l own log (Ok log)
-  unclosed : (a : FileContext) (l : UnreadLines) (own : List (Located Named)) (log : Log) (opener : Located Named) → l.lines ≡ [] → IsUnclosed own opener →
-      Rest files a l own log (Err (refused cause.Block opener.file opener.line))
-  too_long : (a : FileContext) (l : UnreadLines) (own : List (Located Named)) (log : Log) → IsTooLong l →
-      Rest files a l own log (Err (refused cause.LineTooLong a.file l.number))
-  no_tokens : (a : FileContext) (l m : UnreadLines) (own : List (Located Named)) (log : Log) (ts : List Lexeme) (why : TextFault) →
-      NextLine files.flat l m ts (Some why) → Rest files a l own log (Err (refused (text_cause why) a.file l.number))
-  blank : (a : FileContext) (l m : UnreadLines) (own : List (Located Named)) (log : Log) (r : Result Log Refused) →
+  unclosed : (a : FileContext) (l : UnreadLines) (own : List (Located Named)) (log : ReadSoFar) (opener : Located Named) → l.lines ≡ [] → IsUnclosed own opener →
+      Rest files a l own log (Err (refused_at cause.Block opener.file opener.line))
+  too_long : (a : FileContext) (l : UnreadLines) (own : List (Located Named)) (log : ReadSoFar) → IsTooLong l →
+      Rest files a l own log (Err (refused_at cause.LineTooLong a.file l.number))
+  no_tokens : (a : FileContext) (l m : UnreadLines) (own : List (Located Named)) (log : ReadSoFar) (ts : List Lexeme) (why : TextFault) →
+      NextLine files.flat l m ts (Some why) → Rest files a l own log (Err (refused_at (text_cause why) a.file l.number))
+  blank : (a : FileContext) (l m : UnreadLines) (own : List (Located Named)) (log : ReadSoFar) (r : Result ReadSoFar Refused) →
       IsBlankNext files.flat l m → Rest files a m own log r → Rest files a l own log r
   -- A marker of the same file changes the number alone. One of another file is like a `source` line whose file's lines follow here.
-  renumbered : (a : FileContext) (l m : UnreadLines) (own : List (Located Named)) (log : Log) (n : ℕ) (r : Result Log Refused) →
+  renumbered : (a : FileContext) (l m : UnreadLines) (own : List (Located Named)) (log : ReadSoFar) (n : ℕ) (r : Result ReadSoFar Refused) →
       MarksNext files.flat l m n a.file → Rest files a (record m { number = n }) own log r → Rest files a l own log r
-  moved : (a : FileContext) (l m : UnreadLines) (own : List (Located Named)) (log : Log) (n : ℕ) (name : List ℕ) (r : Result Log Refused) →
+  moved : (a : FileContext) (l m : UnreadLines) (own : List (Located Named)) (log : ReadSoFar) (n : ℕ) (name : List ℕ) (r : Result ReadSoFar Refused) →
       MarksNext files.flat l m n name → same_name name a.file ≡ false → Rest files (record a { file = name }) (record m { number = n })
       (with_line own a l.number (SourceLine name)) (record log { opened = mention log.opened name }) r → Rest files a l own log r
-  bad_line : (a : FileContext) (l m : UnreadLines) (own : List (Located Named)) (log : Log) (c : Cause) →
-      NextStatement files.flat l m (context_of a own log) (Err c) → Rest files a l own log (Err (refused c a.file l.number))
-  over_limit : (a : FileContext) (l m : UnreadLines) (own : List (Located Named)) (log : Log) (s : Named) (c : Cause) →
-      NextStatement files.flat l m (context_of a own log) (Ok s) → limit_cause a own log s ≡ Some c → Rest files a l own log (Err (refused c a.file l.number))
-  statement : (a : FileContext) (l m : UnreadLines) (own : List (Located Named)) (log : Log) (s : Named) (r : Result Log Refused) →
+  bad_line : (a : FileContext) (l m : UnreadLines) (own : List (Located Named)) (log : ReadSoFar) (c : Cause) →
+      NextStatement files.flat l m (context_of a own log) (Err c) → Rest files a l own log (Err (refused_at c a.file l.number))
+  over_limit : (a : FileContext) (l m : UnreadLines) (own : List (Located Named)) (log : ReadSoFar) (s : Named) (c : Cause) →
+      NextStatement files.flat l m (context_of a own log) (Ok s) → limit_cause a own log s ≡ Some c → Rest files a l own log (Err (refused_at c a.file l.number))
+  statement : (a : FileContext) (l m : UnreadLines) (own : List (Located Named)) (log : ReadSoFar) (s : Named) (r : Result ReadSoFar Refused) →
       NextStatement files.flat l m (context_of a own log) (Ok s) → elim s [ SourceLine t ↦ true | _ ↦ false ] ≡ false → limit_cause a own log s ≡ None →
       Rest files a m (with_line own a l.number s) (record log { lines = with_line log.lines a l.number s }) r → Rest files a l own log r
-  bad_source : (a : FileContext) (l m : UnreadLines) (own : List (Located Named)) (log : Log) (name : List ℕ) (c : Cause) →
+  bad_source : (a : FileContext) (l m : UnreadLines) (own : List (Located Named)) (log : ReadSoFar) (name : List ℕ) (c : Cause) →
       NextStatement files.flat l m (context_of a own log) (Ok (SourceLine name)) → sourcing_cause files a.open_files log.total_lines name ≡ Some c →
-      Rest files a l own log (Err (refused c a.file l.number))
-  refused_inside : (a : FileContext) (l m : UnreadLines) (own : List (Located Named)) (log : Log) (name bytes : List ℕ) (e : Refused) →
+      Rest files a l own log (Err (refused_at c a.file l.number))
+  refused_inside : (a : FileContext) (l m : UnreadLines) (own : List (Located Named)) (log : ReadSoFar) (name bytes : List ℕ) (e : Refused) →
       NextStatement files.flat l m (context_of a own log) (Ok (SourceLine name)) → sourcing_cause files a.open_files log.total_lines name ≡ None →
       sourced files name ≡ Some bytes → Rest files (inside a own name) (unread_lines bytes 1) [] (with_file log name bytes) (Err e) → Rest files a l own log (Err e)
-  source : (a : FileContext) (l m : UnreadLines) (own : List (Located Named)) (log more : Log) (name bytes : List ℕ) (r : Result Log Refused) →
+  source : (a : FileContext) (l m : UnreadLines) (own : List (Located Named)) (log more : ReadSoFar) (name bytes : List ℕ) (r : Result ReadSoFar Refused) →
       NextStatement files.flat l m (context_of a own log) (Ok (SourceLine name)) → sourcing_cause files a.open_files log.total_lines name ≡ None →
       sourced files name ≡ Some bytes → Rest files (inside a own name) (unread_lines bytes 1) [] (with_file log name bytes) (Ok more) →
       Rest files a m (with_line own a l.number (SourceLine name)) more r → Rest files a l own log r
 
 -- The root file expands to this log, or to the first error. At first no other file is open. Of a flat tree only the markers' files count as opened.
-abbrev pub first_log : Files → List ℕ → List ℕ → Log
+abbrev pub first_log : Files → List ℕ → List ℕ → ReadSoFar
 first_log files root bytes = record { lines = []; total_lines = length (physical_lines bytes); opened = if files.flat then [] else root ∷ [] }
 
-abbrev pub Expands : Files → List ℕ → Result Log Refused → Type 0
+abbrev pub Expands : Files → List ℕ → Result ReadSoFar Refused → Type 0
 Expands files root r = MatchOption (bytes_cause root 0 (files.bytes root))
     ((bytes : List ℕ) × (files.bytes root ≡ Some bytes) × Rest files (record { open_files = root ∷ []; file = root; blocks = [] })
     (unread_lines bytes 1) [] (first_log files root bytes) r)
-    (λ c. r ≡ Err (refused c root 0))
+    (λ c. r ≡ Err (refused_at c root 0))
 
 -- Where the root file is accepted, these are the files that are opened, each once, as first opened.
 abbrev pub AreOpened : Files → List ℕ → List (List ℕ) → Type 0
-AreOpened files root names = (log : Log) → Expands files root (Ok log) → names ≡ log.opened
+AreOpened files root names = (log : ReadSoFar) → Expands files root (Ok log) → names ≡ log.opened
 
 -- ---- The files that one file names, read by itself (no flat file)
 -- The next line is a `source` line with this name. After it m is left.

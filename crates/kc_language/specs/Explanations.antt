@@ -1,7 +1,7 @@
 -- Trusted: 12. Explanations: the text of an expression, and why a symbol has its value.
 -- Our own. The first part prints an expression so that the grammar reads it back. The parentheses are as few as the grammar allows.
 use Rattle.std.specs.{List.{enumerate_from, filter_map, flat_map, list_all, list_any, slice_split, suffix_len}, Option.option_or, Prelude.{All, Bool, IsTrue, List, None, Option, Some, [], codes, decimal, drop, false, filter, if◌then◌else◌, is_some, length, map, not, option_and_then, option_map, slice_get, slice_index_or, suc, take, take_while, true, zero, ℕ, ◌&&◌, ◌++◌, ◌+◌, ◌-◌, ◌<◌, ◌==◌, ◌||◌, ◌∷◌, ◌≡◌, ◌≢◌, ◌≤◌}}
-use Rattle.kc_language.specs.{ConfigFile.{Notation, StreamLocation, UserInput, place_at, plain_line, symbol_named, value_text, without_prefix}, Expansion.{Files, attributes, enclosing, last_of}, Expressions.{Chain, Compares, Disjunction, Every, Form, Forms, Leaf, LoneM, MoreForms, Negated, Negation, NoForms, OperandToken, Part, QuotedAtom, Related, Single, Some_of, Symbol, SymbolValue, Terminal, Text, WordAtom, bang, compare, conjunction, group, if_word, joined, leaf_symbols, least, lesser, levels, lone, meaning, negation, number_of, number_of_text, only, same_name, same_symbol, spell, symbols, terminal_of, text, tri_text, tristate_constant, truth_of_value, value}, Lines.{is_line_feed}, Statements.{DependsLine, IfLine, ImplyLine, InputPrompt, Located, MenuLine, Numbered, RangeLine, SelectLine, VisibleLine, statements}, Symbols.{Bounds, ChoiceFacts, StatedDefault, SymbolFacts, TreeFacts, all_added, can_be_target, choice_number, choice_of, definitions_of, facts_with, has_text, indices, is_selectable, is_symbol_of, listed, members_of, name_by, of_block, prompt_of, same_type, stated_default, symbol_at, type_of}, Text.{byte, escape}, Texts.{IsSolution, Solution, SolutionView, known, symbol_new, value_of}, Tokens.{IsCut, Lexeme, is_blank, is_word_byte, relation_text}, Values.{GivenTruth, GivenValue, Member, SymbolPlace, above, active_range, choice_at, conditions, default_text as value_default, default_value, equations, facts, first_met, given_of, if_within_range, implied_value, is_n, is_visible, is_within_range, known_from, mode_of, name, number_or_zero, number_text, selected, selected_to, single_text, type_in, upgraded, user_or, user_place, visibility, visible_text}, declared.{explanations.{Source.{Source}}, expressions.{Connective.{Connective, TheVariants.{And, Or}}, SymId.{SymId}, SymbolType.{SymbolType, TheVariants.{Bool as IsBool, Hex, Int, Str, Tristate, Undefined}}, Tri.{TheVariants.{M, N, Y}, Tri}}, statements.{Block.{Block}}, symbols.{SelectOrImply.{SelectOrImply}}, tokens.{Op.{Op}}}}
+use Rattle.kc_language.specs.{ConfigFile.{Notation, StreamLocation, UserInput, place_at, plain_line, symbol_named, value_text, without_prefix}, Expansion.{Files, attributes, enclosing, last_of}, Expressions.{Chain, Compares, Disjunction, Every, Form, Forms, Leaf, LoneM, MoreForms, Negated, Negation, NoForms, OperandToken, Part, QuotedAtom, Related, Single, Some_of, Symbol, SymbolValue, Terminal, Text, WordAtom, bang, compare, conjunction, group, if_word, joined, leaf_symbols, least, lesser, levels, lone, meaning, negation, number_of, number_of_text, only, same_name, same_symbol, spell, symbols, terminal_of, text, tri_text, tristate_constant, truth_of_value, value}, Lines.{is_line_feed}, Statements.{DependsLine, IfLine, ImplyLine, InputPrompt, Located, MenuLine, Numbered, RangeLine, SelectLine, VisibleLine, statements}, Symbols.{Bounds, ChoiceFacts, StatedDefault, SymbolFacts, TreeFacts, all_added, can_be_target, choice_number, choice_of, definitions_of, facts_with, holds_text, indices, is_selectable, is_symbol_of, listed, members_of, name_by, of_block, prompt_of, same_type, stated_default, symbol_at, type_of}, Text.{byte, escape}, Texts.{IsSolution, Solution, SolutionView, known, symbol_new, value_of}, Tokens.{IsCut, Lexeme, is_blank, is_word_byte, relation_text}, Values.{GivenTruth, GivenValue, Member, SymbolPlace, above, active_range, choice_at, conditions, default_text as value_default, default_value, equations, facts, first_met, given_of, if_within_range, implied_value, is_n, is_visible, is_within_range, known_from, mode_of, name, number_or_zero, number_text, selected, selected_to, single_text, type_in, upgraded, user_or, user_place, visibility, visible_text}, declared.{explanations.{Source.{Source}}, expressions.{Connective.{Connective, TheVariants.{And, Or}}, SymId.{SymId}, SymbolType.{SymbolType, TheVariants.{Bool as IsBool, Hex, Int, Str, Tristate, Undefined}}, Tri.{TheVariants.{M, N, Y}, Tri}}, statements.{Block.{Block}}, symbols.{SelectOrImply.{SelectOrImply}}, tokens.{Op.{Op}}}}
 use Rattle.kc_language.specs.declared.tokens.Op.TheVariants as op
 
 -- ---- The text of an expression
@@ -424,7 +424,7 @@ module _ (lines : List (Located Numbered)) (solution : Solution) where
   -- The value of the default that applied: as a text of a string, int or hex, else as a truth value.
   abbrev pub applied_text : SymbolType → Said StatedDefault → List ℕ
   applied_text kind d = if is_met lines solution (λ g. g.when) d then codes ", value " ++
-      (if has_text kind then single_text (known solution) (d.what).value
+      (if holds_text kind then single_text (known solution) (d.what).value
       else tri_text (value (known solution) solution.tree.modules (d.what).value)) else []
 
   abbrev pub range_text : Said (Bounds × Option Form) → List ℕ

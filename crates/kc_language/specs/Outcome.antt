@@ -1,7 +1,7 @@
 -- Trusted: 13. Outcome: the texts, the diagnostics and the status that a run is to leave.
 -- Our own, except for the syntax of a dependency file, which is GNU make's. `IsOutcome` at the end is the rule.
 use Rattle.std.specs.{List.list_any, Option.option_map_or, Prelude.{Bool, Err, List, None, Ok, Option, Some, [], codes, decimal, false, find, flat_map, if◌then◌else◌, is_some, length, map, nat_le, not, option_map, slice_get, string_bytes, true, ℕ, ◌&&◌, ◌++◌, ◌-◌, ◌==◌, ◌||◌, ◌∷◌, ◌≡◌}}
-use Rattle.kc_language.specs.{ConfigFile.{Notation, Places, ReadResult, Stream, StreamLocation, UserInput, no_input, reading_of}, Expansion.{AreOpened, Expands, Files, Log, Refused, numbered_lines}, Explanations.{asked_symbol, explanation_text, near_names, new_text_with_help}, Expressions.{all_mentioned, same_name}, Needs.{IsAccepted, IsLoopText, loop_refused}, Statements.{Located, Numbered, cause_text, error_at, error_line}, Symbols.{IsTreeOf, TreeFacts, Warning, listed}, Text.{byte, longest_input_line}, Texts.{IsSolution, Solution, config_text, header_text, lost_at, lost_lines, minimal_text, new_text, solution_view, value_warnings, warnings}, declared.{diagnostics.{RunError.RunError, Warning.TheVariants.UserOutside}, outcome.{Options.Options as AnyOptions, Position.Position, Status.Status}}}
+use Rattle.kc_language.specs.{ConfigFile.{Notation, Places, ReadResult, Stream, StreamLocation, UserInput, no_input, reading_of}, Expansion.{AreOpened, Expands, Files, ReadSoFar, Refused, numbered_lines}, Explanations.{asked_symbol, explanation_text, near_names, new_text_with_help}, Expressions.{all_mentioned, same_name}, Needs.{IsAccepted, IsLoopText, loop_refused}, Statements.{Located, Numbered, cause_text, error_at, error_line}, Symbols.{IsTreeOf, TreeFacts, Warning, listed}, Text.{byte, longest_input_line}, Texts.{IsSolution, Solution, config_text, header_text, lost_at, lost_lines, minimal_text, new_text, solution_view, value_warnings, warnings}, declared.{diagnostics.{RunError.RunError, Warning.TheVariants.UserOutside}, outcome.{Options.Options as AnyOptions, Position.Position, Status.Status}}}
 
 -- The options, the root file, the file of --out (the target in a dependency file), and the name that some diagnostics begin with under --each.
 abbrev pub Options : Type 0
@@ -20,8 +20,8 @@ lead options = if options.names_config then string_bytes options.config ++ codes
 abbrev pub input_files : Options → List (List ℕ)
 input_files options = string_bytes options.config ∷ map string_bytes options.fragments.items
 
-abbrev pub names_of : Options → List (List ℕ)
-names_of options = string_bytes options.config ∷ map (λ name. lead options ++ string_bytes name) options.fragments.items
+abbrev pub input_names : Options → List (List ℕ)
+input_names options = string_bytes options.config ∷ map (λ name. lead options ++ string_bytes name) options.fragments.items
 
 -- The text of each error of a run, and two error lines. A name that make cannot read is reported up to its first line feed.
 abbrev pub run_error_text : RunError (List ℕ) → List ℕ
@@ -29,7 +29,7 @@ run_error_text RunError.LineTooLong = codes "E17: line longer than " ++ decimal 
 run_error_text (RunError.CannotRead name) = codes "E18: cannot read " ++ name
 run_error_text (RunError.CannotWrite name) = codes "E19: cannot write " ++ name
 run_error_text RunError.Memory = codes "E20: out of memory"
-run_error_text RunError.WarningsRefused = codes "E21: warnings are refused"
+run_error_text RunError.WarningsRefused = codes "E21: warnings are refused_outcome"
 run_error_text (RunError.NotUpToDate name) = codes "E22: " ++ name ++ codes " is not up to date"
 run_error_text (RunError.UnreadableName name) = codes "E23: make cannot read the name " ++ name
 run_error_text (RunError.UnknownName name near) = codes "E24: no symbol has the name " ++ name ++ near
@@ -139,7 +139,7 @@ fresh_input options tree = record (no_input (options.warn_lost || is_some option
 }
 
 abbrev pub read_of : Options → TreeFacts → List (List ℕ) → ReadResult
-read_of options tree all = reading_of tree options.prefix (fresh_input options tree) (streams (names_of options) all)
+read_of options tree all = reading_of tree options.prefix (fresh_input options tree) (streams (input_names options) all)
 
 -- the one solution of the tree's equations for these user values
 pub record IsSolutionFor (tree : TreeFacts) (places : Places) (solution : Solution) : Type 0 where
@@ -177,19 +177,19 @@ pub record Outcome : Type 0 where
 abbrev pub reported : List ℕ → Outcome → Outcome
 reported text outcome = record outcome { warned = text ++ outcome.warned }
 
-abbrev pub refused : List ℕ → Outcome
-refused line = record { config = None; header = None; minimal = None; list_new = None; list_gone = None; depfile = None; explanation = None; warned = []; refusal = line; status = Status.Refused }
+abbrev pub refused_outcome : List ℕ → Outcome
+refused_outcome line = record { config = None; header = None; minimal = None; list_new = None; list_gone = None; depfile = None; explanation = None; warned = []; refusal = line; status = Status.Refused }
 
 abbrev pub refused_if : Options → Bool → Outcome → Outcome
 refused_if options refuses outcome =
-    if refuses then record (refused (lead options ++ error_line (run_error_text RunError.WarningsRefused))) { warned = outcome.warned } else outcome
+    if refuses then record (refused_outcome (lead options ++ error_line (run_error_text RunError.WarningsRefused))) { warned = outcome.warned } else outcome
 
 -- each line with its line feed; the text is not empty
 abbrev pub lines_text : List (List ℕ) → List ℕ
 lines_text lines = flat_map (λ line. line ++ codes "\n") lines
 
-abbrev pub has_text : List ℕ → Bool
-has_text text = elim text [ [] ↦ false | _ ↦ true ]
+abbrev pub is_not_empty : List ℕ → Bool
+is_not_empty text = elim text [ [] ↦ false | _ ↦ true ]
 
 -- What is asked to be explained: the first name that the tree does not mention, and those that differ from it by one letter; the explanations.
 abbrev pub unknown_name : Options → TreeFacts → Option (List ℕ)
@@ -229,7 +229,7 @@ warned_files files options tree lines input solution = record {
 pub data IsOutcomeOfReading (files : Files) (options : Options) (tree : TreeFacts) (lines : List (Located Numbered)) (read : ReadResult)
     (outcome : Outcome) : Type 0 where
   long_line : (stop : StreamLocation) → read.stopped ≡ Some stop →
-      outcome ≡ reported read.warned (refused (error_at stop.stream stop.number (run_error_text RunError.LineTooLong))) →
+      outcome ≡ reported read.warned (refused_outcome (error_at stop.stream stop.number (run_error_text RunError.LineTooLong))) →
       IsOutcomeOfReading files options tree lines read outcome
   whole : (solution : Solution) → read.stopped ≡ None → IsSolutionFor tree read.input.places solution →
       outcome ≡ reported read.warned (refused_if options (refuses_input options read.input solution) (warned_files files options tree lines read.input solution))
@@ -237,15 +237,15 @@ pub data IsOutcomeOfReading (files : Files) (options : Options) (tree : TreeFact
 
 -- What a run leaves if --strict-tree is left aside and no dependency file is added. The tree opens these files, and the input files hold these bytes.
 pub data IsLenientOutcome (files : Files) (options : Options) (opened all : List (List ℕ)) (outcome : Outcome) : Type 0 where
-  refused_tree : (r : Refused) → IsRefusedTree files (root_file options) r → outcome ≡ refused (refusal_line r) → IsLenientOutcome files options opened all outcome
+  refused_tree : (r : Refused) → IsRefusedTree files (root_file options) r → outcome ≡ refused_outcome (refusal_line r) → IsLenientOutcome files options opened all outcome
   refused_name : (tree : TreeFacts) (name : List ℕ) → IsAcceptedTree files (root_file options) tree → unreadable_name options opened ≡ Some name →
-      outcome ≡ refused (lead options ++ error_line (run_error_text (RunError.UnreadableName (first_line name)))) →
+      outcome ≡ refused_outcome (lead options ++ error_line (run_error_text (RunError.UnreadableName (first_line name)))) →
       IsLenientOutcome files options opened all outcome
   unknown_symbol : (tree : TreeFacts) (asked : List ℕ) → IsAcceptedTree files (root_file options) tree → unreadable_name options opened ≡ None →
       unknown_name options tree ≡ Some asked →
-      outcome ≡ refused (lead options ++ error_line (run_error_text (RunError.UnknownName (first_line asked) (near_text tree asked)))) →
+      outcome ≡ refused_outcome (lead options ++ error_line (run_error_text (RunError.UnknownName (first_line asked) (near_text tree asked)))) →
       IsLenientOutcome files options opened all outcome
-  accepted_tree : (tree : TreeFacts) (log : Log) → IsAcceptedTree files (root_file options) tree → Expands files (root_file options) (Ok log) →
+  accepted_tree : (tree : TreeFacts) (log : ReadSoFar) → IsAcceptedTree files (root_file options) tree → Expands files (root_file options) (Ok log) →
       unreadable_name options opened ≡ None → unknown_name options tree ≡ None →
       (rest : Outcome) × IsOutcomeOfReading files options tree (numbered_lines log.lines) (read_of options tree all) rest
       × (outcome ≡ reported (lines_text tree.warnings) rest) →
@@ -256,7 +256,7 @@ abbrev pub is_done : Status → Bool
 is_done status = elim status [ Status.Done ↦ true | _ ↦ false ]
 
 abbrev pub strictly : Options → Outcome → Outcome
-strictly options outcome = refused_if options (is_done outcome.status && (options.strict_tree && has_text outcome.warned)) outcome
+strictly options outcome = refused_if options (is_done outcome.status && (options.strict_tree && is_not_empty outcome.warned)) outcome
 
 abbrev pub with_rule : Options → List (List ℕ) → Outcome → Outcome
 with_rule options opened outcome =

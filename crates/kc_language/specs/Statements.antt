@@ -158,8 +158,8 @@ pub record LineContext : Type 0 where
 abbrev pub is_config : EntryKind → Bool
 is_config e = elim e [ EntryKind.Config ↦ true | _ ↦ false ]
 
-abbrev pub is_choice : EntryKind → Bool
-is_choice e = elim e [ EntryKind.Choice ↦ true | _ ↦ false ]
+abbrev pub is_choice_entry : EntryKind → Bool
+is_choice_entry e = elim e [ EntryKind.Choice ↦ true | _ ↦ false ]
 
 -- E9: a closing line has to fit the innermost open block of its own file.
 abbrev pub closing_cause : Block → Option Block → Option Cause
@@ -188,9 +188,9 @@ placement_cause c w ts k = elim k [
   | key.Menu ↦ unless_placed (not c.in_choice)
   | key.MainMenu ↦ unless_placed (not c.in_choice)
   | key.Choice ↦ unless_placed (not c.in_choice)
-  | key.Prompt ↦ unless_placed (is_config c.entry || is_choice c.entry)
-  | key.Default ↦ unless_placed (is_config c.entry || is_choice c.entry)
-  | key.Help ↦ unless_placed (is_config c.entry || is_choice c.entry)
+  | key.Prompt ↦ unless_placed (is_config c.entry || is_choice_entry c.entry)
+  | key.Default ↦ unless_placed (is_config c.entry || is_choice_entry c.entry)
+  | key.Help ↦ unless_placed (is_config c.entry || is_choice_entry c.entry)
   | key.Type t ↦ type_placement c.entry t
   | key.Select ↦ unless_placed (is_config c.entry)
   | key.Imply ↦ unless_placed (is_config c.entry)

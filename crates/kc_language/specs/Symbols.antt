@@ -2,7 +2,7 @@
 -- The rules are those of the kernel's kconfig-language document ("Menu attributes", "Menu dependencies") and of kconfiglib. The texts are our own.
 use Rattle.std.specs.{List.list_any, Option.option_or, Prelude.{Bool, Err, List, None, Ok, Option, Result, Some, [], codes, count_by, decimal, false, filter, filter_map, flat_map, if◌then◌else◌, is_none, is_some, length, map, not, option_and_then, option_map, position, reverse, slice_get, slice_index_or, suc, take, take_while, true, unwrap_or, ℕ, ◌&&◌, ◌++◌, ◌==◌, ◌||◌, ◌∷◌, ◌≡◌}}
 pub use Rattle.std.specs.Option.{option_to_list as listed}
-use Rattle.kc_language.specs.{Expansion.{Expands, Files, Log, Refused, attributes, bracket_at, defined_name, definitions, enclosing, is_attribute, is_no_attribute, last_of, modules_of, names_of, numbered_lines, numbers, opened, refused}, Expressions.{Form, Leaf, Single, Symbol, same_name, same_symbol, symbol}, Statements.{Cause, ChoiceLine, CommentLine, ConfigLine, DefLine, DefaultLine, DependsLine, EndMenuLine, IfLine, ImplyLine, InputPrompt, Located, MainMenuLine, MenuLine, Numbered, PromptLine, RangeLine, SelectLine, TypeLine, VisibleLine, statements}, declared.{diagnostics.Cause.TheVariants.{BadDefault, ChoiceMember}, diagnostics.Warning.{TheVariants.{Changed, DefaultNotMember, DefaultOutside, Lost, LostWithoutPrompt, MalformedLine, MemberTarget, NotAllowed, PromptRedefined, Selected, SetAgain, TextTarget, TextUnset, TypeRedefined, UnknownSymbol, UserOutside, WithoutType}, Warning as WarningAbout}, expressions.SymId.SymId, expressions.SymbolType.SymbolType, statements.Block.Block, symbols.LineWarning.LineWarning, symbols.MenuEntry.MenuEntry, symbols.SelectOrImply.SelectOrImply}}
+use Rattle.kc_language.specs.{Expansion.{Expands, Files, ReadSoFar, Refused, attributes, bracket_at, defined_name, definitions, enclosing, is_attribute, is_no_attribute, last_of, modules_of, mentioned_names, numbered_lines, numbers, opened, refused_at}, Expressions.{Form, Leaf, Single, Symbol, same_name, same_symbol, symbol}, Statements.{Cause, ChoiceLine, CommentLine, ConfigLine, DefLine, DefaultLine, DependsLine, EndMenuLine, IfLine, ImplyLine, InputPrompt, Located, MainMenuLine, MenuLine, Numbered, PromptLine, RangeLine, SelectLine, TypeLine, VisibleLine, statements}, declared.{diagnostics.Cause.TheVariants.{BadDefault, ChoiceMember}, diagnostics.Warning.{TheVariants.{Changed, DefaultNotMember, DefaultOutside, Lost, LostWithoutPrompt, MalformedLine, MemberTarget, NotAllowed, PromptRedefined, Selected, SetAgain, TextTarget, TextUnset, TypeRedefined, UnknownSymbol, UserOutside, WithoutType}, Warning as WarningAbout}, expressions.SymId.SymId, expressions.SymbolType.SymbolType, statements.Block.Block, symbols.LineWarning.LineWarning, symbols.MenuEntry.MenuEntry, symbols.SelectOrImply.SelectOrImply}}
 
 -- The least value of these expressions and, where there is one, of the mode of that choice.
 pub record Condition : Type 0 where
@@ -112,8 +112,8 @@ same_type _ _ = false
 abbrev pub is_selectable : SymbolType → Bool
 is_selectable k = elim k [ SymbolType.Str ↦ false | SymbolType.Int ↦ false | SymbolType.Hex ↦ false | _ ↦ true ]
 
-abbrev pub has_text : SymbolType → Bool
-has_text k = if is_selectable k then false else true
+abbrev pub holds_text : SymbolType → Bool
+holds_text k = if is_selectable k then false else true
 
 abbrev pub is_block : Block → Option Block → Bool
 is_block Block.If (Some Block.If) = true
@@ -252,7 +252,7 @@ module _ (ss : List Numbered) where
       (LineWarning.PromptRedefined (entry_symbol (menu_entry_at i)))
       ++ flat_map (λ t. when (is_first_definition_at i && not (is_some (choice_of t) || not (same_type (type_of t) SymbolType.Undefined)))
       (LineWarning.WithoutType t)) (listed (defined_name s))
-      ++ flat_map (λ t. when (has_text (type_of (t.1))) (LineWarning.TextTarget (t.1) (t.0))) (listed (target_of s))
+      ++ flat_map (λ t. when (holds_text (type_of (t.1))) (LineWarning.TextTarget (t.1) (t.0))) (listed (target_of s))
       ++ flat_map (λ k. flat_map (λ g. flat_map (λ t. when (not (list_any (same_symbol t) (members_of k))) (LineWarning.DefaultNotMember t))
       (listed (single_symbol g.value))) (listed (stated_default s))) (listed (entry_choice (menu_entry_at i)))
       ++ flat_map (λ t. when (is_some (choice_of (t.1))) (LineWarning.MemberTarget (t.1) (t.0))) (listed (target_of s))
@@ -266,7 +266,7 @@ module _ (ss : List Numbered) where
   -- E14: a default of a string, int or hex symbol that is not one operand; a default of a choice that is not the name of a symbol
   abbrev pub bad_defaults : List ℕ
   bad_defaults = filter (λ i. list_any (λ s. list_any (λ g.
-      (list_any (λ t. has_text (type_of t)) (listed (entry_symbol (menu_entry_at i))) && not (elim g.value [ Single l ↦ true | _ ↦ false ]))
+      (list_any (λ t. holds_text (type_of t)) (listed (entry_symbol (menu_entry_at i))) && not (elim g.value [ Single l ↦ true | _ ↦ false ]))
       || (is_some (entry_choice (menu_entry_at i)) && is_none (single_symbol g.value)))
       (listed (stated_default s))) (listed (slice_get ss i))) indices
 
@@ -330,7 +330,7 @@ module _ (names : List (List ℕ)) where
 module _ (names : List (List ℕ)) (ls : List (Located Numbered)) where
   -- a refusal at statement i, which names its entry
   abbrev pub refused_at : (List ℕ → Cause) → ℕ → List Refused
-  refused_at c i = map (λ l. refused (c (entry_name names (entry_symbol (menu_entry_at (statements ls) i)))) l.file l.line) (listed (slice_get ls i))
+  refused_at c i = map (λ l. refused_at (c (entry_name names (entry_symbol (menu_entry_at (statements ls) i)))) l.file l.line) (listed (slice_get ls i))
 
   -- what all statements say, if none is refused; the first refusal or, without one, this tree
   abbrev pub facts_with : TreeFacts
@@ -354,5 +354,5 @@ module _ (names : List (List ℕ)) (ls : List (Located Numbered)) where
 
 -- the tree of a root file, whose names have numbers once it is expanded, or the first refusal
 abbrev pub IsTreeOf : Files → List ℕ → Result TreeFacts Refused → Type 0
-IsTreeOf files root r = (e : Result Log Refused) × Expands files root e ×
-    (r ≡ elim e [ Ok log ↦ tree_with (names_of (statements log.lines)) (numbered_lines log.lines) | Err refusal ↦ Err refusal ])
+IsTreeOf files root r = (e : Result ReadSoFar Refused) × Expands files root e ×
+    (r ≡ elim e [ Ok log ↦ tree_with (mentioned_names (statements log.lines)) (numbered_lines log.lines) | Err refusal ↦ Err refusal ])

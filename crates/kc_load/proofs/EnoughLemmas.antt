@@ -9,7 +9,7 @@ use Rattle.std.specs.Str.{is_utf8}
 use Rattle.kc_language.specs.Lines.{UnreadLines, unread_lines}
 use Rattle.kc_language.specs.Expressions.{same_name}
 use Rattle.kc_language.specs.declared.diagnostics.Cause.TheVariants as cause
-use Rattle.kc_language.specs.Expansion.{FileContext, Expands, Log, Refused, Rest, bytes_cause, first_log, refused, sourcing_cause, at_end, unclosed, too_long, no_tokens, blank, renumbered, moved, bad_line, over_limit, statement, bad_source, refused_inside, source}
+use Rattle.kc_language.specs.Expansion.{FileContext, Expands, ReadSoFar, Refused, Rest, bytes_cause, first_log, refused_at, sourcing_cause, at_end, unclosed, too_long, no_tokens, blank, renumbered, moved, bad_line, over_limit, statement, bad_source, refused_inside, source}
 use Rattle.kc_read.specs.PartsOfExpansion.{root_context}
 use Rattle.kc_language.specs.Statements.{Cause, Located, Named}
 use Rattle.kc_read.specs.OpenedFiles.{sourced_files}
@@ -37,7 +37,7 @@ module _ (files others : FileBytes) where
       ap (λ f. cond (list_any (same_name name) opens) (Some (cause.InclusionLoop name)) (cond (nat_le 64 (length opens)) (Some cause.TooDeep) (bytes_cause name n f))) e ∙ h
 
   -- the expansion over the one is one over the other
-  pub over : {a : FileContext} {l : UnreadLines} {own : List (Located Named)} {log : Log} {r : Result Log Refused} (d : Rest (tree_of files) a l own log r) →
+  pub over : {a : FileContext} {l : UnreadLines} {own : List (Located Named)} {log : ReadSoFar} {r : Result ReadSoFar Refused} (d : Rest (tree_of files) a l own log r) →
       ((y : List ℕ) → Contains (sourced_files d) y → others y ≡ files y) → Rest (tree_of others) a l own log r
   over (at_end a l own log none closed) h = at_end a l own log none closed
   over (unclosed a l own log line none unmatched) h = unclosed a l own log line none unmatched
@@ -64,7 +64,7 @@ module _ (files : FileBytes) (P : List ℕ → Type 0) where
   abbrev OfLines : List (Located Named) → Type 0
   OfLines ls = All (λ (l : Located Named). P l.file) ls
 
-  pub of_lines : {a : FileContext} {l : UnreadLines} {own : List (Located Named)} {log : Log} {r : Result Log Refused} (d : Rest (tree_of files) a l own log r) →
+  pub of_lines : {a : FileContext} {l : UnreadLines} {own : List (Located Named)} {log : ReadSoFar} {r : Result ReadSoFar Refused} (d : Rest (tree_of files) a l own log r) →
       P a.file → ((y : List ℕ) → Contains (sourced_files d) y → P y) → OfLines log.lines → IfOk r (λ more. OfLines more.lines)
   of_lines (at_end a l own log none closed) p h all = all
   of_lines (unclosed a l own log line none unmatched) p h all = tt
@@ -89,7 +89,7 @@ module _ (files : FileBytes) (P : List ℕ → Type 0) where
 
 -- ---- From the root file on
 
-abbrev RootGives : FileBytes → List ℕ → Result Log Refused → Type 0
+abbrev RootGives : FileBytes → List ℕ → Result ReadSoFar Refused → Type 0
 RootGives files root r = (bytes : List ℕ) × (files root ≡ Some bytes) × Rest (tree_of files) (root_context root) (unread_lines bytes 1) [] (first_log (tree_of files) root bytes) r
 
 module _ (folder_files : List ℕ → Option (List ℕ)) (dir first : List ℕ) (loaded : FileBytes) (w : List (List ℕ)) (m : ℕ) (b : Bool)
@@ -98,7 +98,7 @@ module _ (folder_files : List ℕ → Option (List ℕ)) (dir first : List ℕ) 
   same_root = agree first (first_is_met (omega arith) walk)
 
   -- what the root file asks for was loaded
-  requested_agree : (bytes : List ℕ) (r : Result Log Refused) → bytes_cause first 0 (named folder_files dir first) ≡ None → named folder_files dir first ≡ Some bytes →
+  requested_agree : (bytes : List ℕ) (r : Result ReadSoFar Refused) → bytes_cause first 0 (named folder_files dir first) ≡ None → named folder_files dir first ≡ Some bytes →
       (d : Rest (tree_of (named folder_files dir)) (root_context first) (unread_lines bytes 1) [] (first_log (tree_of (named folder_files dir)) first bytes) r) → (y : List ℕ) → Contains (sourced_files d) y → loaded y ≡ named folder_files dir y
   requested_agree bytes r free there d y c =
       let few = few_lines first bytes 0 (named folder_files dir first) free there in
@@ -108,32 +108,32 @@ module _ (folder_files : List ℕ → Option (List ℕ)) (dir first : List ℕ) 
       let f = follow folder_files dir d en.names en.sources en.walk en.closed (omega (arith, en.fewer)) (omega (arith, few)) in
       agree y (en.grown y (f.asks y c))
 
-  opened_alike : (r : Result Log Refused) → bytes_cause first 0 (named folder_files dir first) ≡ None → RootGives (named folder_files dir) first r → RootGives loaded first r
+  opened_alike : (r : Result ReadSoFar Refused) → bytes_cause first 0 (named folder_files dir first) ≡ None → RootGives (named folder_files dir) first r → RootGives loaded first r
   opened_alike r free (bytes, there, d) = (bytes, same_root ∙ there, over (named folder_files dir) loaded d (requested_agree bytes r free there d))
 
-  pub forward : (r : Result Log Refused) → Expands (tree_of (named folder_files dir)) first r → Expands (tree_of loaded) first r
+  pub forward : (r : Result ReadSoFar Refused) → Expands (tree_of (named folder_files dir)) first r → Expands (tree_of loaded) first r
   forward r d = by (bytes_cause first 0 (named folder_files dir first)) refl d
     where
-      by : (o : Option Cause) → bytes_cause first 0 (named folder_files dir first) ≡ o → MatchOption o (RootGives (named folder_files dir) first r) (λ c. r ≡ Err (refused c first 0)) → Expands (tree_of loaded) first r
-      by None e x = subst (λ (k : Option Cause). MatchOption k (RootGives loaded first r) (λ c. r ≡ Err (refused c first 0))) (sym (ap (bytes_cause first 0) same_root ∙ e)) (opened_alike r e x)
-      by (Some c) e x = subst (λ (k : Option Cause). MatchOption k (RootGives loaded first r) (λ c. r ≡ Err (refused c first 0))) (sym (ap (bytes_cause first 0) same_root ∙ e)) x
+      by : (o : Option Cause) → bytes_cause first 0 (named folder_files dir first) ≡ o → MatchOption o (RootGives (named folder_files dir) first r) (λ c. r ≡ Err (refused_at c first 0)) → Expands (tree_of loaded) first r
+      by None e x = subst (λ (k : Option Cause). MatchOption k (RootGives loaded first r) (λ c. r ≡ Err (refused_at c first 0))) (sym (ap (bytes_cause first 0) same_root ∙ e)) (opened_alike r e x)
+      by (Some c) e x = subst (λ (k : Option Cause). MatchOption k (RootGives loaded first r) (λ c. r ≡ Err (refused_at c first 0))) (sym (ap (bytes_cause first 0) same_root ∙ e)) x
 
   -- the files of the lines
-  lines_alike : (log : Log) → Expands (tree_of (named folder_files dir)) first (Ok log) → All (λ (l : Located Named). loaded l.file ≡ named folder_files dir l.file) log.lines
+  lines_alike : (log : ReadSoFar) → Expands (tree_of (named folder_files dir)) first (Ok log) → All (λ (l : Located Named). loaded l.file ≡ named folder_files dir l.file) log.lines
   lines_alike log d = by (bytes_cause first 0 (named folder_files dir first)) refl d
     where
       by : (o : Option Cause) → bytes_cause first 0 (named folder_files dir first) ≡ o →
-          MatchOption o (RootGives (named folder_files dir) first (Ok log)) (λ c. Ok log ≡ Err (refused c first 0)) →
+          MatchOption o (RootGives (named folder_files dir) first (Ok log)) (λ c. Ok log ≡ Err (refused_at c first 0)) →
           All (λ (l : Located Named). loaded l.file ≡ named folder_files dir l.file) log.lines
       by None e (bytes, there, d) =
           of_lines (named folder_files dir) (λ y. loaded y ≡ named folder_files dir y) d same_root (requested_agree bytes (Ok log) e there d)
           (All-nil (λ (l : Located Named). loaded l.file ≡ named folder_files dir l.file))
-      by (Some c) e x = absurd (let clash : Ok log ≡ Err (refused c first 0) = x in cc)
+      by (Some c) e x = absurd (let clash : Ok log ≡ Err (refused_at c first 0) = x in cc)
 
   pub alike : ExpandsAlike first (tree_of (named folder_files dir)) (tree_of loaded)
   alike = record { gives = λ r. (forward r, back r); holds = lines_alike }
     where
-      back : (r : Result Log Refused) → Expands (tree_of loaded) first r → Expands (tree_of (named folder_files dir)) first r
+      back : (r : Result ReadSoFar Refused) → Expands (tree_of loaded) first r → Expands (tree_of (named folder_files dir)) first r
       back r h =
           let x = has_one_expansion (tree_of (named folder_files dir)) first in
           subst (Expands (tree_of (named folder_files dir)) first) (one_expansion_law (tree_of loaded) first x.0 r (forward x.0 x.1) h) x.1

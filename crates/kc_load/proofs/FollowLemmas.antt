@@ -12,7 +12,7 @@ use Rattle.kc_language.specs.Lines.{UnreadLines}
 use Rattle.kc_language.specs.Expressions.{same_name, mention}
 use Rattle.kc_expr.proofs.NamesLemmas.{same_name-refl}
 use Rattle.kc_language.specs.declared.diagnostics.Cause.TheVariants as cause
-use Rattle.kc_language.specs.Expansion.{FileContext, Log, Refused, Rest, NextStatement, bytes_cause, sourcing_cause, at_end, unclosed, too_long, no_tokens, blank, renumbered, moved, bad_line, over_limit, statement, bad_source, refused_inside, source, SourceNames}
+use Rattle.kc_language.specs.Expansion.{FileContext, ReadSoFar, Refused, Rest, NextStatement, bytes_cause, sourcing_cause, at_end, unclosed, too_long, no_tokens, blank, renumbered, moved, bad_line, over_limit, statement, bad_source, refused_inside, source, SourceNames}
 use Rattle.kc_read.specs.PartsOfExpansion.{is_source, lines_of}
 use Rattle.kc_language.specs.Statements.{Cause, LineContext, After, ReadsSource, begins_with, finish, plain_text, text_of, Located, Named, SourceLine}
 use Rattle.kc_read.specs.OpenedFiles.{sourced_files}
@@ -229,19 +229,19 @@ module _ (folder_files : List ℕ → Option (List ℕ)) (dir : List ℕ) where
   -- ---- The rest of a file
 
   -- where the rest of the file is whole, so was the walk
-  abbrev pub Ends : FileContext → Result Log Refused → List (List ℕ) → ℕ → Bool → Type 0
+  abbrev pub Ends : FileContext → Result ReadSoFar Refused → List (List ℕ) → ℕ → Bool → Type 0
   Ends a (Ok log) w m b = (b ≡ false) × IsClosed a.open_files w × (m ≤ log.total_lines) × (log.total_lines ≤ most_lines)
   Ends a (Err e) w m b = Unit {0}
 
   -- the walk asked for these names
-  pub record Follows (a : FileContext) (r : Result Log Refused) (names w : List (List ℕ)) (m : ℕ) (b : Bool) : Type 0 where
+  pub record Follows (a : FileContext) (r : Result ReadSoFar Refused) (names w : List (List ℕ)) (m : ℕ) (b : Bool) : Type 0 where
     pub asks : (y : List ℕ) → Contains names y → IsMetIn w y
     pub ends : Ends a r w m b
 
   none_requested : (a : FileContext) (e : Refused) (w : List (List ℕ)) (m : ℕ) (b : Bool) → Follows a (Err e) [] w m b
   none_requested a e w m b = record { asks = λ y c. absurd (no_name y c); ends = tt }
 
-  pub follow : {a : FileContext} {l : UnreadLines} {own : List (Located Named)} {log : Log} {r : Result Log Refused} (d : Rest (tree_of all) a l own log r)
+  pub follow : {a : FileContext} {l : UnreadLines} {own : List (Located Named)} {log : ReadSoFar} {r : Result ReadSoFar Refused} (d : Rest (tree_of all) a l own log r)
       {v w : List (List ℕ)} {n m : ℕ} {b : Bool} (ns : List (List ℕ)) → SourceNames l ns → Walks (Some folder_files) dir v n ns w m b → IsClosed a.open_files v →
       n ≤ log.total_lines → log.total_lines ≤ most_lines → Follows a r (sourced_files d) w m b
   follow (at_end a l own log none closed) ns names walk shut le lim =

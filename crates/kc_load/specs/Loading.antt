@@ -1,7 +1,7 @@
 -- Trusted: What loading gives: the files that were found, asked for in order, and that they are enough.
 use Rattle.std.specs.{Prelude.{◌≡◌, ℕ, ◌≤◌, List, [], ◌∷◌, ◌++◌, All, Bool, true, if◌then◌else◌, Contains, Option, Some, None, Result, Ok}, Str.IsUtf8}
 use Rattle.kc_expr.specs.Names.{AreDistinct}
-use Rattle.kc_language.specs.{Text.most_lines, Expansion.{Expands, Files, Log, Refused}, Expressions.same_name, Outcome.path_of, Statements.{Located, Named}}
+use Rattle.kc_language.specs.{Text.most_lines, Expansion.{Expands, Files, ReadSoFar, Refused}, Expressions.same_name, Outcome.path_of, Statements.{Located, Named}}
 use Rattle.kc_load.specs.Asking.{AreSources, AskedInOrder, FileBytes}
 use Rattle.kc_load.specs.Folder.{Answer, AnswersAs, AreAsked, AreFilesOf, FolderFiles, files_found, line_total}
 
@@ -61,8 +61,8 @@ OrderIsReached =
 
 -- The root file gives the same list, with the files that it opens, or the same refusal over both; and the files of the list's lines hold the same.
 pub record ExpandsAlike (root : List ℕ) (files others : Files) : Type 0 where
-  pub gives : (r : Result Log Refused) → (Expands files root r → Expands others root r) × (Expands others root r → Expands files root r)
-  pub holds : (log : Log) → Expands files root (Ok log) → All (λ (l : Located Named). others.bytes l.file ≡ files.bytes l.file) log.lines
+  pub gives : (r : Result ReadSoFar Refused) → (Expands files root r → Expands others root r) × (Expands others root r → Expands files root r)
+  pub holds : (log : ReadSoFar) → Expands files root (Ok log) → All (λ (l : Located Named). others.bytes l.file ≡ files.bytes l.file) log.lines
 
 -- What was loaded is enough: over it the first file gives what it gives over all the files of the folder, with the files that it opens. And the files
 -- of the lines are there as they are in the folder.

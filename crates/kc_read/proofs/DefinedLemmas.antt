@@ -1,11 +1,12 @@
 -- The names that an expanded list defines: which they may be, and how many; and that no line of it gives the type that stands
 -- for none.
-use Rattle.std.proofs.Common.{◌≡◌, ℕ, zero, suc, ◌≤◌, nat_lt, Bool, true, false, if◌then◌else◌, List, [], ◌∷◌, ◌++◌, length, drop, map, Option, Some, None, Result, Ok, Err, MatchOption, refl, ap, sym, ◌∙◌, subst, arith, inl, inr, codes}
+use Rattle.std.proofs.Common.{◌≡◌, ◌×◌, ℕ, zero, suc, ◌≤◌, nat_lt, Bool, true, false, if◌then◌else◌, List, [], ◌∷◌, ◌++◌, length, drop, map, Option, Some, None, Result, Ok, Err, MatchOption, refl, ap, sym, ◌∙◌, subst, arith, inl, inr, codes}
 use Rattle.std.specs.Prelude.{All}
-use Rattle.std.specs.List.{list_any, slice_get}
+use Rattle.std.specs.List.{list_all, list_any, slice_get}
 use Rattle.std.proofs.lemmas.Bool.Decides.{nat_tests}
 use Rattle.std.proofs.lemmas.List.{map-append}
 use Rattle.std.proofs.lemmas.List.Elements.{All-nil, All-push}
+use Rattle.kc_read.proofs.KeywordLemmas.{both}
 use Rattle.kc_language.specs.Tokens.{Lexeme}
 use Rattle.kc_language.specs.Lines.{UnreadLines, unread_lines}
 use Rattle.kc_language.specs.Expressions.{mention, same_name, Disjunction, if_word}
@@ -14,7 +15,7 @@ use Rattle.kc_language.specs.declared.expressions.SymbolType.TheVariants as symb
 use Rattle.kc_language.specs.declared.diagnostics.Cause.TheVariants as cause
 use Rattle.kc_language.specs.declared.statements.Keyword.{Keyword}
 use Rattle.kc_language.specs.declared.statements.Keyword.TheVariants as key
-use Rattle.kc_language.specs.Expansion.{defined_name, FileContext, Log, Refused, Rest, Expands, bytes_cause, context_of, limit_cause, first_log, refused, with_line, at_end, unclosed, too_long, no_tokens, blank, renumbered, moved, bad_line, over_limit, statement, bad_source, refused_inside, source, Files}
+use Rattle.kc_language.specs.Expansion.{defined_name, FileContext, ReadSoFar, Refused, Rest, Expands, bytes_cause, context_of, limit_cause, first_log, refused_at, with_line, at_end, unclosed, too_long, no_tokens, blank, renumbered, moved, bad_line, over_limit, statement, bad_source, refused_inside, source, Files}
 use Rattle.kc_read.specs.PartsOfExpansion.{root_context}
 use Rattle.kc_read.specs.PartsOfExpansion.{symbol_cause, defined, located_numbered}
 use Rattle.kc_language.specs.Statements.{Cause, LineContext, After, begins_with, ReadsLine, ReadsRest, ReadsWhole, ReadsCondition, ReadsValue, ReadsPrompt, finish, is_good_name, keyword_of, keyword_words, operand_of, option_line, placement_cause, plain_text, named_target, text_of, word_of, InputPrompt, Named, Located, numbered, ConfigLine, IfLine, EndIfLine, CommentLine, SourceLine, MenuLine, EndMenuLine, ChoiceLine, EndChoiceLine, MainMenuLine, TypeLine, PromptLine, DefaultLine, DefLine, DependsLine, VisibleLine, SelectLine, ImplyLine, RangeLine, HelpLine, ModulesLine, IgnoredLine, statements}
@@ -52,25 +53,30 @@ AllowsKey (key.Type k) = IsGiven k
 AllowsKey (key.Def k) = IsGiven k
 AllowsKey _ = Unit {0}
 
-abbrev AllowKeys : List (List ℕ × Keyword) → Type 0
-AllowKeys [] = Unit {0}
-AllowKeys (k ∷ more) = AllowsKey k.1 × AllowKeys more
+-- whether it does
+allows_key : Keyword → Bool
+allows_key k = elim k [ key.Type symbol_type.Undefined ↦ false | key.Def symbol_type.Undefined ↦ false | _ ↦ true ]
 
-key_in : (ks : List (List ℕ × Keyword)) (w : List ℕ) (k : Keyword) → AllowKeys ks → keyword_in ks w ≡ Some k → AllowsKey k
+allowed_key : (k : Keyword) → allows_key k ≡ true → AllowsKey k
+allowed_key (key.Type symbol_type.Undefined) e = absurd cc
+allowed_key (key.Type k) e = λ u. cc
+allowed_key (key.Def symbol_type.Undefined) e = absurd cc
+allowed_key (key.Def k) e = λ u. cc
+allowed_key _ e = tt
+
+key_in : (ks : List (List ℕ × Keyword)) (w : List ℕ) (k : Keyword) → list_all (λ j. allows_key j.1) ks ≡ true → keyword_in ks w ≡ Some k → AllowsKey k
 key_in [] w k a e = absurd cc
-key_in (j ∷ more) w k a e = by (same_name w j.0) (key_in more w k a.1) e
+key_in (j ∷ more) w k a e = by (same_name w j.0) (key_in more w k own.1) e
   where
+    own : (allows_key j.1 ≡ true) × (list_all (λ i. allows_key i.1) more ≡ true)
+    own = both (allows_key j.1) (list_all (λ i. allows_key i.1) more) a
+
     by : (b : Bool) → (keyword_in more w ≡ Some k → AllowsKey k) → (if b then Some j.1 else keyword_in more w) ≡ Some k → AllowsKey k
-    by true rest q = subst AllowsKey (let same : j.1 ≡ k = cc in same) a.0
+    by true rest q = subst AllowsKey (let same : j.1 ≡ k = cc in same) (allowed_key j.1 own.0)
     by false rest q = rest q
 
-allow_words : AllowKeys keyword_words
-allow_words =
-    (tt, (tt, (tt, (λ e. cc, (tt, (tt, (tt, (tt, (λ e. cc, (λ e. cc, (λ e. cc, (λ e. cc, (tt, (tt, (tt, (λ e. cc, (tt, (tt, (tt, (tt, (tt,
-    (tt, (tt, (tt, (tt, (tt, (λ e. cc, (tt, (tt, (tt, (tt, (tt, (tt, (tt, (tt, (tt, (tt, (tt, tt))))))))))))))))))))))))))))))))))))))
-
 key_of : (w : List ℕ) (k : Keyword) → keyword_of w ≡ Some k → AllowsKey k
-key_of w k e = key_in keyword_words w k allow_words e
+key_of w k e = key_in keyword_words w k refl e
 
 -- A line that is read gives such a statement.
 after : {A : Type 0} (o : Result A Cause) (Next : A → Result Named Cause → Type 0) (s : Named) → After o Next (Ok s) → ((a : A) → Next a (Ok s) → IsAllowed s) → IsAllowed s
@@ -203,14 +209,14 @@ named_after : (names : List (List ℕ)) (o : Option (List ℕ)) → AreNames nam
 named_after names None a g c = a
 named_after names (Some n) a g c = named_more names n a g c
 
-naming : (a : FileContext) (own : List (Located Named)) (log : Log) (s : Named) → limit_cause a own log s ≡ None → naming_cause (defined (statements log.lines)) (defined_name s) ≡ None
+naming : (a : FileContext) (own : List (Located Named)) (log : ReadSoFar) (s : Named) → limit_cause a own log s ≡ None → naming_cause (defined (statements log.lines)) (defined_name s) ≡ None
 naming a own log (ConfigLine n) h = h
 naming a own log _ h = refl
 
 abbrev Known : List (Located Named) → Type 0
 Known ls = AreNames (defined (statements ls))
 
-known_next : (a b : FileContext) (own ls : List (Located Named)) (log : Log) (n : ℕ) (s : Named) → ls ≡ log.lines → IsAllowed s → limit_cause a own log s ≡ None → Known ls → Known (with_line ls b n s)
+known_next : (a b : FileContext) (own ls : List (Located Named)) (log : ReadSoFar) (n : ℕ) (s : Named) → ls ≡ log.lines → IsAllowed s → limit_cause a own log s ≡ None → Known ls → Known (with_line ls b n s)
 known_next a b own ls log n s same g c k =
     let pushed : statements (with_line ls b n s) ≡ statements ls ++ s ∷ [] = map-append (λ l. l.statement) ls (record { file = b.file; line = n; statement = s } ∷ []) in
     let names : defined (statements (with_line ls b n s)) ≡ defined_after (defined (statements ls)) (defined_name s) = ap defined pushed ∙ sym (defined_push (statements ls) s) in
@@ -219,11 +225,11 @@ known_next a b own ls log n s same g c k =
     subst AreNames (sym names) (named_after (defined (statements ls)) (defined_name s) k (allowed_name s g) caused)
 
 module _ (files : Files) where
-  abbrev Outcome : Result Log Refused → Type 0
+  abbrev Outcome : Result ReadSoFar Refused → Type 0
   Outcome (Ok log) = Known log.lines
   Outcome (Err r) = Unit {0}
 
-  rest_known : {a : FileContext} {l : UnreadLines} {own : List (Located Named)} {log : Log} {r : Result Log Refused} → Rest files a l own log r → Known log.lines → Outcome r
+  rest_known : {a : FileContext} {l : UnreadLines} {own : List (Located Named)} {log : ReadSoFar} {r : Result ReadSoFar Refused} → Rest files a l own log r → Known log.lines → Outcome r
   rest_known (at_end a l own log e o) k = k
   rest_known (unclosed a l own log line e u) k = tt
   rest_known (too_long a l own log t) k = tt
@@ -239,14 +245,14 @@ module _ (files : Files) where
   rest_known (refused_inside a l m own log name bytes e n allowed found inner) k = tt
   rest_known (source a l m own log more name bytes r n allowed found inner rest) k = rest_known rest (rest_known inner k)
 
-  by_bytes : (root : List ℕ) (log : Log) (o : Option Cause) →
+  by_bytes : (root : List ℕ) (log : ReadSoFar) (o : Option Cause) →
       MatchOption o ((bytes : List ℕ) × (files.bytes root ≡ Some bytes)
-      × Rest files (root_context root) (unread_lines bytes 1) [] (first_log files root bytes) (Ok log)) (λ c. Ok log ≡ Err (refused c root 0)) →
+      × Rest files (root_context root) (unread_lines bytes 1) [] (first_log files root bytes) (Ok log)) (λ c. Ok log ≡ Err (refused_at c root 0)) →
       Known log.lines
   by_bytes root log None h = rest_known h.2 (record { good = All-nil (λ m. is_good_name m ≡ true); few = omega arith })
-  by_bytes root log (Some c) h = absurd (let e : ◌≡◌ {A = Result Log Refused} (Ok log) (Err (refused c root 0)) = h in cc)
+  by_bytes root log (Some c) h = absurd (let e : ◌≡◌ {A = Result ReadSoFar Refused} (Ok log) (Err (refused_at c root 0)) = h in cc)
 
-  pub expanded_known : (root : List ℕ) (log : Log) → Expands files root (Ok log) → AreNames (defined (statements log.lines))
+  pub expanded_known : (root : List ℕ) (log : ReadSoFar) → Expands files root (Ok log) → AreNames (defined (statements log.lines))
   expanded_known root log h = by_bytes root log (bytes_cause root 0 (files.bytes root)) h
 
   -- Each line is allowed.
@@ -260,11 +266,11 @@ module _ (files : Files) where
         | inr h ↦ subst (λ (x : Located Named). IsAllowed x.statement) h.1 a
       ]
 
-  abbrev AllowedOutcome : Result Log Refused → Type 0
+  abbrev AllowedOutcome : Result ReadSoFar Refused → Type 0
   AllowedOutcome (Ok log) = AreAllowed log.lines
   AllowedOutcome (Err r) = Unit {0}
 
-  rest_allowed : {a : FileContext} {l : UnreadLines} {own : List (Located Named)} {log : Log} {r : Result Log Refused} → Rest files a l own log r → AreAllowed log.lines → AllowedOutcome r
+  rest_allowed : {a : FileContext} {l : UnreadLines} {own : List (Located Named)} {log : ReadSoFar} {r : Result ReadSoFar Refused} → Rest files a l own log r → AreAllowed log.lines → AllowedOutcome r
   rest_allowed (at_end a l own log e o) k = k
   rest_allowed (unclosed a l own log line e u) k = tt
   rest_allowed (too_long a l own log t) k = tt
@@ -280,14 +286,14 @@ module _ (files : Files) where
   rest_allowed (refused_inside a l m own log name bytes e n allowed found inner) k = tt
   rest_allowed (source a l m own log more name bytes r n allowed found inner rest) k = rest_allowed rest (rest_allowed inner k)
 
-  allowed_by : (root : List ℕ) (log : Log) (o : Option Cause) →
+  allowed_by : (root : List ℕ) (log : ReadSoFar) (o : Option Cause) →
       MatchOption o ((bytes : List ℕ) × (files.bytes root ≡ Some bytes)
-      × Rest files (root_context root) (unread_lines bytes 1) [] (first_log files root bytes) (Ok log)) (λ c. Ok log ≡ Err (refused c root 0)) →
+      × Rest files (root_context root) (unread_lines bytes 1) [] (first_log files root bytes) (Ok log)) (λ c. Ok log ≡ Err (refused_at c root 0)) →
       AreAllowed log.lines
   allowed_by root log None h = rest_allowed h.2 (λ i l e. absurd cc)
-  allowed_by root log (Some c) h = absurd (let e : ◌≡◌ {A = Result Log Refused} (Ok log) (Err (refused c root 0)) = h in cc)
+  allowed_by root log (Some c) h = absurd (let e : ◌≡◌ {A = Result ReadSoFar Refused} (Ok log) (Err (refused_at c root 0)) = h in cc)
 
-  pub expanded_allowed : (root : List ℕ) (log : Log) → Expands files root (Ok log) → (i : ℕ) (l : Located Named) → slice_get log.lines i ≡ Some l → IsAllowed l.statement
+  pub expanded_allowed : (root : List ℕ) (log : ReadSoFar) → Expands files root (Ok log) → (i : ℕ) (l : Located Named) → slice_get log.lines i ≡ Some l → IsAllowed l.statement
   expanded_allowed root log h = allowed_by root log (bytes_cause root 0 (files.bytes root)) h
 
 -- The same of numbered lines.

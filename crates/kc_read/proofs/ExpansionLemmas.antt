@@ -7,7 +7,7 @@ use Rattle.std.proofs.lemmas.List.Folds.{list_any-append}
 use Rattle.kc_language.specs.Lines.{UnreadLines, unread_lines}
 use Rattle.kc_language.specs.declared.statements.Block.{Block}
 use Rattle.kc_language.specs.declared.statements.Block.TheVariants as block
-use Rattle.kc_language.specs.Expansion.{Files, Bracket, Opens, Closes, NoBracket, bracket, last_of, open_blocks, FileContext, Log, Refused, Rest, Expands, bytes_cause, first_log, inside, with_file, refused, is_choice, context_of, with_line, at_end, unclosed, too_long, no_tokens, blank, renumbered, moved, bad_line, over_limit, statement, bad_source, refused_inside, source}
+use Rattle.kc_language.specs.Expansion.{Files, Bracket, Opens, Closes, NoBracket, bracket, last_of, open_blocks, FileContext, ReadSoFar, Refused, Rest, Expands, bytes_cause, first_log, inside, with_file, refused_at, is_choice_block, context_of, with_line, at_end, unclosed, too_long, no_tokens, blank, renumbered, moved, bad_line, over_limit, statement, bad_source, refused_inside, source}
 use Rattle.kc_read.specs.PartsOfExpansion.{root_context, logged}
 use Rattle.kc_language.specs.Statements.{Statement, Named, Located, IfLine, EndIfLine, SourceLine, MenuLine, EndMenuLine, ChoiceLine, EndChoiceLine, statements, Cause, LineContext}
 use Rattle.kc_read.specs.Progress.{Opener, located_blocks, open_blocks_after}
@@ -17,7 +17,7 @@ use Rattle.kc_read.proofs.ListLemmas.{last_of-append, but_last, but_last-take, b
 
 -- these open blocks are as a line asks
 abbrev pub Suits : List Block → Turn → Type 0
-Suits bs Chooses = list_any is_choice bs ≡ false
+Suits bs Chooses = list_any is_choice_block bs ≡ false
 Suits bs (Leaves b) = last_of bs ≡ Some b
 Suits bs Enables = Unit {0}
 Suits bs Adds = Unit {0}
@@ -90,14 +90,14 @@ nested_push : (ss : List Named) (s : Named) → AreNested ss → Suits (open_blo
 nested_push ss s n h = λ i x e. suits_push ss s x i n h (at_push ss s i x e)
 
 -- What is known between the lines of a file: of the whole list so far, and of this file's part.
-record Stands (a : FileContext) (own : List (Located Named)) (log : Log) : Type 0 where
+record Stands (a : FileContext) (own : List (Located Named)) (log : ReadSoFar) : Type 0 where
   nested : AreNested (statements log.lines)
   blocks : open_blocks (statements log.lines) ≡ a.blocks ++ open_blocks (statements own)
 
 -- what suits the context of a line suits the whole list
 suits_all : (outer inner : List Block) (t : Turn) (c : LineContext) → c.own ≡ last_of inner →
-    c.in_choice ≡ (list_any is_choice outer || list_any is_choice inner) → SuitsHere c t → Suits (outer ++ inner) t
-suits_all outer inner Chooses c e f h = list_any-append is_choice outer inner ∙ sym f ∙ h
+    c.in_choice ≡ (list_any is_choice_block outer || list_any is_choice_block inner) → SuitsHere c t → Suits (outer ++ inner) t
+suits_all outer inner Chooses c e f h = list_any-append is_choice_block outer inner ∙ sym f ∙ h
 suits_all outer inner (Leaves b) c e f h = last_of-append outer inner b (sym e ∙ h)
 suits_all outer inner Enables c e f h = tt
 suits_all outer inner Adds c e f h = tt
@@ -113,7 +113,7 @@ within_own (MenuLine t) c bs e h = tt
 within_own ChoiceLine c bs e h = tt
 within_own _ c bs e h = tt
 
-line_stands : (a : FileContext) (own : List (Located Named)) (log : Log) (s : Named) (n : ℕ) → Stands a own log → SuitsHere (context_of a own log) (turn s) →
+line_stands : (a : FileContext) (own : List (Located Named)) (log : ReadSoFar) (s : Named) (n : ℕ) → Stands a own log → SuitsHere (context_of a own log) (turn s) →
     Stands a (with_line own a n s) (logged log a n s)
 line_stands a own log s n i h =
     let now = open_blocks (statements own) in
@@ -134,17 +134,17 @@ pub record IsNested (bs : List Block) (ss : List Named) : Type 0 where
   pub blocks : open_blocks ss ≡ bs
 
 -- what a file leaves: no block of its own is open
-abbrev Leaving : List Block → Result Log Refused → Type 0
+abbrev Leaving : List Block → Result ReadSoFar Refused → Type 0
 Leaving bs (Ok log) = IsNested bs (statements log.lines)
 Leaving bs (Err r) = Unit {0}
 
-sourced_stands : (a : FileContext) (own : List (Located Named)) (more : Log) (name : List ℕ) (n : ℕ) →
+sourced_stands : (a : FileContext) (own : List (Located Named)) (more : ReadSoFar) (name : List ℕ) (n : ℕ) →
     IsNested (a.blocks ++ open_blocks (statements own)) (statements more.lines) → Stands a (with_line own a n (SourceLine name)) more
 sourced_stands a own more name n h =
     let opener : Located Named = record { file = a.file; line = n; statement = SourceLine name } in
     record { nested = h.nested; blocks = h.blocks ∙ ap (λ bs. a.blocks ++ bs) (sym (blocks_push own opener)) }
 
-rest_leaves : {files : Files} {a : FileContext} {l : UnreadLines} {own : List (Located Named)} {log : Log} {r : Result Log Refused} → Rest files a l own log r → Stands a own log → Leaving a.blocks r
+rest_leaves : {files : Files} {a : FileContext} {l : UnreadLines} {own : List (Located Named)} {log : ReadSoFar} {r : Result ReadSoFar Refused} → Rest files a l own log r → Stands a own log → Leaving a.blocks r
 rest_leaves (at_end a l own log e none) i = record { nested = i.nested; blocks = i.blocks ∙ ap (λ bs. a.blocks ++ bs) none ∙ append-nil a.blocks }
 rest_leaves (unclosed a l own log line e u) i = tt
 rest_leaves (too_long a l own log t) i = tt
@@ -167,11 +167,11 @@ rest_leaves (source a l m own log more name bytes r n e f inner rest) i =
     rest_leaves rest (sourced_stands a own more name l.number (rest_leaves inner stands))
 
 -- In the expanded list each line suits its enclosing blocks, and no block is open at the end.
-pub expansion_is_nested : (files : Files) (root : List ℕ) (log : Log) → Expands files root (Ok log) → IsNested [] (statements log.lines)
+pub expansion_is_nested : (files : Files) (root : List ℕ) (log : ReadSoFar) → Expands files root (Ok log) → IsNested [] (statements log.lines)
 expansion_is_nested files root log x = by (bytes_cause root 0 (files.bytes root)) x
   where
     by : (o : Option Cause) → MatchOption o ((bytes : List ℕ) × (files.bytes root ≡ Some bytes)
-        × Rest files (root_context root) (unread_lines bytes 1) [] (first_log files root bytes) (Ok log)) (λ c. Ok log ≡ Err (refused c root 0)) →
+        × Rest files (root_context root) (unread_lines bytes 1) [] (first_log files root bytes) (Ok log)) (λ c. Ok log ≡ Err (refused_at c root 0)) →
         IsNested [] (statements log.lines)
     by None e = rest_leaves e.2 (record { nested = λ i s f. absurd cc; blocks = refl })
     by (Some c) e = absurd cc

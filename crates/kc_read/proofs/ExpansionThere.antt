@@ -12,7 +12,7 @@ use Rattle.kc_text.proofs.Joins.{one_next_line_law}
 use Rattle.kc_text.proofs.There.{one_cutting_law}
 use Rattle.kc_language.specs.Expressions.{mention, same_name}
 use Rattle.kc_language.specs.declared.diagnostics.Cause.TheVariants as cause
-use Rattle.kc_language.specs.Expansion.{last_of, FileContext, Log, Refused, Rest, NextLine, NextStatement, refused, bytes_cause, context_of, first_log, limit_cause, inside, sourced, with_file, sourcing_cause, text_cause, with_line, without_help, at_end, unclosed, too_long, no_tokens, blank, renumbered, moved, bad_line, over_limit, statement, bad_source, refused_inside, source, Files}
+use Rattle.kc_language.specs.Expansion.{last_of, FileContext, ReadSoFar, Refused, Rest, NextLine, NextStatement, refused_at, bytes_cause, context_of, first_log, limit_cause, inside, sourced, with_file, sourcing_cause, text_cause, with_line, without_help, at_end, unclosed, too_long, no_tokens, blank, renumbered, moved, bad_line, over_limit, statement, bad_source, refused_inside, source, Files}
 use Rattle.kc_read.specs.PartsOfExpansion.{is_help, is_source, logged, root_context}
 use Rattle.kc_read.specs.PartsOfExpansion.{source_cause}
 use Rattle.kc_read.specs.Existing.{HasOneExpansion}
@@ -23,8 +23,8 @@ use Rattle.kc_read.proofs.LineThere.{line_there}
 use Rattle.kc_read.proofs.OneExpansion.{IsMark, Mark, NoMark, Number, Place, mark_there, one_expansion_law}
 use Rattle.kc_read.proofs.RestLemmas.{next_less}
 
-abbrev RestThere : Files → FileContext → UnreadLines → List (Located Named) → Log → Type 0
-RestThere files a l own log = (r : Result Log Refused) × Rest files a l own log r
+abbrev RestThere : Files → FileContext → UnreadLines → List (Located Named) → ReadSoFar → Type 0
+RestThere files a l own log = (r : Result ReadSoFar Refused) × Rest files a l own log r
 
 last_there : (o : Opener) (os : List Opener) → (p : Opener) × (last_of (o ∷ os) ≡ Some p)
 last_there o [] = (o, refl)
@@ -71,22 +71,22 @@ may_open files names n name h = by (list_any (same_name name) names) (nat_le 64 
     by false false None e f g = absurd cc
     by false false (Some bytes) e f g = record { bytes = bytes; there = f; fewer = grind (arith, nat_tests) }
 
-module _ (files : Files) (a : FileContext) (deeper : (own : List (Located Named)) (log : Log) (name bytes : List ℕ) → length a.open_files < 64 →
+module _ (files : Files) (a : FileContext) (deeper : (own : List (Located Named)) (log : ReadSoFar) (name bytes : List ℕ) → length a.open_files < 64 →
     RestThere files (inside a own name) (unread_lines bytes 1) [] (with_file log name bytes)) where
-  module _ (l : UnreadLines) (own : List (Located Named)) (log : Log)
-      (on : (m : UnreadLines) (own' : List (Located Named)) (log' : Log) → length m.lines < length l.lines → RestThere files a m own' log')
-      (elsewhere : (name : List ℕ) (m : UnreadLines) (own' : List (Located Named)) (log' : Log) → length m.lines < length l.lines →
+  module _ (l : UnreadLines) (own : List (Located Named)) (log : ReadSoFar)
+      (on : (m : UnreadLines) (own' : List (Located Named)) (log' : ReadSoFar) → length m.lines < length l.lines → RestThere files a m own' log')
+      (elsewhere : (name : List ℕ) (m : UnreadLines) (own' : List (Located Named)) (log' : ReadSoFar) → length m.lines < length l.lines →
       RestThere files (record a { file = name }) m own' log') where
     end_there : l.lines ≡ [] → (os : List Opener) → located_blocks own ≡ os → RestThere files a l own log
     end_there none [] e = (Ok log, at_end a l own log none (sym (blocks.blocks_of_located own) ∙ ap (map (λ o. o.block)) e))
     end_there none (o ∷ os) e =
         let x = last_there o os in
         let (opener, is_open, file, line) = blocks.unclosed own x.0 (ap last_of e ∙ x.1) in
-        (Err (refused cause.Block opener.file opener.line), unclosed a l own log opener none is_open)
+        (Err (refused_at cause.Block opener.file opener.line), unclosed a l own log opener none is_open)
 
     plain_there : (m : UnreadLines) (s : Named) → NextStatement files.flat l m (context_of a own log) (Ok s) → is_source s ≡ false → length m.lines < length l.lines →
         (o : Option Cause) → limit_cause a own log s ≡ o → RestThere files a l own log
-    plain_there m s n plain less (Some c) e = (Err (refused c a.file l.number), over_limit a l m own log s c n e)
+    plain_there m s n plain less (Some c) e = (Err (refused_at c a.file l.number), over_limit a l m own log s c n e)
     plain_there m s n plain less None e =
         let x = on m (with_line own a l.number s) (logged log a l.number s) less in
         (x.0, statement a l m own log s x.0 n plain e x.1)
@@ -101,13 +101,13 @@ module _ (files : Files) (a : FileContext) (deeper : (own : List (Located Named)
 
     source_there : (m : UnreadLines) (name : List ℕ) → NextStatement files.flat l m (context_of a own log) (Ok (SourceLine name)) → length m.lines < length l.lines →
         (o : Option Cause) → source_cause files a log.total_lines name ≡ o → RestThere files a l own log
-    source_there m name n less (Some c) e = (Err (refused c a.file l.number), bad_source a l m own log name c n e)
+    source_there m name n less (Some c) e = (Err (refused_at c a.file l.number), bad_source a l m own log name c n e)
     source_there m name n less None e =
         let x = may_open files a.open_files log.total_lines name e in
         opened_there m name x.bytes n less e x.there (deeper own log name x.bytes x.fewer)
 
     said_there : (m : UnreadLines) (s : Result Named Cause) → NextStatement files.flat l m (context_of a own log) s → length m.lines < length l.lines → RestThere files a l own log
-    said_there m (Err c) n less = (Err (refused c a.file l.number), bad_line a l m own log c n)
+    said_there m (Err c) n less = (Err (refused_at c a.file l.number), bad_line a l m own log c n)
     said_there m (Ok s) n less = by (is_source s) refl
       where
         by : (b : Bool) → is_source s ≡ b → RestThere files a l own log
@@ -124,7 +124,7 @@ module _ (files : Files) (a : FileContext) (deeper : (own : List (Located Named)
         (x.0, moved a l m own log n name x.0 is.0 is.1 x.1)
 
     cut_there : (m : UnreadLines) (ts : List Lexeme) (out : Option TextFault) → NextLine files.flat l m ts out → RestThere files a l own log
-    cut_there m ts (Some why) n = (Err (refused (text_cause why) a.file l.number), no_tokens a l m own log ts why n)
+    cut_there m ts (Some why) n = (Err (refused_at (text_cause why) a.file l.number), no_tokens a l m own log ts why n)
     cut_there m [] None n = let (mark, is) = mark_there files.flat a.file l m n in marked_there m (next_less l m [] None n) mark is
     cut_there m (t ∷ ts) None n =
         let s = line_there (context_of a own log) (t ∷ ts) in
@@ -138,14 +138,14 @@ module _ (files : Files) (a : FileContext) (deeper : (own : List (Located Named)
     next_there : (next : Next) → IsNextLine l next → RestThere files a l own log
     next_there Ended g = end_there g (located_blocks own) refl
     next_there (Taken m text) g = taken_there m text g
-    next_there TooLong g = (Err (refused cause.LineTooLong a.file l.number), too_long a l own log g)
+    next_there TooLong g = (Err (refused_at cause.LineTooLong a.file l.number), too_long a l own log g)
 
     turn_there : RestThere files a l own log
     turn_there = let next = one_next_line_law l in next_there next.0 next.1
 
 -- The context's file may change on the way, and its open files do not.
-lines_there : (files : Files) (fuel : ℕ) (a : FileContext) (l : UnreadLines) (own : List (Located Named)) (log : Log) →
-    ((file : List ℕ) (own : List (Located Named)) (log : Log) (name bytes : List ℕ) → length a.open_files < 64 →
+lines_there : (files : Files) (fuel : ℕ) (a : FileContext) (l : UnreadLines) (own : List (Located Named)) (log : ReadSoFar) →
+    ((file : List ℕ) (own : List (Located Named)) (log : ReadSoFar) (name bytes : List ℕ) → length a.open_files < 64 →
     RestThere files (inside (record a { file = file }) own name) (unread_lines bytes 1) [] (with_file log name bytes)) → length l.lines ≤ fuel → RestThere files a l own log
 lines_there files zero a l own log deeper le =
     turn_there files a (deeper a.file) l own log (λ m own' log' less. absurd (omega arith)) (λ name m own' log' less. absurd (omega arith))
@@ -153,17 +153,17 @@ lines_there files (suc fuel) a l own log deeper le =
     turn_there files a (deeper a.file) l own log (λ m own' log' less. lines_there files fuel a m own' log' deeper (omega arith))
     (λ name m own' log' less. lines_there files fuel (record a { file = name }) m own' log' deeper (omega arith))
 
-file_there : (files : Files) (depth : ℕ) (a : FileContext) → 64 - length a.open_files ≤ depth → (l : UnreadLines) (own : List (Located Named)) (log : Log) → RestThere files a l own log
+file_there : (files : Files) (depth : ℕ) (a : FileContext) → 64 - length a.open_files ≤ depth → (l : UnreadLines) (own : List (Located Named)) (log : ReadSoFar) → RestThere files a l own log
 file_there files zero a few l own log = lines_there files (length l.lines) a l own log (λ file own' log' name bytes lt. absurd (omega arith)) (omega arith)
 file_there files (suc depth) a few l own log =
     lines_there files (length l.lines) a l own log
     (λ file own' log' name bytes lt. file_there files depth (inside (record a { file = file }) own' name) (omega (arith, length-append a.open_files (name ∷ [])))
     (unread_lines bytes 1) [] (with_file log' name bytes)) (omega arith)
 
-root_there : (files : Files) (root : List ℕ) (o : Option (List ℕ)) (c : Option Cause) → files.bytes root ≡ o → bytes_cause root 0 o ≡ c → (r : Result Log Refused)
+root_there : (files : Files) (root : List ℕ) (o : Option (List ℕ)) (c : Option Cause) → files.bytes root ≡ o → bytes_cause root 0 o ≡ c → (r : Result ReadSoFar Refused)
     × MatchOption c ((bytes : List ℕ) × (files.bytes root ≡ Some bytes) × Rest files (root_context root) (unread_lines bytes 1) [] (first_log files root bytes) r)
-    (λ w. r ≡ Err (refused w root 0))
-root_there files root o (Some w) e f = (Err (refused w root 0), refl)
+    (λ w. r ≡ Err (refused_at w root 0))
+root_there files root o (Some w) e f = (Err (refused_at w root 0), refl)
 root_there files root None None e f = absurd cc
 root_there files root (Some bytes) None e f =
     let x = file_there files 64 (root_context root) (omega arith) (unread_lines bytes 1) [] (first_log files root bytes) in

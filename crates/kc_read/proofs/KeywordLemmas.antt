@@ -1,5 +1,5 @@
 -- The keyword of a word, by its length.
-use Rattle.std.proofs.Common.{◌≡◌, ◌∙◌, sym, ap, ℕ, Bool, true, List, length}
+use Rattle.std.proofs.Common.{◌≡◌, ◌∙◌, ◌×◌, ◌&&◌, sym, ap, refl, ℕ, Bool, true, false, List, length}
 use Rattle.std.proofs.lemmas.Map.Entries.{lookup-filter-keys}
 use Rattle.kc_language.specs.Expressions.{same_name}
 use Rattle.kc_language.specs.Statements.{keyword_of, keyword_words}
@@ -12,3 +12,8 @@ same_length w k e = ap length (sym (same_name_eq w k e))
 
 pub of_length : (passes : ℕ → Bool) (w : List ℕ) → passes (length w) ≡ true → keyword_in (words_of_length passes) w ≡ keyword_of w
 of_length passes w e = lookup-filter-keys (same_name w) (λ k. passes (length k)) true (λ k same. ap passes (same_length w k same) ∙ e) keyword_words
+
+-- what two tests tell that both pass
+pub both : (b c : Bool) → (b && c) ≡ true → (b ≡ true) × (c ≡ true)
+both true c e = (refl, e)
+both false c e = absurd cc

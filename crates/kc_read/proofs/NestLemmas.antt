@@ -7,7 +7,7 @@ use Rattle.std.proofs.lemmas.Option.{slice_get-map}
 use Rattle.kc_language.specs.declared.statements.Block.{Block}
 use Rattle.kc_language.specs.declared.statements.Block.TheVariants as block
 use Rattle.kc_language.specs.Statements.{Named, Numbered, Located, numbered, ConfigLine, IfLine, MenuLine, EndMenuLine, ChoiceLine, statements}
-use Rattle.kc_language.specs.Expansion.{Bracket, Closes, NoBracket, Opens, bracket, bracket_at, opened, stays_open, open_block_indices, open_blocks, enclosing, numbers, last_of, Log, Expands, is_choice, Files}
+use Rattle.kc_language.specs.Expansion.{Bracket, Closes, NoBracket, Opens, bracket, bracket_at, opened, stays_open, open_block_indices, open_blocks, enclosing, numbers, last_of, ReadSoFar, Expands, is_choice_block, Files}
 use Rattle.kc_read.specs.PartsOfExpansion.{is_open}
 use Rattle.kc_read.specs.PartsOfExpansion.{bracket_of, located_numbered, stays_after}
 use Rattle.kc_language.specs.Symbols.{is_block, of_block, enclosing_choice, choice_number}
@@ -94,7 +94,7 @@ numbered_nested number ls n =
     subst AreNested (sym (statements_are_numbered number ls)) (AreNested-map (numbered number) (numbered_bracket number) (numbered_turn number) (statements ls) n)
 
 -- an expanded list, numbered: each line suits its enclosing blocks, and none is open at the end
-pub expanded_nested : (files : Files) (root : List ℕ) (log : Log) (number : List ℕ → ℕ) → Expands files root (Ok log) →
+pub expanded_nested : (files : Files) (root : List ℕ) (log : ReadSoFar) (number : List ℕ → ℕ) → Expands files root (Ok log) →
     AreNested (map (λ l. l.statement) (map (located_numbered number) log.lines))
 expanded_nested files root log number x = numbered_nested number log.lines (expansion_is_nested files root log x).nested
 
@@ -104,21 +104,21 @@ module _ (f : ℕ → Option Block) where
   Opening j = (b : Block) × (f j ≡ Some b)
 
   -- where no block is a choice, no place is one of a choice
-  none_by : (p q : ℕ → Bool) (t : Bool) (j : ℕ) (js : List ℕ) → p j ≡ t → (p j ≡ true → (b : Block) × (f j ≡ Some b) × (q j ≡ is_choice b)) →
-      (list_any is_choice (filter_map f (filter p js)) ≡ false → filter q (filter p js) ≡ []) → list_any is_choice (filter_map f (filter p (j ∷ js))) ≡ false →
+  none_by : (p q : ℕ → Bool) (t : Bool) (j : ℕ) (js : List ℕ) → p j ≡ t → (p j ≡ true → (b : Block) × (f j ≡ Some b) × (q j ≡ is_choice_block b)) →
+      (list_any is_choice_block (filter_map f (filter p js)) ≡ false → filter q (filter p js) ≡ []) → list_any is_choice_block (filter_map f (filter p (j ∷ js))) ≡ false →
       filter q (filter p (j ∷ js)) ≡ []
   none_by p q false j js e h later none = rw e (later (rw e at none))
   none_by p q true j js e h later none =
       let b = h e in
-      let there : (is_choice b.0 || list_any is_choice (filter_map f (filter p js))) ≡ false = (rw (e, b.1) at none) in
-      first (is_choice b.0) refl there
+      let there : (is_choice_block b.0 || list_any is_choice_block (filter_map f (filter p js))) ≡ false = (rw (e, b.1) at none) in
+      first (is_choice_block b.0) refl there
     where
-      first : (c : Bool) → is_choice (h e).0 ≡ c → (c || list_any is_choice (filter_map f (filter p js))) ≡ false → filter q (filter p (j ∷ js)) ≡ []
+      first : (c : Bool) → is_choice_block (h e).0 ≡ c → (c || list_any is_choice_block (filter_map f (filter p js))) ≡ false → filter q (filter p (j ∷ js)) ≡ []
       first true g none = absurd cc
       first false g none = let no : q j ≡ false = (h e).2 ∙ g in rw (e, no) (later none)
 
-  none_chosen : (p q : ℕ → Bool) → ((j : ℕ) → p j ≡ true → (b : Block) × (f j ≡ Some b) × (q j ≡ is_choice b)) → (js : List ℕ) →
-      list_any is_choice (filter_map f (filter p js)) ≡ false → filter q (filter p js) ≡ []
+  none_chosen : (p q : ℕ → Bool) → ((j : ℕ) → p j ≡ true → (b : Block) × (f j ≡ Some b) × (q j ≡ is_choice_block b)) → (js : List ℕ) →
+      list_any is_choice_block (filter_map f (filter p js)) ≡ false → filter q (filter p js) ≡ []
   none_chosen p q h [] none = refl
   none_chosen p q h (j ∷ js) none = none_by p q (p j) j js refl (h j) (none_chosen p q h js) none
 
@@ -163,12 +163,12 @@ module _ (ss : List Numbered) where
   open_block : (xs : List Numbered) (j : ℕ) → is_open xs j ≡ true → (b : Block) × (opened (bracket_at xs j) ≡ Some b)
   open_block xs j e = is_there (opened (bracket_at xs j)) (both_true (is_some (opened (bracket_at xs j))) (stays_open 0 (drop (suc j) xs)) e)
 
-  choice_block : (b : Block) → is_block block.Choice (Some b) ≡ is_choice b
+  choice_block : (b : Block) → is_block block.Choice (Some b) ≡ is_choice_block b
   choice_block block.If = refl
   choice_block block.Menu = refl
   choice_block block.Choice = refl
 
-  open_choice : (i j : ℕ) → is_open (take i ss) j ≡ true → (b : Block) × (opened (bracket_at (take i ss) j) ≡ Some b) × (of_block ss block.Choice j ≡ is_choice b)
+  open_choice : (i j : ℕ) → is_open (take i ss) j ≡ true → (b : Block) × (opened (bracket_at (take i ss) j) ≡ Some b) × (of_block ss block.Choice j ≡ is_choice_block b)
   open_choice i j e =
       let b = open_block (take i ss) j e in
       (b.0, b.1, ap (is_block block.Choice) (in_front ss i j b.0 b.1) ∙ choice_block b.0)

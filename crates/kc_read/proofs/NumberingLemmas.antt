@@ -14,7 +14,7 @@ use Rattle.kc_expr.specs.PartsOfSymbols.{added}
 use Rattle.kc_language.specs.Symbols.{all_added, defined_symbols}
 use Rattle.kc_read.specs.PartsOfSymbols.{symbol_of}
 use Rattle.kc_expr.proofs.NamesLemmas.{all_mentioned_extends, number_later, same_name-refl}
-use Rattle.kc_language.specs.Expansion.{definitions, defined_name, is_modules, last_of, modules_of, names_of, numbered_lines}
+use Rattle.kc_language.specs.Expansion.{definitions, defined_name, is_modules, last_of, modules_of, mentioned_names, numbered_lines}
 use Rattle.kc_read.specs.PartsOfExpansion.{defined, located_numbered}
 use Rattle.kc_read.specs.Expanded.{AreNumbers, IsNamed}
 use Rattle.kc_language.specs.Statements.{Named, Located, ConfigLine, ModulesLine, numbered, names_in_statement, statements}
@@ -74,7 +74,7 @@ all_mentioned-distinct : (names words : List (List ℕ)) → AreDistinct names �
 all_mentioned-distinct names [] distinct = distinct
 all_mentioned-distinct names (w ∷ words) distinct = all_mentioned-distinct (mention names w) words (mentioned-distinct names w distinct)
 
-pub names-distinct : (ss : List Named) → AreDistinct (names_of ss)
+pub names-distinct : (ss : List Named) → AreDistinct (mentioned_names ss)
 names-distinct ss = all_mentioned-distinct [] (flat_map names_in_statement ss) no_names
 
 -- A name that is known keeps its number.
@@ -127,7 +127,7 @@ knows_definitions : (ss : List Named) (w : List ℕ) → list_any (same_name w) 
 knows_definitions [] w h = absurd cc
 knows_definitions (s ∷ ss) w h = knows_statement s (definitions ss) (flat_map names_in_statement ss) (defined_name s) refl (knows_definitions ss) w h
 
-pub definition_known : (ss : List Named) (w : List ℕ) → list_any (same_name w) (definitions ss) ≡ true → list_any (same_name w) (names_of ss) ≡ true
+pub definition_known : (ss : List Named) (w : List ℕ) → list_any (same_name w) (definitions ss) ≡ true → list_any (same_name w) (mentioned_names ss) ≡ true
 definition_known ss w h = mentioned_known [] (flat_map names_in_statement ss) w (knows_definitions ss w h)
 
 -- What a line is with numbers for names.
@@ -209,16 +209,16 @@ added_numbers names ids ns (w ∷ ws) h k =
     added_numbers names (added ids (symbol (number_of names w))) (mention ns w) ws placed (λ v e. k v (ap (λ (b : Bool). same_name v w || b) e ∙ or_true (same_name v w)))
 
 pub defined_are_numbers : (ls : List (Located Named)) →
-    defined_symbols (statements (numbered_lines ls)) ≡ map (λ n. symbol (number_of (names_of (statements ls)) n)) (defined (statements ls))
+    defined_symbols (statements (numbered_lines ls)) ≡ map (λ n. symbol (number_of (mentioned_names (statements ls)) n)) (defined (statements ls))
 defined_are_numbers ls =
     let ss = statements ls in
-    let names = names_of ss in
+    let names = mentioned_names ss in
     ap (λ xs. all_added [] (definitions xs)) (statements_numbered (number_of names) ls)
     ∙ ap (all_added []) (definitions_numbered (number_of names) ss)
     ∙ added_numbers names [] [] (definitions ss) (λ later x. refl) (definition_known ss) names (extends_none names)
 
 pub as_many_defined : (ls : List (Located Named)) → length (defined_symbols (statements (numbered_lines ls))) ≡ length (defined (statements ls))
-as_many_defined ls = ap length (defined_are_numbers ls) ∙ length-map (defined (statements ls)) (λ n. symbol (number_of (names_of (statements ls)) n))
+as_many_defined ls = ap length (defined_are_numbers ls) ∙ length-map (defined (statements ls)) (λ n. symbol (number_of (mentioned_names (statements ls)) n))
 
 -- the number of a name, where there is a name
 pub named_is : (names : List (List ℕ)) (o : Option SymId) (m : Option (List ℕ)) → IsNamed names o m → o ≡ option_map (λ n. symbol (number_of names n)) m
@@ -233,14 +233,14 @@ pub record IsConfigOf (ls : List (Located Named)) (i : ℕ) (s : SymId) : Type 0
   pub line : Named
   pub at : slice_get (statements ls) i ≡ Some line
   pub defines : defined_name line ≡ Some name
-  pub is : s ≡ symbol (number_of (names_of (statements ls)) name)
-  pub known : list_any (same_name name) (names_of (statements ls)) ≡ true
+  pub is : s ≡ symbol (number_of (mentioned_names (statements ls)) name)
+  pub known : list_any (same_name name) (mentioned_names (statements ls)) ≡ true
 
 config_in : (ls : List (Located Named)) (i : ℕ) (s : SymId) (o : Option Named) → slice_get (statements ls) i ≡ o →
-    symbol_of (option_map (numbered (number_of (names_of (statements ls)))) o) ≡ Some s → IsConfigOf ls i s
+    symbol_of (option_map (numbered (number_of (mentioned_names (statements ls)))) o) ≡ Some s → IsConfigOf ls i s
 config_in ls i s None at h = absurd cc
 config_in ls i s (Some x) at h =
-    let found = config_by (number_of (names_of (statements ls))) x s h in
+    let found = config_by (number_of (mentioned_names (statements ls))) x s h in
     record {
       name = found.0;
       line = x;
@@ -252,13 +252,13 @@ config_in ls i s (Some x) at h =
 
 pub config_of : (ls : List (Located Named)) (i : ℕ) (s : SymId) → symbol_of (slice_get (statements (numbered_lines ls)) i) ≡ Some s → IsConfigOf ls i s
 config_of ls i s h =
-    config_in ls i s (slice_get (statements ls) i) refl (sym (ap symbol_of (numbered_at (number_of (names_of (statements ls))) ls i)) ∙ h)
+    config_in ls i s (slice_get (statements ls) i) refl (sym (ap symbol_of (numbered_at (number_of (mentioned_names (statements ls))) ls i)) ∙ h)
 
 -- and its symbol has the number of one
-pub numbered_below : (ls : List (Located Named)) → AreBelow (length (names_of (statements ls))) (statements (numbered_lines ls))
+pub numbered_below : (ls : List (Located Named)) → AreBelow (length (mentioned_names (statements ls))) (statements (numbered_lines ls))
 numbered_below ls i s h =
     let c = config_of ls i s h in
-    let names = names_of (statements ls) in
+    let names = mentioned_names (statements ls) in
     let within : number_of names c.name < length names = slice_get_within names (number_of names c.name) c.name (known_at names c.name c.known) in
     let same : s.0 ≡ number_of names c.name = ap (λ (t : SymId). t.0) c.is in
     omega arith

@@ -11,7 +11,7 @@ use Rattle.kc_read.proofs.FileLemmas.{same_name_eq}
 use Rattle.kc_expr.proofs.NamesLemmas.{same_name-refl}
 use Rattle.std.proofs.lemmas.Bool.{both_ways, cases_Bool, false≢true}
 use Rattle.kc_language.specs.declared.diagnostics.Cause.TheVariants as cause
-use Rattle.kc_language.specs.Expansion.{last_of, open_blocks, FileContext, Log, Refused, Rest, IsBlankNext, IsMarker, IsUnclosed, MarksNext, NextLine, NextStatement, first_log, sourced, refused, bytes_cause, context_of, limit_cause, inside, with_file, text_cause, with_line, without_help, at_end, unclosed, too_long, no_tokens, blank, renumbered, moved, bad_line, over_limit, statement, bad_source, refused_inside, source, Files}
+use Rattle.kc_language.specs.Expansion.{last_of, open_blocks, FileContext, ReadSoFar, Refused, Rest, IsBlankNext, IsMarker, IsUnclosed, MarksNext, NextLine, NextStatement, first_log, sourced, refused_at, bytes_cause, context_of, limit_cause, inside, with_file, text_cause, with_line, without_help, at_end, unclosed, too_long, no_tokens, blank, renumbered, moved, bad_line, over_limit, statement, bad_source, refused_inside, source, Files}
 use Rattle.kc_read.specs.PartsOfExpansion.{is_help, is_source, logged, root_context}
 use Rattle.kc_read.specs.PartsOfExpansion.{innermost, source_cause}
 use Rattle.kc_read.specs.Expansion.{OneExpansion}
@@ -129,43 +129,43 @@ one_unclosed own line other u v =
 
 -- ---- What the rest of a file gives, by its next line
 
-module _ (files : Files) (a : FileContext) (l : UnreadLines) (own : List (Located Named)) (log : Log) where
+module _ (files : Files) (a : FileContext) (l : UnreadLines) (own : List (Located Named)) (log : ReadSoFar) where
   -- after a statement
-  data Said (m : UnreadLines) (s : Named) (r : Result Log Refused) : Type 0 where
-    said_effect : (c : Cause) → limit_cause a own log s ≡ Some c → r ≡ Err (refused c a.file l.number) → Said m s r
+  data Said (m : UnreadLines) (s : Named) (r : Result ReadSoFar Refused) : Type 0 where
+    said_effect : (c : Cause) → limit_cause a own log s ≡ Some c → r ≡ Err (refused_at c a.file l.number) → Said m s r
     said_plain : is_source s ≡ false → limit_cause a own log s ≡ None → Rest files a m (with_line own a l.number s) (logged log a l.number s) r → Said m s r
-    said_bad_source : (name : List ℕ) (c : Cause) → s ≡ SourceLine name → source_cause files a log.total_lines name ≡ Some c → r ≡ Err (refused c a.file l.number) → Said m s r
+    said_bad_source : (name : List ℕ) (c : Cause) → s ≡ SourceLine name → source_cause files a log.total_lines name ≡ Some c → r ≡ Err (refused_at c a.file l.number) → Said m s r
     said_inside : (name bytes : List ℕ) (e : Refused) → s ≡ SourceLine name → source_cause files a log.total_lines name ≡ None → sourced files name ≡ Some bytes →
         Rest files (inside a own name) (unread_lines bytes 1) [] (with_file log name bytes) (Err e) → r ≡ Err e → Said m s r
-    said_source : (name bytes : List ℕ) (more : Log) → s ≡ SourceLine name → source_cause files a log.total_lines name ≡ None → sourced files name ≡ Some bytes →
+    said_source : (name bytes : List ℕ) (more : ReadSoFar) → s ≡ SourceLine name → source_cause files a log.total_lines name ≡ None → sourced files name ≡ Some bytes →
         Rest files (inside a own name) (unread_lines bytes 1) [] (with_file log name bytes) (Ok more) →
         Rest files a m (with_line own a l.number (SourceLine name)) more r → Said m s r
 
-  abbrev Says : UnreadLines → Result Named Cause → Result Log Refused → Type 0
+  abbrev Says : UnreadLines → Result Named Cause → Result ReadSoFar Refused → Type 0
   Says m (Ok s) r = Said m s r
-  Says m (Err c) r = r ≡ Err (refused c a.file l.number)
+  Says m (Err c) r = r ≡ Err (refused_at c a.file l.number)
 
   -- behind a line without tokens
-  abbrev Behind : UnreadLines → Mark → Result Log Refused → Type 0
+  abbrev Behind : UnreadLines → Mark → Result ReadSoFar Refused → Type 0
   Behind m NoMark r = Rest files a m own log r
   Behind m (Number n) r = Rest files a (record m { number = n }) own log r
   Behind m (Place n name) r =
       Rest files (record a { file = name }) (record m { number = n }) (with_line own a l.number (SourceLine name)) (record log { opened = mention log.opened name }) r
 
-  abbrev Gives : Turn → Result Log Refused → Type 0
-  Gives Ends r = ((open_blocks (statements own) ≡ []) × (r ≡ Ok log)) ⊎ ((line : Located Named) × IsUnclosed own line × (r ≡ Err (refused cause.Block line.file line.line)))
-  Gives Long r = r ≡ Err (refused cause.LineTooLong a.file l.number)
-  Gives (Line m ts (Some why)) r = r ≡ Err (refused (text_cause why) a.file l.number)
+  abbrev Gives : Turn → Result ReadSoFar Refused → Type 0
+  Gives Ends r = ((open_blocks (statements own) ≡ []) × (r ≡ Ok log)) ⊎ ((line : Located Named) × IsUnclosed own line × (r ≡ Err (refused_at cause.Block line.file line.line)))
+  Gives Long r = r ≡ Err (refused_at cause.LineTooLong a.file l.number)
+  Gives (Line m ts (Some why)) r = r ≡ Err (refused_at (text_cause why) a.file l.number)
   Gives (Line m ts None) r = ((ts ≡ []) × ((x : Mark) × IsMark files.flat a.file l m x × Behind m x r)) ⊎ ((ts ≢ []) × ((s : Result Named Cause) × ReadsLine (context_of a own log) ts s × Says m s r))
 
   -- how the file goes on, and what that gives
-  abbrev Goes : Result Log Refused → Type 0
+  abbrev Goes : Result ReadSoFar Refused → Type 0
   Goes r = (t : Turn) × IsTurn files.flat l t × Gives t r
 
-  goes_statement : (m : UnreadLines) (s : Result Named Cause) (r : Result Log Refused) → NextStatement files.flat l m (context_of a own log) s → Says m s r → Goes r
+  goes_statement : (m : UnreadLines) (s : Result Named Cause) (r : Result ReadSoFar Refused) → NextStatement files.flat l m (context_of a own log) s → Says m s r → Goes r
   goes_statement m s r n h = (Line m n.tokens None, n.next, inr (n.some, (s, n.reads, h)))
 
-goes : {files : Files} {a : FileContext} {l : UnreadLines} {own : List (Located Named)} {log : Log} {r : Result Log Refused} → Rest files a l own log r → Goes files a l own log r
+goes : {files : Files} {a : FileContext} {l : UnreadLines} {own : List (Located Named)} {log : ReadSoFar} {r : Result ReadSoFar Refused} → Rest files a l own log r → Goes files a l own log r
 goes (at_end a l own log none closed) = (Ends, none, inl (closed, refl))
 goes (unclosed a l own log line none unmatched) = (Ends, none, inr (line, unmatched, refl))
 goes (too_long a l own log long) = (Long, long, refl)
@@ -181,14 +181,14 @@ goes {files} (refused_inside a l m own log name bytes e n free there d) = goes_s
 goes {files} (source a l m own log more name bytes r n free there d f) = goes_statement files a l own log m (Ok (SourceLine name)) r n (said_source name bytes more refl free there d f)
 
 -- what the next line gives
-gives : (files : Files) (a : FileContext) (l : UnreadLines) (own : List (Located Named)) (log : Log) (r : Result Log Refused) (t : Turn) → IsTurn files.flat l t →
+gives : (files : Files) (a : FileContext) (l : UnreadLines) (own : List (Located Named)) (log : ReadSoFar) (r : Result ReadSoFar Refused) (t : Turn) → IsTurn files.flat l t →
     Rest files a l own log r → Gives files a l own log t r
 gives files a l own log r t is d =
     let (u, is', h) = goes d in
     subst (λ v. Gives files a l own log v r) (one_turn files.flat l u t is' is) h
 
 -- what a line without tokens gives
-behind : (files : Files) (a : FileContext) (l m : UnreadLines) (own : List (Located Named)) (log : Log) (x : Mark) (r : Result Log Refused) →
+behind : (files : Files) (a : FileContext) (l m : UnreadLines) (own : List (Located Named)) (log : ReadSoFar) (x : Mark) (r : Result ReadSoFar Refused) →
     NextLine files.flat l m [] None → IsMark files.flat a.file l m x → Rest files a l own log r → Behind files a l own log m x r
 behind files a l m own log x r n is d = by (gives files a l own log r (Line m [] None) n d)
   where
@@ -197,7 +197,7 @@ behind files a l m own log x r n is d = by (gives files a l own log r (Line m []
     by (inr h) = absurd (h.0 refl)
 
 -- what the next statement gives
-says : (files : Files) (a : FileContext) (l m : UnreadLines) (own : List (Located Named)) (log : Log) (s : Result Named Cause) (r : Result Log Refused) →
+says : (files : Files) (a : FileContext) (l m : UnreadLines) (own : List (Located Named)) (log : ReadSoFar) (s : Result Named Cause) (r : Result ReadSoFar Refused) →
     NextStatement files.flat l m (context_of a own log) s → Rest files a l own log r → Says files a l own log m s r
 says files a l m own log s r n d = by (gives files a l own log r (Line m n.tokens None) n.next d)
   where
@@ -227,13 +227,13 @@ pub same_source : (s : Named) (name other : List ℕ) → s ≡ SourceLine name 
 same_source s name other e f = one_name name other (sym e ∙ f)
 
 -- a `source` line opens no block and defines nothing
-source_effect : (a : FileContext) (own : List (Located Named)) (log : Log) (s : Named) (name : List ℕ) → s ≡ SourceLine name → limit_cause a own log s ≡ None
+source_effect : (a : FileContext) (own : List (Located Named)) (log : ReadSoFar) (s : Named) (name : List ℕ) → s ≡ SourceLine name → limit_cause a own log s ≡ None
 source_effect a own log s name e = ap (limit_cause a own log) e
 
-abbrev refused_at : FileContext → UnreadLines → Cause → Result Log Refused
-refused_at a l c = Err (refused c a.file l.number)
+abbrev refused_at : FileContext → UnreadLines → Cause → Result ReadSoFar Refused
+refused_at a l c = Err (refused_at c a.file l.number)
 
-module _ (files : Files) (a : FileContext) (l m : UnreadLines) (own : List (Located Named)) (log : Log) (other : Result Log Refused) where
+module _ (files : Files) (a : FileContext) (l m : UnreadLines) (own : List (Located Named)) (log : ReadSoFar) (other : Result ReadSoFar Refused) where
   same_effect : (s : Named) (c : Cause) → limit_cause a own log s ≡ Some c → Said files a l own log m s other → refused_at a l c ≡ other
   same_effect s c f (said_effect d g e) = ap (refused_at a l) (one_some (limit_cause a own log s) c d f g) ∙ sym e
   same_effect s c f (said_plain p g e) = none_or_some (limit_cause a own log s) c g f
@@ -261,10 +261,10 @@ module _ (files : Files) (a : FileContext) (l m : UnreadLines) (own : List (Loca
 
     module _ (bytes : List ℕ) (free : source_cause files a log.total_lines name ≡ None) (there : sourced files name ≡ Some bytes) where
       -- the same file is opened
-      abbrev Inner : Result Log Refused → Type 0
+      abbrev Inner : Result ReadSoFar Refused → Type 0
       Inner r = Rest files (inside a own name) (unread_lines bytes 1) [] (with_file log name bytes) r
 
-      inner : (n b : List ℕ) (r : Result Log Refused) → source_line name ≡ source_line n → sourced files n ≡ Some b → Rest files (inside a own n) (unread_lines b 1) [] (with_file log n b) r → Inner r
+      inner : (n b : List ℕ) (r : Result ReadSoFar Refused) → source_line name ≡ source_line n → sourced files n ≡ Some b → Rest files (inside a own n) (unread_lines b 1) [] (with_file log n b) r → Inner r
       inner n b r e f d =
           let g : n ≡ name = sym (one_name name n e) in
           let h : b ≡ bytes = one_some (sourced files name) b bytes (subst (λ k. sourced files k ≡ Some b) g f) there in
@@ -272,7 +272,7 @@ module _ (files : Files) (a : FileContext) (l m : UnreadLines) (own : List (Loca
 
       -- what the file gives, and what follows it
       abbrev Entered : Type 0
-      Entered = ((e : Refused) × Inner (Err e) × (other ≡ Err e)) ⊎ ((more : Log) × Inner (Ok more) × Rest files a m (with_line own a l.number (SourceLine name)) more other)
+      Entered = ((e : Refused) × Inner (Err e) × (other ≡ Err e)) ⊎ ((more : ReadSoFar) × Inner (Ok more) × Rest files a m (with_line own a l.number (SourceLine name)) more other)
 
       entered : Said files a l own log m (SourceLine name) other → Entered
       entered (said_effect d g e) = none_or_some (limit_cause a own log (SourceLine name)) d refl g
@@ -282,28 +282,28 @@ module _ (files : Files) (a : FileContext) (l m : UnreadLines) (own : List (Loca
       entered (said_source n b more e g h i j) =
           inr (more, inner n b (Ok more) e h i, subst (λ k. Rest files a m (with_line own a l.number (SourceLine k)) more other) (sym (one_name name n e)) j)
 
-abbrev refusal : Refused → Result Log Refused
+abbrev refusal : Refused → Result ReadSoFar Refused
 refusal e = Err e
 
-err_or_ok : {B : Type 0} (e : Refused) (log : Log) → refusal e ≡ Ok log → B
+err_or_ok : {B : Type 0} (e : Refused) (log : ReadSoFar) → refusal e ≡ Ok log → B
 err_or_ok e log h = absurd cc
 
-abbrev outcome : Log → Result Log Refused
+abbrev outcome : ReadSoFar → Result ReadSoFar Refused
 outcome g = Ok g
 
-pub one_rest : {files : Files} {a : FileContext} {l : UnreadLines} {own : List (Located Named)} {log : Log} {r : Result Log Refused} →
-    Rest files a l own log r → (other : Result Log Refused) → Rest files a l own log other → r ≡ other
+pub one_rest : {files : Files} {a : FileContext} {l : UnreadLines} {own : List (Located Named)} {log : ReadSoFar} {r : Result ReadSoFar Refused} →
+    Rest files a l own log r → (other : Result ReadSoFar Refused) → Rest files a l own log other → r ≡ other
 one_rest {files} (at_end a l own log none closed) other e = by (gives files a l own log other Ends none e)
   where
-    by : ((open_blocks (statements own) ≡ []) × (other ≡ Ok log)) ⊎ ((line : Located Named) × IsUnclosed own line × (other ≡ Err (refused cause.Block line.file line.line))) → Ok log ≡ other
+    by : ((open_blocks (statements own) ≡ []) × (other ≡ Ok log)) ⊎ ((line : Located Named) × IsUnclosed own line × (other ≡ Err (refused_at cause.Block line.file line.line))) → Ok log ≡ other
     by (inl x) = sym x.1
     by (inr x) = absurd (closed_or_not own x.0 closed x.1)
 one_rest {files} (unclosed a l own log line none unmatched) other e = by (gives files a l own log other Ends none e)
   where
-    by : ((open_blocks (statements own) ≡ []) × (other ≡ Ok log)) ⊎ ((n : Located Named) × IsUnclosed own n × (other ≡ Err (refused cause.Block n.file n.line))) →
-        Err (refused cause.Block line.file line.line) ≡ other
+    by : ((open_blocks (statements own) ≡ []) × (other ≡ Ok log)) ⊎ ((n : Located Named) × IsUnclosed own n × (other ≡ Err (refused_at cause.Block n.file n.line))) →
+        Err (refused_at cause.Block line.file line.line) ≡ other
     by (inl x) = absurd (closed_or_not own line x.0 unmatched)
-    by (inr x) = ap (λ n. Err (refused cause.Block n.file n.line)) (one_unclosed own line x.0 unmatched x.1) ∙ sym x.2
+    by (inr x) = ap (λ n. Err (refused_at cause.Block n.file n.line)) (one_unclosed own line x.0 unmatched x.1) ∙ sym x.2
 one_rest {files} (too_long a l own log long) other e = sym (gives files a l own log other Long long e)
 one_rest {files} (no_tokens a l m own log ts why next) other e = sym (gives files a l own log other (Line m ts (Some why)) next e)
 one_rest {files} (blank a l m own log r next d) other e = one_rest d other (behind files a l m own log NoMark other next.0 next e)
@@ -324,16 +324,16 @@ one_rest {files} (source a l m own log more name bytes r n free there d f) other
       | inr x ↦ one_rest f other (subst (λ g. Rest files a m (with_line own a l.number (SourceLine name)) g other) (sym (one_log more x.0 (one_rest d (Ok x.0) x.1))) x.2)
     ]
   where
-    one_log : (g h : Log) → outcome g ≡ outcome h → g ≡ h
+    one_log : (g h : ReadSoFar) → outcome g ≡ outcome h → g ≡ h
     one_log g h i = cc
 
-abbrev RootGives : Files → List ℕ → Result Log Refused → Type 0
+abbrev RootGives : Files → List ℕ → Result ReadSoFar Refused → Type 0
 RootGives files root r = (bytes : List ℕ) × (files.bytes root ≡ Some bytes) × Rest files (root_context root) (unread_lines bytes 1) [] (first_log files root bytes) r
 
 pub one_expansion_law : OneExpansion
 one_expansion_law files root r other d e = by (bytes_cause root 0 (files.bytes root)) d e
   where
-    by : (o : Option Cause) → MatchOption o (RootGives files root r) (λ c. r ≡ Err (refused c root 0)) → MatchOption o (RootGives files root other) (λ c. other ≡ Err (refused c root 0)) → r ≡ other
+    by : (o : Option Cause) → MatchOption o (RootGives files root r) (λ c. r ≡ Err (refused_at c root 0)) → MatchOption o (RootGives files root other) (λ c. other ≡ Err (refused_at c root 0)) → r ≡ other
     by (Some c) x y = x ∙ sym y
     by None x y =
         let b : y.0 ≡ x.0 = one_some (files.bytes root) y.0 x.0 y.1 x.1 in

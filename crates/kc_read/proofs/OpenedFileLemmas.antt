@@ -8,7 +8,7 @@ use Rattle.kc_language.specs.Lines.{UnreadLines, TakesLine, unread_lines}
 use Rattle.kc_text.specs.Lines.{Next, Ended, Taken, TooLong, IsNextLine}
 use Rattle.kc_text.proofs.Joins.{one_next_line_law}
 use Rattle.kc_text.proofs.There.{one_cutting_law}
-use Rattle.kc_language.specs.Expansion.{FileContext, Log, Refused, Rest, NextLine, NextStatement, context_of, without_help, at_end, unclosed, too_long, no_tokens, blank, renumbered, moved, bad_line, over_limit, statement, bad_source, refused_inside, source, sourced, Files, SourceNames}
+use Rattle.kc_language.specs.Expansion.{FileContext, ReadSoFar, Refused, Rest, NextLine, NextStatement, context_of, without_help, at_end, unclosed, too_long, no_tokens, blank, renumbered, moved, bad_line, over_limit, statement, bad_source, refused_inside, source, sourced, Files, SourceNames}
 use Rattle.kc_read.specs.PartsOfExpansion.{is_help}
 use Rattle.kc_language.specs.Statements.{Cause, LineContext, After, ReadsSource, begins_with, finish, plain_text, text_of, Located, Named, SourceLine}
 use Rattle.kc_read.specs.OpenedFiles.{sourced_files, IsNamedIn, IsNamedByOne, SourcedFilesAreNamed, HasOneListOfNames}
@@ -149,7 +149,7 @@ in_tree {l = l} {m = m} {c = c} {s = s} f n = subst (λ b. NextStatement b l m c
 held_in_tree : (files : Files) (name bytes : List ℕ) → files.flat ≡ false → sourced files name ≡ Some bytes → files.bytes name ≡ Some bytes
 held_in_tree files name bytes f h = sym (ap (λ b. cond b None (files.bytes name)) f) ∙ h
 
-pub named : {files : Files} (g : files.flat ≡ false) {a : FileContext} {l : UnreadLines} {own : List (Located Named)} {log : Log} {r : Result Log Refused} (d : Rest files a l own log r)
+pub named : {files : Files} (g : files.flat ≡ false) {a : FileContext} {l : UnreadLines} {own : List (Located Named)} {log : ReadSoFar} {r : Result ReadSoFar Refused} (d : Rest files a l own log r)
     (before after : List (List ℕ)) (name : List ℕ) → sourced_files d ≡ before ++ name ∷ after → IsNamed files l before name
 named g (at_end a l own log none closed) before after name e = no_split before after name e
 named g (unclosed a l own log line none unmatched) before after name e = no_split before after name e

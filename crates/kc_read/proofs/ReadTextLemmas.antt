@@ -13,7 +13,7 @@ use Rattle.kc_expr.specs.PartsOfExpressions.{is_tristate_constant, terminals}
 use Rattle.kc_language.specs.declared.diagnostics.Cause.TheVariants as cause
 use Rattle.kc_language.specs.declared.statements.Keyword.{Keyword}
 use Rattle.kc_language.specs.declared.statements.Keyword.TheVariants as key
-use Rattle.kc_language.specs.Expansion.{FileContext, Log, Refused, Rest, Expands, NextLine, bytes_cause, context_of, first_log, refused, with_line, without_help, at_end, unclosed, too_long, no_tokens, blank, renumbered, moved, bad_line, over_limit, statement, bad_source, refused_inside, source, Files}
+use Rattle.kc_language.specs.Expansion.{FileContext, ReadSoFar, Refused, Rest, Expands, NextLine, bytes_cause, context_of, first_log, refused_at, with_line, without_help, at_end, unclosed, too_long, no_tokens, blank, renumbered, moved, bad_line, over_limit, statement, bad_source, refused_inside, source, Files}
 use Rattle.kc_read.specs.PartsOfExpansion.{root_context, is_help}
 use Rattle.kc_language.specs.Statements.{Cause, LineContext, After, Front, IsCondition, ReadsLine, ReadsRest, ReadsWhole, ReadsCondition, ReadsTextLine, ReadsValue, ReadsPrompt, StartsExpression, begins_with, finish, is_good_name, keyword_of, operand_of, option_line, placement_cause, plain_text, named_target, text_of, word_of, Statement, InputPrompt, Named, Located, ConfigLine, IfLine, EndIfLine, CommentLine, SourceLine, MenuLine, EndMenuLine, ChoiceLine, EndChoiceLine, MainMenuLine, TypeLine, PromptLine, DefaultLine, DefLine, DependsLine, VisibleLine, SelectLine, ImplyLine, RangeLine, HelpLine, ModulesLine, IgnoredLine, names_in_condition, names_in_statement, statements}
 use Rattle.kc_read.specs.PartsOfStatements.{IsWhole, ReadsTarget, ReadsType, choice_line, expected}
@@ -239,11 +239,11 @@ with_next ls a n s i h =
     subst (All IsInLines) (sym (map-append (λ l. l.statement) ls (record { file = a.file; line = n; statement = s } ∷ []))) (All-push IsInLines (statements ls) s h i)
 
 module _ (files : Files) where
-  abbrev Outcome : Result Log Refused → Type 0
+  abbrev Outcome : Result ReadSoFar Refused → Type 0
   Outcome (Ok log) = AreInLines log.lines
   Outcome (Err r) = Unit {0}
 
-  rest_lines : {a : FileContext} {l : UnreadLines} {own : List (Located Named)} {log : Log} {r : Result Log Refused} → Rest files a l own log r → AreOneLine l.lines → AreInLines log.lines → Outcome r
+  rest_lines : {a : FileContext} {l : UnreadLines} {own : List (Located Named)} {log : ReadSoFar} {r : Result ReadSoFar Refused} → Rest files a l own log r → AreOneLine l.lines → AreInLines log.lines → Outcome r
   rest_lines (at_end a l own log e o) h k = k
   rest_lines (unclosed a l own log line e u) h k = tt
   rest_lines (too_long a l own log t) h k = tt
@@ -261,13 +261,13 @@ module _ (files : Files) where
   rest_lines (source a l m own log more name bytes r n allowed found inner rest) h k =
       rest_lines rest (next_line l m n.tokens None n.next h).1 (rest_lines inner (file_lines bytes) k)
 
-  by_bytes : (root : List ℕ) (log : Log) (o : Option Cause) →
+  by_bytes : (root : List ℕ) (log : ReadSoFar) (o : Option Cause) →
       MatchOption o ((bytes : List ℕ) × (files.bytes root ≡ Some bytes)
-      × Rest files (root_context root) (unread_lines bytes 1) [] (first_log files root bytes) (Ok log)) (λ c. Ok log ≡ Err (refused c root 0)) →
+      × Rest files (root_context root) (unread_lines bytes 1) [] (first_log files root bytes) (Ok log)) (λ c. Ok log ≡ Err (refused_at c root 0)) →
       AreInLines log.lines
   by_bytes root log None h = rest_lines h.2 (file_lines h.0) (All-nil IsInLines)
-  by_bytes root log (Some c) h = absurd (let e : ◌≡◌ {A = Result Log Refused} (Ok log) (Err (refused c root 0)) = h in cc)
+  by_bytes root log (Some c) h = absurd (let e : ◌≡◌ {A = Result ReadSoFar Refused} (Ok log) (Err (refused_at c root 0)) = h in cc)
 
   -- each statement of an expanded list is what a line says
-  pub expanded_lines : (root : List ℕ) (log : Log) → Expands files root (Ok log) → All IsInLines (statements log.lines)
+  pub expanded_lines : (root : List ℕ) (log : ReadSoFar) → Expands files root (Ok log) → All IsInLines (statements log.lines)
   expanded_lines root log h = by_bytes root log (bytes_cause root 0 (files.bytes root)) h

@@ -2,7 +2,7 @@
 use Rattle.std.proofs.Common.{◌≡◌, ℕ, List, [], ◌∷◌, ◌++◌, Option, Some, None, Result, Ok, Err, refl, sym, ap, subst, ◌∙◌, append_assoc, append-nil}
 use Rattle.std.specs.Prelude.{MatchOption, false}
 use Rattle.kc_language.specs.Lines.{UnreadLines, unread_lines}
-use Rattle.kc_language.specs.Expansion.{FileContext, Log, Refused, Rest, IsBlankNext, MarksNext, NextStatement, context_of, bytes_cause, refused, first_log, sourced, at_end, unclosed, too_long, no_tokens, blank, renumbered, moved, bad_line, over_limit, statement, bad_source, refused_inside, source, Files}
+use Rattle.kc_language.specs.Expansion.{FileContext, ReadSoFar, Refused, Rest, IsBlankNext, MarksNext, NextStatement, context_of, bytes_cause, refused_at, first_log, sourced, at_end, unclosed, too_long, no_tokens, blank, renumbered, moved, bad_line, over_limit, statement, bad_source, refused_inside, source, Files}
 use Rattle.kc_read.specs.PartsOfExpansion.{is_source, root_context}
 use Rattle.kc_language.specs.Statements.{Cause, LineContext, Located, Named, SourceLine}
 use Rattle.kc_language.specs.Expressions.{same_name}
@@ -17,22 +17,22 @@ record Adds (files : Files) (file : List ℕ) (l : UnreadLines) (before after : 
   pub replaces : Replaces files own list
   pub lines : after ≡ before ++ list
 
-abbrev Made : Files → List ℕ → UnreadLines → List (Located Named) → Result Log Refused → Type 0
+abbrev Made : Files → List ℕ → UnreadLines → List (Located Named) → Result ReadSoFar Refused → Type 0
 Made files file l before (Ok log) = Adds files file l before log.lines
 Made files file l before (Err e) = Unit {0}
 
-blank_made : (files : Files) (file : List ℕ) (l m : UnreadLines) (before : List (Located Named)) (o : Result Log Refused) → IsBlankNext files.flat l m →
+blank_made : (files : Files) (file : List ℕ) (l m : UnreadLines) (before : List (Located Named)) (o : Result ReadSoFar Refused) → IsBlankNext files.flat l m →
     Made files file m before o → Made files file l before o
 blank_made files file l m before (Ok log) next h = record { own = h.own; list = h.list; owns = r.no_tokens file l m h.own next h.owns; replaces = h.replaces; lines = h.lines }
 blank_made files file l m before (Err e) next h = tt
 
 -- behind a marker
-same_file_made : (files : Files) (file : List ℕ) (l m : UnreadLines) (n : ℕ) (before : List (Located Named)) (o : Result Log Refused) → MarksNext files.flat l m n file →
+same_file_made : (files : Files) (file : List ℕ) (l m : UnreadLines) (n : ℕ) (before : List (Located Named)) (o : Result ReadSoFar Refused) → MarksNext files.flat l m n file →
     Made files file (record m { number = n }) before o → Made files file l before o
 same_file_made files file l m n before (Ok log) marks h = record { own = h.own; list = h.list; owns = r.same_file file l m n h.own marks h.owns; replaces = h.replaces; lines = h.lines }
 same_file_made files file l m n before (Err e) marks h = tt
 
-other_file_made : (files : Files) (file : List ℕ) (l m : UnreadLines) (n : ℕ) (name : List ℕ) (before : List (Located Named)) (o : Result Log Refused) →
+other_file_made : (files : Files) (file : List ℕ) (l m : UnreadLines) (n : ℕ) (name : List ℕ) (before : List (Located Named)) (o : Result ReadSoFar Refused) →
     MarksNext files.flat l m n name → same_name name file ≡ false → Made files name (record m { number = n }) before o → Made files file l before o
 other_file_made files file l m n name before (Ok log) marks differs h = record {
   own = h.own;
@@ -43,7 +43,7 @@ other_file_made files file l m n name before (Ok log) marks differs h = record {
 }
 other_file_made files file l m n name before (Err e) marks differs h = tt
 
-statement_made : (files : Files) (file : List ℕ) (l m : UnreadLines) (c : LineContext) (before : List (Located Named)) (s : Named) (o : Result Log Refused) →
+statement_made : (files : Files) (file : List ℕ) (l m : UnreadLines) (c : LineContext) (before : List (Located Named)) (s : Named) (o : Result ReadSoFar Refused) →
     NextStatement files.flat l m c (Ok s) → is_source s ≡ false → Made files file m (before ++ located file l.number s ∷ []) o → Made files file l before o
 statement_made files file l m c before s (Ok log) n plain h = record {
   own = located file l.number s ∷ h.own;
@@ -54,8 +54,8 @@ statement_made files file l m c before s (Ok log) n plain h = record {
 }
 statement_made files file l m c before s (Err e) n plain h = tt
 
-source_made : (files : Files) (file : List ℕ) (l m : UnreadLines) (c : LineContext) (before : List (Located Named)) (more : Log) (name bytes : List ℕ)
-    (o : Result Log Refused) → NextStatement files.flat l m c (Ok (SourceLine name)) → sourced files name ≡ Some bytes → Adds files name (unread_lines bytes 1) before more.lines →
+source_made : (files : Files) (file : List ℕ) (l m : UnreadLines) (c : LineContext) (before : List (Located Named)) (more : ReadSoFar) (name bytes : List ℕ)
+    (o : Result ReadSoFar Refused) → NextStatement files.flat l m c (Ok (SourceLine name)) → sourced files name ≡ Some bytes → Adds files name (unread_lines bytes 1) before more.lines →
     Made files file m more.lines o → Made files file l before o
 source_made files file l m c before more name bytes (Ok log) n there i h = record {
   own = located file l.number (SourceLine name) ∷ h.own;
@@ -66,7 +66,7 @@ source_made files file l m c before more name bytes (Ok log) n there i h = recor
 }
 source_made files file l m c before more name bytes (Err e) n there i h = tt
 
-made : {files : Files} {a : FileContext} {l : UnreadLines} {own : List (Located Named)} {log : Log} {o : Result Log Refused} → Rest files a l own log o → Made files a.file l log.lines o
+made : {files : Files} {a : FileContext} {l : UnreadLines} {own : List (Located Named)} {log : ReadSoFar} {o : Result ReadSoFar Refused} → Rest files a l own log o → Made files a.file l log.lines o
 made (at_end a l own log none closed) = record { own = []; list = []; owns = r.no_line a.file l none; replaces = r.nothing; lines = sym (append-nil log.lines) }
 made (unclosed a l own log line none unmatched) = tt
 made (too_long a l own log long) = tt
@@ -85,9 +85,9 @@ pub expanded_is_list_of : ExpandedIsListOf
 expanded_is_list_of files root log h = by (bytes_cause root 0 (files.bytes root)) h
   where
     by : (o : Option Cause) → MatchOption o ((bytes : List ℕ) × (files.bytes root ≡ Some bytes)
-        × Rest files (root_context root) (unread_lines bytes 1) [] (first_log files root bytes) (Ok log)) (λ c. Ok log ≡ Err (refused c root 0)) →
+        × Rest files (root_context root) (unread_lines bytes 1) [] (first_log files root bytes) (Ok log)) (λ c. Ok log ≡ Err (refused_at c root 0)) →
         IsListOf files root log.lines
     by None x =
         let m : Adds files root (unread_lines x.0 1) [] log.lines = made x.2 in
         record { bytes = x.0; there = x.1; own = m.own; owns = m.owns; replaces = subst (λ ls. Replaces files m.own ls) (sym m.lines) m.replaces }
-    by (Some c) e = absurd (let f : Ok log ≡ Err (refused c root 0) = e in cc)
+    by (Some c) e = absurd (let f : Ok log ≡ Err (refused_at c root 0) = e in cc)

@@ -16,7 +16,7 @@ use Rattle.kc_language.specs.declared.statements.EntryKind.TheVariants as entry
 use Rattle.kc_read.specs.declared.statement.Attribute.{Attribute}
 use Rattle.kc_read.specs.declared.statement.Statement.{Statement}
 use Rattle.kc_read.specs.declared.statement.Statement.TheVariants as made
-use Rattle.kc_language.specs.Expansion.{is_attribute, last_of, FileContext, Log, Rest, refused, context_of, inside, with_file, sourcing_cause, with_line, without_help, IsBlankNext, MarksNext, NextLine, NextStatement, sourced, at_end, unclosed, too_long, no_tokens, blank, renumbered, moved, bad_line, over_limit, statement, bad_source, refused_inside, source, Files}
+use Rattle.kc_language.specs.Expansion.{is_attribute, last_of, FileContext, ReadSoFar, Rest, refused_at, context_of, inside, with_file, sourcing_cause, with_line, without_help, IsBlankNext, MarksNext, NextLine, NextStatement, sourced, at_end, unclosed, too_long, no_tokens, blank, renumbered, moved, bad_line, over_limit, statement, bad_source, refused_inside, source, Files}
 use Rattle.kc_read.specs.PartsOfExpansion.{is_help, is_source, logged}
 use Rattle.kc_read.specs.PartsOfExpansion.{source_cause}
 use Rattle.kc_read.specs.Entries.{IsLastFile}
@@ -54,20 +54,20 @@ next_clear l m ts out n = by (is_help ts) n.left_after
     by false e = ap (λ x. x.refusal) e ∙ n.taken.5
 
 -- a refusal of the next line is one of the rest
-fault_of_rest : (files : Files) (a : FileContext) (l : UnreadLines) (own : List (Located Named)) (log : Log) (c : LineContext) (why : Cause) →
-    c ≡ context_of a own log → StepFault files.flat c l why → Rest files a l own log (Err (refused why a.file l.number))
+fault_of_rest : (files : Files) (a : FileContext) (l : UnreadLines) (own : List (Located Named)) (log : ReadSoFar) (c : LineContext) (why : Cause) →
+    c ≡ context_of a own log → StepFault files.flat c l why → Rest files a l own log (Err (refused_at why a.file l.number))
 fault_of_rest files a l own log c why e (step.too_long t) = too_long a l own log t
 fault_of_rest files a l own log c why e (step.no_tokens new ts w n) = no_tokens a l new own log ts w n
 fault_of_rest files a l own log c why e (step.refused_line new w n) = bad_line a l new own log w (subst (λ k. NextStatement files.flat l new k (Err w)) e n)
 
 -- a refusal that is made for a cause and a line
-pub refusal_at : (files : Files) (a : FileContext) (l : UnreadLines) (own : List (Located Named)) (log : Log) (r : Refusal) (why : Cause) (file : List ℕ)
-    (line : ℕ) → refusal_view r ≡ refused why file line → file ≡ a.file → line ≡ l.number → Rest files a l own log (Err (refused why a.file l.number)) →
+pub refusal_at : (files : Files) (a : FileContext) (l : UnreadLines) (own : List (Located Named)) (log : ReadSoFar) (r : Refusal) (why : Cause) (file : List ℕ)
+    (line : ℕ) → refusal_view r ≡ refused_at why file line → file ≡ a.file → line ≡ l.number → Rest files a l own log (Err (refused_at why a.file l.number)) →
     Rest files a l own log (Err (refusal_view r))
 refusal_at files a l own log r why file line v e n rest =
-    subst (λ x. Rest files a l own log (Err x)) (sym (v ∙ ap (λ f. refused why f line) e ∙ ap (λ k. refused why a.file k) n)) rest
+    subst (λ x. Rest files a l own log (Err x)) (sym (v ∙ ap (λ f. refused_at why f line) e ∙ ap (λ k. refused_at why a.file k) n)) rest
 
-pub step_refused : (files : Files) (a : FileContext) (l : UnreadLines) (own : List (Located Named)) (log : Log) (c : LineContext) (file : List ℕ) (r : Refusal)
+pub step_refused : (files : Files) (a : FileContext) (l : UnreadLines) (own : List (Located Named)) (log : ReadSoFar) (c : LineContext) (file : List ℕ) (r : Refusal)
     → c ≡ context_of a own log → file ≡ a.file → IsStepRefusal files.flat file c l r → IsRestRefusal files a l own log r
 step_refused files a l own log c file r e f h ne =
     let w = h ne in
@@ -75,7 +75,7 @@ step_refused files a l own log c file r e f h ne =
 
 -- the end of a file
 pub ended : (files : Files) (first : List (List ℕ)) (names : List (List ℕ)) (a : FileContext) (l : UnreadLines)
-    (own : List (Located Named)) (log : Log) (p : Progress) (f : Frame) → IsState first names a own log p f → l.lines ≡ [] → f.blocks.items ≡ [] →
+    (own : List (Located Named)) (log : ReadSoFar) (p : Progress) (f : Frame) → IsState first names a own log p f → l.lines ≡ [] → f.blocks.items ≡ [] →
     IsEnded files first names a l own log p
 ended files first names a l own log p f i e none = record {
   rest = at_end a l own log e (sym (blocks.blocks_of_located own) ∙ ap (map (λ o. o.block)) (sym i.frame.blocks ∙ ap (map opener_of) none));
@@ -83,16 +83,16 @@ ended files first names a l own log p f i e none = record {
 }
 
 pub end_refused : (files : Files) (first : List (List ℕ)) (names : List (List ℕ)) (a : FileContext) (l : UnreadLines)
-    (own : List (Located Named)) (log : Log) (p : Progress) (f : Frame) (r : Refusal) → IsState first names a own log p f → l.lines ≡ [] →
+    (own : List (Located Named)) (log : ReadSoFar) (p : Progress) (f : Frame) (r : Refusal) → IsState first names a own log p f → l.lines ≡ [] →
     IsOpenAtEnd f (refusal_view r) → Rest files a l own log (Err (refusal_view r))
 end_refused files first names a l own log p f r i e o =
     let found : last_of (openers f) ≡ Some (opener_of o.0) = last_of-map opener_of f.blocks.items ∙ ap (option_map opener_of) o.1 in
     let (opener, is_open, file, line) = blocks.unclosed own (opener_of o.0) (ap last_of (sym i.frame.blocks) ∙ found) in
-    subst (λ x. Rest files a l own log (Err x)) (sym (o.2 ∙ (λ j. refused cause.Block (file j) (line j)))) (unclosed a l own log opener e is_open)
+    subst (λ x. Rest files a l own log (Err x)) (sym (o.2 ∙ (λ j. refused_at cause.Block (file j) (line j)))) (unclosed a l own log opener e is_open)
 
 -- a line without tokens
 pub blank_goes : (files : Files) (first : List (List ℕ)) (names : List (List ℕ)) (a : FileContext) (l m : UnreadLines)
-    (own : List (Located Named)) (log : Log) (p : Progress) (f : Frame) → IsState first names a own log p f → IsBlankNext files.flat l m →
+    (own : List (Located Named)) (log : ReadSoFar) (p : Progress) (f : Frame) → IsState first names a own log p f → IsBlankNext files.flat l m →
     HasAdvanced files first names a l m own log p f
 blank_goes files first names a l m own log p f i n = record {
   context_now = a;
@@ -104,7 +104,7 @@ blank_goes files first names a l m own log p f i n = record {
 
 -- a marker
 pub renumbered_goes : (files : Files) (first : List (List ℕ)) (names : List (List ℕ)) (a : FileContext) (l m : UnreadLines)
-    (own : List (Located Named)) (log : Log) (p : Progress) (f : Frame) (n : ℕ) (file : List ℕ) → IsState first names a own log p f → file ≡ a.file →
+    (own : List (Located Named)) (log : ReadSoFar) (p : Progress) (f : Frame) (n : ℕ) (file : List ℕ) → IsState first names a own log p f → file ≡ a.file →
     MarksNext files.flat l m n file → HasAdvanced files first names a l (record m { number = n }) own log p f
 renumbered_goes files first names a l m own log p f n file i e marks = record {
   context_now = a;
@@ -115,7 +115,7 @@ renumbered_goes files first names a l m own log p f n file i e marks = record {
 }
 
 pub moved_goes : (files : Files) (first : List (List ℕ)) (names : List (List ℕ)) (a : FileContext) (l m : UnreadLines)
-    (own : List (Located Named)) (log : Log) (p q : Progress) (f g : Frame) (n : ℕ) (name file : List ℕ) → IsState first names a own log p f → file ≡ a.file →
+    (own : List (Located Named)) (log : ReadSoFar) (p q : Progress) (f g : Frame) (n : ℕ) (name file : List ℕ) → IsState first names a own log p f → file ≡ a.file →
     MarksNext files.flat l m n name → same_name name file ≡ false → IsMovedFrame name f g → IsMarkedOpened name p q →
     HasAdvanced files first names a l (record m { number = n }) own log q g
 moved_goes files first names a l m own log p q f g n name file i e marks differs moves opens = record {
@@ -128,7 +128,7 @@ moved_goes files first names a l m own log p q f g n name file i e marks differs
 
 -- an attribute belongs to the last entry
 pub last_is : (files : Files) (first : List (List ℕ)) (known names : List (List ℕ)) (a : FileContext) (l m : UnreadLines)
-    (own : List (Located Named)) (log : Log) (f : Frame) (p : Progress) (b : Attribute) (x : Named) → IsState first known a own log p f →
+    (own : List (Located Named)) (log : ReadSoFar) (f : Frame) (p : Progress) (b : Attribute) (x : Named) → IsState first known a own log p f →
     IsMade known names (made.Attribute b) x → NextStatement files.flat l m (context_of a own log) (Ok x) → IsLastFile p.entries f.file.value.items
 last_is files first known names a l m own log f p b x i is next =
     let here : is_attribute x ≡ true = sym (ap (λ z. z.1) (made_shape known names (made.Attribute b) x is)) ∙ attribute_is b in
@@ -136,7 +136,7 @@ last_is files first known names a l m own log f p b x i is next =
 
 -- a statement that is no `source` line
 pub statement_goes : (files : Files) (first : List (List ℕ)) (known names : List (List ℕ)) (a : FileContext) (l m : UnreadLines)
-    (own : List (Located Named)) (log : Log) (f g : Frame) (p q : Progress) (s : Statement) (x : Named) (line : ℕ) → IsState first known a own log p f →
+    (own : List (Located Named)) (log : ReadSoFar) (f g : Frame) (p q : Progress) (s : Statement) (x : Named) (line : ℕ) → IsState first known a own log p f →
     IsMade known names s x → NextStatement files.flat l m (context_of a own log) (Ok x) → line ≡ l.number → is_source (statement_view s) ≡ false →
     IsTaken (statement_view s) line f g p q → limit_view (statement_view s) f p ≡ None → HasAdvanced files first names a l m own log q g
 statement_goes files first known names a l m own log f g p q s x line i is next e src t allowed = record {
@@ -151,9 +151,9 @@ statement_goes files first known names a l m own log f g p q s x line i is next 
 }
 
 pub effect_refused : (files : Files) (first : List (List ℕ)) (known names : List (List ℕ)) (a : FileContext) (l m : UnreadLines)
-    (own : List (Located Named)) (log : Log) (f : Frame) (p : Progress) (s : Statement) (x : Named) (line : ℕ) (file : List ℕ) (why : Cause) (r : Refusal) →
+    (own : List (Located Named)) (log : ReadSoFar) (f : Frame) (p : Progress) (s : Statement) (x : Named) (line : ℕ) (file : List ℕ) (why : Cause) (r : Refusal) →
     IsState first known a own log p f → IsMade known names s x → NextStatement files.flat l m (context_of a own log) (Ok x) → line ≡ l.number →
-    file ≡ f.file.value.items → limit_view (statement_view s) f p ≡ Some why → refusal_view r ≡ refused why file line →
+    file ≡ f.file.value.items → limit_view (statement_view s) f p ≡ Some why → refusal_view r ≡ refused_at why file line →
     Rest files a l own log (Err (refusal_view r))
 effect_refused files first known names a l m own log f p s x line file why r i is next e g effect v =
     refusal_at files a l own log r why file line v (g ∙ i.frame.file) e
@@ -161,27 +161,27 @@ effect_refused files first known names a l m own log f p s x line file why r i i
 
 -- a `source` line
 pub source_refused : (files : Files) (first : List (List ℕ)) (names : List (List ℕ)) (a : FileContext) (l m : UnreadLines)
-    (own : List (Located Named)) (log : Log) (f : Frame) (p : Progress) (name : List ℕ) (line : ℕ) (file : List ℕ) (why : Cause) (r : Refusal) →
+    (own : List (Located Named)) (log : ReadSoFar) (f : Frame) (p : Progress) (name : List ℕ) (line : ℕ) (file : List ℕ) (why : Cause) (r : Refusal) →
     IsState first names a own log p f → NextStatement files.flat l m (context_of a own log) (Ok (SourceLine name)) → line ≡ l.number → file ≡ f.file.value.items →
-    sourcing_cause files (open_names p) p.total_lines name ≡ Some why → refusal_view r ≡ refused why file line → Rest files a l own log (Err (refusal_view r))
+    sourcing_cause files (open_names p) p.total_lines name ≡ Some why → refusal_view r ≡ refused_at why file line → Rest files a l own log (Err (refusal_view r))
 source_refused files first names a l m own log f p name line file why r i next e g bad v =
     refusal_at files a l own log r why file line v (g ∙ i.frame.file) e
     (bad_source a l m own log name why next ((λ j. sourcing_cause files (sym i.files j) (sym i.progress.total_lines j) name) ∙ bad))
 
 source_allowed : (files : Files) (first : List (List ℕ)) (names : List (List ℕ)) (a : FileContext) (own : List (Located Named))
-    (log : Log) (f : Frame) (p : Progress) (name : List ℕ) → IsState first names a own log p f →
+    (log : ReadSoFar) (f : Frame) (p : Progress) (name : List ℕ) → IsState first names a own log p f →
     sourcing_cause files (open_names p) p.total_lines name ≡ None → source_cause files a log.total_lines name ≡ None
 source_allowed files first names a own log f p name i allowed = (λ j. sourcing_cause files (sym i.files j) (sym i.progress.total_lines j) name) ∙ allowed
 
 pub inside_refused : (files : Files) (first : List (List ℕ)) (names : List (List ℕ)) (a : FileContext) (l m : UnreadLines)
-    (own : List (Located Named)) (log : Log) (f : Frame) (p : Progress) (name bytes : List ℕ) (r : Refusal) → IsState first names a own log p f →
+    (own : List (Located Named)) (log : ReadSoFar) (f : Frame) (p : Progress) (name bytes : List ℕ) (r : Refusal) → IsState first names a own log p f →
     NextStatement files.flat l m (context_of a own log) (Ok (SourceLine name)) → sourcing_cause files (open_names p) p.total_lines name ≡ None → sourced files name ≡ Some bytes →
     IsRestRefusal files (inside a own name) (unread_lines bytes 1) [] (with_file log name bytes) r → IsRestRefusal files a l own log r
 inside_refused files first names a l m own log f p name bytes r i next allowed found inner ne =
     refused_inside a l m own log name bytes (refusal_view r) next (source_allowed files first names a own log f p name i allowed) found (inner ne)
 
 pub source_goes : (files : Files) (first : List (List ℕ)) (known names : List (List ℕ)) (a : FileContext) (l m : UnreadLines)
-    (own : List (Located Named)) (log : Log) (f g : Frame) (p q done : Progress) (name bytes : List ℕ) (line : ℕ) → IsState first known a own log p f →
+    (own : List (Located Named)) (log : ReadSoFar) (f g : Frame) (p q done : Progress) (name bytes : List ℕ) (line : ℕ) → IsState first known a own log p f →
     NextStatement files.flat l m (context_of a own log) (Ok (SourceLine name)) → line ≡ l.number → sourcing_cause files (open_names p) p.total_lines name ≡ None →
     sourced files name ≡ Some bytes → IsFileRead files first names (inside a own name) (unread_lines bytes 1) (with_file log name bytes) q →
     g ≡ record f { entry = entry.Nothing } → open_names done ≡ open_names p → done ≡ record q { open_files = done.open_files } →
@@ -213,7 +213,7 @@ source_goes files first known names a l m own log f g p q done name bytes line i
 }
 
 -- one line after another
-pub goes_on : (files : Files) (first : List (List ℕ)) (mid names : List (List ℕ)) (a : FileContext) (k l m : UnreadLines) (log : Log)
+pub goes_on : (files : Files) (first : List (List ℕ)) (mid names : List (List ℕ)) (a : FileContext) (k l m : UnreadLines) (log : ReadSoFar)
     (p q : Progress) (f g : Frame) (h : HasAdvanced files first mid a k l [] log p f) →
     HasAdvanced files first names h.context_now l m h.own_now h.log_now q g → HasAdvanced files first names a k m [] log q g
 goes_on files first mid names a k l m log p q f g h n = record {
@@ -224,7 +224,7 @@ goes_on files first mid names a k l m log p q f g h n = record {
   follows = λ r rest. h.follows r (n.follows r rest);
 }
 
-pub file_read : (files : Files) (first : List (List ℕ)) (mid names : List (List ℕ)) (a : FileContext) (k l : UnreadLines) (log : Log)
+pub file_read : (files : Files) (first : List (List ℕ)) (mid names : List (List ℕ)) (a : FileContext) (k l : UnreadLines) (log : ReadSoFar)
     (p q : Progress) (f : Frame) (h : HasAdvanced files first mid a k l [] log p f) → IsEnded files first names h.context_now l h.own_now h.log_now q →
     IsFileRead files first names a k log q
 file_read files first mid names a k l log p q f h n = record {
@@ -233,29 +233,29 @@ file_read files first mid names a k l log p q f h n = record {
   progress = n.progress;
 }
 
-pub file_refused : (files : Files) (first : List (List ℕ)) (mid : List (List ℕ)) (a : FileContext) (k l : UnreadLines) (log : Log)
+pub file_refused : (files : Files) (first : List (List ℕ)) (mid : List (List ℕ)) (a : FileContext) (k l : UnreadLines) (log : ReadSoFar)
     (p : Progress) (f : Frame) (r : Refusal) (h : HasAdvanced files first mid a k l [] log p f) → IsRestRefusal files h.context_now l h.own_now h.log_now r →
     IsRestRefusal files a k [] log r
 file_refused files first mid a k l log p f r h n ne = h.follows (Err (refusal_view r)) (n ne)
 
 -- a refusal that is passed on
-pub reading_passed : (files : Files) (first : List (List ℕ)) (names : List (List ℕ)) (a : FileContext) (l : UnreadLines) (log : Log)
+pub reading_passed : (files : Files) (first : List (List ℕ)) (names : List (List ℕ)) (a : FileContext) (l : UnreadLines) (log : ReadSoFar)
     (p : Progress) (r : Result ⊤ Refusal) (e : Refusal) → IsErrAnd r (λ y. y ≡ e) → IsRestRefusal files a l [] log e →
     IsReading files first names a l log p r
 reading_passed files first names a l log p r e is h = let q = err_from_is_err_and r is in rw (q.1, q.2) h
 
 pub next_passed : (files : Files) (first : List (List ℕ)) (names : List (List ℕ)) (a : FileContext) (l m : UnreadLines)
-    (own : List (Located Named)) (log : Log) (p : Progress) (f : Frame) (r : Result Bool Refusal) (e : Refusal) → IsErrAnd r (λ y. y ≡ e) →
+    (own : List (Located Named)) (log : ReadSoFar) (p : Progress) (f : Frame) (r : Result Bool Refusal) (e : Refusal) → IsErrAnd r (λ y. y ≡ e) →
     IsRestRefusal files a l own log e → IsNextRead files first names a l m own log p f r
 next_passed files first names a l m own log p f r e is h = let q = err_from_is_err_and r is in rw (q.1, q.2) h
 
 pub statement_passed : (files : Files) (first : List (List ℕ)) (names : List (List ℕ)) (a : FileContext) (l m : UnreadLines)
-    (own : List (Located Named)) (log : Log) (p : Progress) (f : Frame) (r : Result ⊤ Refusal) (e : Refusal) → IsErrAnd r (λ y. y ≡ e) →
+    (own : List (Located Named)) (log : ReadSoFar) (p : Progress) (f : Frame) (r : Result ⊤ Refusal) (e : Refusal) → IsErrAnd r (λ y. y ≡ e) →
     IsRestRefusal files a l own log e → IsStatementRead files first names a l m own log p f r
 statement_passed files first names a l m own log p f r e is h = let q = err_from_is_err_and r is in rw (q.1, q.2) h
 
 -- a cause that is not being out of memory
-pub no_memory : (r : Refusal) (f : LineFault) (file : List ℕ) (line : ℕ) → r.cause ≢ cause.Memory → (r.cause ≢ cause.Memory → refusal_view r ≡ refused (cause_of f) file line) → f ≢ cause.Memory
+pub no_memory : (r : Refusal) (f : LineFault) (file : List ℕ) (line : ℕ) → r.cause ≢ cause.Memory → (r.cause ≢ cause.Memory → refusal_view r ≡ refused_at (cause_of f) file line) → f ≢ cause.Memory
 no_memory r f file line ne view e = ne (no_other_memory (λ name. name.items) r.cause (ap (λ v. v.cause) (view ne) ∙ ap cause_of e))
 
 -- what was put at the end is taken away again

@@ -11,7 +11,7 @@ use Rattle.kc_language.specs.declared.diagnostics.Cause.TheVariants as cause
 use Rattle.kc_language.specs.Symbols.{TreeFacts, Condition, Guarded, SymbolFacts, SymbolShown, MenuShown, EndShown, CommentShown, symbol_facts, facts_with}
 use Rattle.kc_read.specs.PartsOfSymbols.{choices, entries, warnings, whole_list_refusals}
 use Rattle.kc_read.specs.PartsOfSymbols.{tree_of_lines}
-use Rattle.kc_language.specs.Expansion.{Refused, refused, names_of, numbered_lines}
+use Rattle.kc_language.specs.Expansion.{Refused, refused_at, mentioned_names, numbered_lines}
 
 -- Short words for the rows.
 abbrev whole : Negation → Disjunction
@@ -47,7 +47,7 @@ cond ps m = record { conjuncts = ps; mode = m }
 
 -- what lines say, where nothing is to be refused
 abbrev facts_of_lines : List Named → List (Located Numbered) → TreeFacts
-facts_of_lines ss ls = facts_with (names_of ss) ls
+facts_of_lines ss ls = facts_with (mentioned_names ss) ls
 
 -- A choice with a default, and its members.
 abbrev choice_default : List Named
@@ -198,7 +198,7 @@ lines_without_effect = ConfigLine (codes "A") ∷ bool_line (codes "a") ∷ Type
     ∷ ConfigLine (codes "D") ∷ TypeLine symbol_type.Int (Some (asked (codes "d") None)) ∷ ChoiceLine ∷ PromptLine (asked (codes "ch") None) ∷
     DefaultLine (word (codes "C")) None ∷ ConfigLine (codes "E") ∷ bool_line (codes "e") ∷ EndChoiceLine ∷ []
 
-lines_without_effect_warnings : warnings (names_of lines_without_effect) (numbered_lines (in_root lines_without_effect)) ≡
+lines_without_effect_warnings : warnings (mentioned_names lines_without_effect) (numbered_lines (in_root lines_without_effect)) ≡
     codes "Kconfig:3: warning K1: type of A redefined, the first is kept"
     ∷ codes "Kconfig:3: warning K2: prompt of A redefined, the last is kept"
     ∷ codes "Kconfig:4: warning K3: B has no type"
@@ -210,7 +210,7 @@ lines_without_effect_warnings : warnings (names_of lines_without_effect) (number
 unfolding digits
 lines_without_effect_warnings = refl
 
-lines_without_effect_not_refused : whole_list_refusals (names_of lines_without_effect) (numbered_lines (in_root lines_without_effect)) ≡ []
+lines_without_effect_not_refused : whole_list_refusals (mentioned_names lines_without_effect) (numbered_lines (in_root lines_without_effect)) ≡ []
 lines_without_effect_not_refused = refl
 
 lines_without_effect_facts : (facts_of_lines lines_without_effect (numbered_lines (in_root lines_without_effect))).symbols ≡
@@ -281,28 +281,28 @@ abbrev facts_at : List Named → ℕ → SymbolFacts
 facts_at ss i = symbol_facts (numbered_of ss) (symbol i)
 
 abbrev refusals : List Named → List Refused
-refusals ss = whole_list_refusals (names_of ss) (numbered_lines (in_root ss))
+refusals ss = whole_list_refusals (mentioned_names ss) (numbered_lines (in_root ss))
 
 abbrev warnings_of : List Named → List (List ℕ)
-warnings_of ss = warnings (names_of ss) (numbered_lines (in_root ss))
+warnings_of ss = warnings (mentioned_names ss) (numbered_lines (in_root ss))
 
 choice_prompt_condition_choices : choices (numbered_of choice_prompt_condition) ≡ record { prompt = Some (cond (sym 0 ∷ []) None); defaults = []; members = symbol 1 ∷ [] } ∷ []
 choice_prompt_condition_choices = refl
 
 tristate_member_refused : tree_of_lines (in_root (ChoiceLine ∷ PromptLine (asked (codes "c") None) ∷ ConfigLine (codes "A") ∷
     TypeLine symbol_type.Tristate (Some (asked (codes "a") None)) ∷ EndChoiceLine ∷ [])) ≡ Err
-    (refused (cause.ChoiceMember (codes "A")) (codes "Kconfig") 3)
+    (refused_at (cause.ChoiceMember (codes "A")) (codes "Kconfig") 3)
 tristate_member_refused = refl
 
 string_default_refused : tree_of_lines (in_root (ConfigLine (codes "S") ∷ TypeLine symbol_type.Str (Some (asked (codes "s") None)) ∷
-    DefaultLine (both (codes "A") (codes "B")) None ∷ [])) ≡ Err (refused (cause.BadDefault (codes "S")) (codes "Kconfig") 3)
+    DefaultLine (both (codes "A") (codes "B")) None ∷ [])) ≡ Err (refused_at (cause.BadDefault (codes "S")) (codes "Kconfig") 3)
 string_default_refused = refl
 
 -- a range, and a default that is no symbol
 abbrev ranged_int : List Named
 ranged_int = ConfigLine (codes "I") ∷ TypeLine symbol_type.Int (Some (asked (codes "i") None)) ∷ RangeLine (WordAtom (codes "-5")) (WordAtom (codes "-2")) None ∷ DefaultLine (word (codes "FOO")) None ∷ []
 
-ranged_int_names : names_of ranged_int ≡ codes "I" ∷ codes "-5" ∷ codes "-2" ∷ codes "FOO" ∷ []
+ranged_int_names : mentioned_names ranged_int ≡ codes "I" ∷ codes "-5" ∷ codes "-2" ∷ codes "FOO" ∷ []
 ranged_int_names = refl
 
 ranged_int_facts : facts_at ranged_int 0 ≡ record {
@@ -358,7 +358,7 @@ selected_symbol_facts = refl
 abbrev lone_m : List Named
 lone_m = ConfigLine (codes "A") ∷ bool_line (codes "a") ∷ DependsLine (word (codes "m")) ∷ []
 
-lone_m_names : names_of lone_m ≡ codes "A" ∷ []
+lone_m_names : mentioned_names lone_m ≡ codes "A" ∷ []
 lone_m_names = refl
 
 lone_m_facts : facts_at lone_m 0 ≡ fact symbol_type.Bool None (cond (LoneM ∷ []) None ∷ []) (cond (LoneM ∷ []) None ∷ []) [] []
@@ -384,7 +384,7 @@ menus = MenuLine (codes "o") ∷ VisibleLine (word (codes "A")) ∷ VisibleLine 
     TypeLine symbol_type.Bool (Some (asked (codes "x") (Some (word (codes "G"))))) ∷ DefaultLine (word (codes "y")) (Some (word (codes "H"))) ∷ EndIfLine ∷ EndMenuLine
     ∷ EndMenuLine ∷ []
 
-menus_names : names_of menus ≡ codes "A" ∷ codes "B" ∷ codes "C" ∷ codes "D" ∷ codes "E" ∷ codes "F" ∷ codes "X" ∷ codes "G" ∷ codes "H" ∷ []
+menus_names : mentioned_names menus ≡ codes "A" ∷ codes "B" ∷ codes "C" ∷ codes "D" ∷ codes "E" ∷ codes "F" ∷ codes "X" ∷ codes "G" ∷ codes "H" ∷ []
 menus_names = refl
 
 menus_entries : entries (numbered_of menus) ≡ MenuShown (codes "o") (cond (sym 2 ∷ sym 0 ∷ sym 1 ∷ []) None) ∷
@@ -460,7 +460,7 @@ refused_twice = ConfigLine (codes "S") ∷ TypeLine symbol_type.Str None ∷ Def
     DefaultLine (word (codes "n")) None ∷ ConfigLine (codes "A") ∷ bool_line (codes "a") ∷ EndChoiceLine ∷ ConfigLine (codes "A") ∷ []
 
 abbrev at_line : (List ℕ → Cause) → List ℕ → ℕ → Refused
-at_line c d n = refused (c d) (codes "Kconfig") n
+at_line c d n = refused_at (c d) (codes "Kconfig") n
 
 refused_twice_all : refusals refused_twice ≡ at_line cause.ChoiceMember (codes "A") 10 ∷ at_line cause.BadDefault (codes "S") 3 ∷ at_line cause.BadDefault (codes "choice") 6 ∷ []
 refused_twice_all = refl
@@ -516,7 +516,7 @@ abbrev two_files : List (Located Named)
 two_files = at (codes "Kconfig") 1 (ConfigLine (codes "A")) ∷ at (codes "Kconfig") 2 (bool_line (codes "a")) ∷ at (codes "b") 344 (ConfigLine (codes "A")) ∷
     at (codes "b") 345 (TypeLine symbol_type.Str None) ∷ []
 
-two_files_warnings : warnings (names_of (statements two_files)) (numbered_lines two_files) ≡ codes "b:345: warning K1: type of A redefined, the first is kept" ∷ []
+two_files_warnings : warnings (mentioned_names (statements two_files)) (numbered_lines two_files) ≡ codes "b:345: warning K1: type of A redefined, the first is kept" ∷ []
 unfolding digits
 two_files_warnings = refl
 
@@ -551,7 +551,7 @@ relations = ConfigLine (codes "I") ∷ TypeLine symbol_type.Int None ∷ Default
     DefLine symbol_type.Bool (whole (compare op.Gt (WordAtom (codes "I")) (WordAtom (codes "9")))) None ∷ ConfigLine (codes "B") ∷
     DefLine symbol_type.Bool (whole (compare op.Lt (QuotedAtom (codes "10")) (QuotedAtom (codes "9")))) None ∷ []
 
-relations_names : names_of relations ≡ codes "I" ∷ codes "10" ∷ codes "A" ∷ codes "9" ∷ codes "B" ∷ []
+relations_names : mentioned_names relations ≡ codes "I" ∷ codes "10" ∷ codes "A" ∷ codes "9" ∷ codes "B" ∷ []
 relations_names = refl
 
 relations_symbols : facts_at relations 2 ≡ fact symbol_type.Bool None (always ∷ []) [] (given (Related op.Gt (Symbol (symbol 0)) (Symbol (symbol 3))) always ∷ []) []

@@ -4,7 +4,7 @@ use Rattle.std.specs.Option.{option_or}
 use Rattle.kc_language.specs.Expressions.{symbol, number_of}
 use Rattle.kc_language.specs.declared.statements.EntryKind.{EntryKind}
 use Rattle.kc_read.specs.declared.statement.Statement.{Statement}
-use Rattle.kc_language.specs.Expansion.{Bracket, bracket, is_attribute, is_modules, entry_of, defined_name, open_blocks, FileContext, Log, limit_cause}
+use Rattle.kc_language.specs.Expansion.{Bracket, bracket, is_attribute, is_modules, entry_of, defined_name, open_blocks, FileContext, ReadSoFar, limit_cause}
 use Rattle.kc_read.specs.PartsOfExpansion.{is_source}
 use Rattle.kc_read.specs.PartsOfExpansion.{defined, nesting_cause, symbol_cause}
 use Rattle.kc_read.specs.Progress.{naming_cause}
@@ -78,7 +78,7 @@ or_none None = refl
 or_none (Some x) = refl
 
 -- a config line may define a symbol too many, and any other line open a block too many
-pub effect_by : (a : FileContext) (own : List (Located Named)) (log : Log) (x : Named) →
+pub effect_by : (a : FileContext) (own : List (Located Named)) (log : ReadSoFar) (x : Named) →
     option_or (naming_cause (defined (statements log.lines)) (defined_name x))
     (nesting_cause (length a.blocks + length (open_blocks (statements own))) (bracket x)) ≡ limit_cause a own log x
 effect_by site own log (ConfigLine n) = or_none (symbol_cause (defined (statements log.lines)) n)

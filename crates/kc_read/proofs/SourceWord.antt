@@ -1,6 +1,8 @@
 -- The lines that begin with the word `source`, and no others, are `source` lines.
-use Rattle.std.proofs.Common.{◌≡◌, ◌×◌, ◌⊎◌, Unit, tt, inl, inr, ℕ, Bool, true, false, cond, List, [], ◌∷◌, drop, codes, Option, Some, None, Result, Ok, Err, refl, ap, ◌∙◌, subst}
+use Rattle.std.proofs.Common.{◌≡◌, ◌×◌, ◌||◌, not, sym, inl, inr, ℕ, Bool, true, false, cond, List, [], ◌∷◌, drop, codes, Option, Some, None, Result, Ok, Err, refl, ap, ◌∙◌, subst}
 use Rattle.std.proofs.lemmas.Bool.{cases_Bool}
+use Rattle.std.specs.List.{list_all}
+use Rattle.kc_read.proofs.KeywordLemmas.{both}
 use Rattle.kc_language.specs.Tokens.{Lexeme, AWord, AQuoted, AnOp}
 use Rattle.kc_language.specs.declared.expressions.SymbolType.{SymbolType}
 use Rattle.kc_language.specs.declared.expressions.SymbolType.TheVariants as symbol_type
@@ -25,28 +27,24 @@ other_word : (b : Bool) (k : Keyword) (o : Option Keyword) → is_source_key (So
 other_word true k o e f = e
 other_word false k o e f = f
 
--- each word is `source`, or the keyword is another one
-abbrev AreOthers : List (List ℕ × Keyword) → Type 0
-AreOthers [] = Unit {0}
-AreOthers (k ∷ more) = ((is_source_key (Some k.1) ≡ false) ⊎ (k.0 ≡ codes "source")) × AreOthers more
+-- the word is `source`, or its keyword is another one
+abbrev is_other : List ℕ × Keyword → Bool
+is_other k = not (is_source_key (Some k.1)) || same_name k.0 (codes "source")
 
-other_in : (ks : List (List ℕ × Keyword)) (w : List ℕ) → AreOthers ks → same_name w (codes "source") ≡ false → is_source_key (keyword_in ks w) ≡ false
+other_in : (ks : List (List ℕ × Keyword)) (w : List ℕ) → list_all is_other ks ≡ true → same_name w (codes "source") ≡ false
+    → is_source_key (keyword_in ks w) ≡ false
 other_in [] w a e = refl
-other_in (k ∷ more) w a e = by a.0
-  where
-    by : ((is_source_key (Some k.1) ≡ false) ⊎ (k.0 ≡ codes "source")) → is_source_key (cond (same_name w k.0) (Some k.1) (keyword_in more w)) ≡ false
-    by (inl other) = other_word (same_name w k.0) k.1 (keyword_in more w) other (other_in more w a.1 e)
-    by (inr same) = ap (λ b. is_source_key (cond b (Some k.1) (keyword_in more w))) (ap (same_name w) same ∙ e) ∙ other_in more w a.1 e
-
-are_others : AreOthers keyword_words
-are_others =
-    (inl refl, (inl refl, (inl refl, (inl refl, (inl refl, (inl refl, (inl refl, (inl refl, (inl refl, (inl refl, (inl refl, (inl refl,
-    (inl refl, (inl refl, (inl refl, (inl refl, (inr refl, (inl refl, (inl refl, (inl refl, (inl refl, (inl refl, (inl refl, (inl refl,
-    (inl refl, (inl refl, (inl refl, (inl refl, (inl refl, (inl refl, (inl refl, (inl refl, (inl refl, (inl refl, (inl refl, (inl refl,
-    (inl refl, (inl refl, tt))))))))))))))))))))))))))))))))))))))
+other_in (k ∷ more) w a e =
+    let own : (is_other k ≡ true) × (list_all is_other more ≡ true) = both (is_other k) (list_all is_other more) a in
+    elim (cases_Bool (is_source_key (Some k.1))) [
+      | inr no ↦ other_word (same_name w k.0) k.1 (keyword_in more w) no (other_in more w own.1 e)
+      | inl yes ↦
+          let same : k.0 ≡ codes "source" = same_name_eq k.0 (codes "source") (sym (ap (λ b. not b || same_name k.0 (codes "source")) yes) ∙ own.0) in
+          ap (λ b. is_source_key (cond b (Some k.1) (keyword_in more w))) (ap (same_name w) same ∙ e) ∙ other_in more w own.1 e
+    ]
 
 keyword_other : (w : List ℕ) → same_name w (codes "source") ≡ false → is_source_key (keyword_of w) ≡ false
-keyword_other w e = other_in keyword_words w are_others e
+keyword_other w e = other_in keyword_words w refl e
 
 -- ---- What is read
 

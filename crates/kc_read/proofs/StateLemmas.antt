@@ -16,7 +16,7 @@ use Rattle.kc_read.specs.PartsOfStatements.{is_entry}
 use Rattle.kc_read.specs.declared.frame.Frame.{Frame}
 use Rattle.kc_read.specs.declared.progress.Progress.{Progress}
 use Rattle.kc_read.specs.declared.statement.Statement.{Statement}
-use Rattle.kc_language.specs.Expansion.{bracket, definitions, entry_of, is_attribute, is_modules, is_no_attribute, last_of, modules_of, defined_name, open_blocks, FileContext, Log, Rest, context_of, limit_cause, first_log, inside, is_choice, with_file, with_line, Expands, Refused, bytes_cause, refused, Files}
+use Rattle.kc_language.specs.Expansion.{bracket, definitions, entry_of, is_attribute, is_modules, is_no_attribute, last_of, modules_of, defined_name, open_blocks, FileContext, ReadSoFar, Rest, context_of, limit_cause, first_log, inside, is_choice_block, with_file, with_line, Expands, Refused, bytes_cause, refused_at, Files}
 use Rattle.kc_read.specs.PartsOfExpansion.{lines_of, logged, root_context}
 use Rattle.kc_read.specs.PartsOfExpansion.{last_no_attribute, nesting_cause, defined, located_numbered}
 use Rattle.kc_read.proofs.ModulesLemmas.{marked_push, modules_of_push}
@@ -109,7 +109,7 @@ entered_push own ss x before e =
 words_push : (ss : List Named) (x : Named) → flat_map names_in_statement ss ++ names_in_statement x ≡ flat_map names_in_statement (ss ++ x ∷ [])
 words_push ss x = ap (λ ws. flat_map names_in_statement ss ++ ws) (sym (append-nil (names_in_statement x))) ∙ sym (flat_map-append names_in_statement ss (x ∷ []))
 
-progress_taken : (first : List (List ℕ)) (known names : List (List ℕ)) (a : FileContext) (own : List (Located Named)) (log : Log)
+progress_taken : (first : List (List ℕ)) (known names : List (List ℕ)) (a : FileContext) (own : List (Located Named)) (log : ReadSoFar)
     (f g : Frame) (p q : Progress) (s : Statement) (x : Named) (n : ℕ) → IsProgress first known log p → IsFrame a own f →
     IsMade known names s x → IsTaken (statement_view s) n f g p q → (is_modules x ≡ true → is_some (last_of (definitions (statements log.lines))) ≡ true) →
     IsProgress first names (logged log a n x) q
@@ -147,7 +147,7 @@ progress_taken first known names a own log f g p q s x n i fr m t begun =
       marked = subst (λ l. is_some (modules_of l) ≡ list_any is_modules l) (sym pushed) (marked_push ss x i.marked begun);
     }
 
-pub state_taken : (first : List (List ℕ)) (known names : List (List ℕ)) (a : FileContext) (own : List (Located Named)) (log : Log)
+pub state_taken : (first : List (List ℕ)) (known names : List (List ℕ)) (a : FileContext) (own : List (Located Named)) (log : ReadSoFar)
     (f g : Frame) (p q : Progress) (s : Statement) (x : Named) (n : ℕ) → IsState first known a own log p f → IsMade known names s x →
     IsTaken (statement_view s) n f g p q → (is_modules x ≡ true → is_config (entry_of (last_no_attribute (statements own))) ≡ true) →
     IsState first names a (with_line own a n x) (logged log a n x) q g
@@ -167,21 +167,21 @@ blocks_same : (a : FileContext) (own : List (Located Named)) (f : Frame) → IsF
 blocks_same a own f i = sym (map-map (λ o. o.block) opener_of f.blocks.items) ∙ ap (map (λ o. o.block)) i.blocks ∙ blocks_of_located own
 
 -- the context of the next line
-pub context_same : (first : List (List ℕ)) (names : List (List ℕ)) (a : FileContext) (own : List (Located Named)) (log : Log)
+pub context_same : (first : List (List ℕ)) (names : List (List ℕ)) (a : FileContext) (own : List (Located Named)) (log : ReadSoFar)
     (f : Frame) (p : Progress) (c : LineContext) → IsState first names a own log p f → c.entry ≡ f.entry →
-    c.own ≡ option_map (λ o. o.block) (last_of f.blocks.items) → c.in_choice ≡ (f.in_choice || list_any (λ o. is_choice o.block) f.blocks.items) →
+    c.own ≡ option_map (λ o. o.block) (last_of f.blocks.items) → c.in_choice ≡ (f.in_choice || list_any (λ o. is_choice_block o.block) f.blocks.items) →
     c.modules ≡ ids_match p.modules p.config → c ≡ context_of a own log
 context_same first names a own log f p c i e_entry e_own e_choice e_modules =
     let blocks = blocks_same a own f i.frame in
     let entry_is = e_entry ∙ i.frame.entry in
     let own_is = e_own ∙ sym (last_of-map (λ o. o.block) f.blocks.items) ∙ ap last_of blocks in
-    let choice_is = e_choice ∙ ap (λ b. b || list_any (λ o. is_choice o.block) f.blocks.items) i.frame.in_choice
-    ∙ ap (λ b. list_any is_choice a.blocks || b) (sym (list_any-map is_choice (λ o. o.block) f.blocks.items) ∙ ap (list_any is_choice) blocks) in
+    let choice_is = e_choice ∙ ap (λ b. b || list_any (λ o. is_choice_block o.block) f.blocks.items) i.frame.in_choice
+    ∙ ap (λ b. list_any is_choice_block a.blocks || b) (sym (list_any-map is_choice_block (λ o. o.block) f.blocks.items) ∙ ap (list_any is_choice_block) blocks) in
     let modules_are = e_modules ∙ match_same names p.modules p.config (modules_of (statements log.lines)) (last_of (definitions (statements log.lines))) i.progress.modules_is i.progress.config in
     λ j. record { entry = entry_is j; own = own_is j; in_choice = choice_is j; modules = modules_are j }
 
 -- inside a file that is sourced
-pub state_inside : (first : List (List ℕ)) (names : List (List ℕ)) (a : FileContext) (own : List (Located Named)) (log : Log)
+pub state_inside : (first : List (List ℕ)) (names : List (List ℕ)) (a : FileContext) (own : List (Located Named)) (log : ReadSoFar)
     (f g : Frame) (p q : Progress) (name bytes : List ℕ) (total_lines : ℕ) → IsState first names a own log p f → IsSourcedFrame f name g →
     IsEntered name total_lines p q → total_lines ≡ p.total_lines + lines_of bytes → IsState first names (inside a own name) [] (with_file log name bytes) q g
 state_inside first names a own log f g p q name bytes total_lines i n t c =
@@ -204,9 +204,9 @@ state_inside first names a own log f g p q name bytes total_lines i n t c =
         file = n.file;
         depth = n.depth ∙ ap (λ k. k + length f.blocks.items) i.frame.depth ∙ ap (λ k. length a.blocks + k) many ∙ sym (length-append a.blocks (open_blocks (statements own)));
         in_choice =
-            n.in_choice ∙ ap (λ b. b || list_any (λ o. is_choice o.block) f.blocks.items) i.frame.in_choice
-            ∙ ap (λ b. list_any is_choice a.blocks || b) (sym (list_any-map is_choice (λ o. o.block) f.blocks.items) ∙ ap (list_any is_choice) blocks)
-            ∙ sym (list_any-append is_choice a.blocks (open_blocks (statements own)));
+            n.in_choice ∙ ap (λ b. b || list_any (λ o. is_choice_block o.block) f.blocks.items) i.frame.in_choice
+            ∙ ap (λ b. list_any is_choice_block a.blocks || b) (sym (list_any-map is_choice_block (λ o. o.block) f.blocks.items) ∙ ap (list_any is_choice_block) blocks)
+            ∙ sym (list_any-append is_choice_block a.blocks (open_blocks (statements own)));
         blocks = ap (map opener_of) n.blocks;
         entry = n.entry;
       };
@@ -218,7 +218,7 @@ state_inside first names a own log f g p q name bytes total_lines i n t c =
     }
 
 -- the limit that a statement passes
-pub effect_same : (first : List (List ℕ)) (known names : List (List ℕ)) (a : FileContext) (own : List (Located Named)) (log : Log)
+pub effect_same : (first : List (List ℕ)) (known names : List (List ℕ)) (a : FileContext) (own : List (Located Named)) (log : ReadSoFar)
     (f : Frame) (p : Progress) (s : Statement) (x : Named) → IsState first known a own log p f → IsMade known names s x →
     limit_view (statement_view s) f p ≡ limit_cause a own log x
 effect_same first known names a own log f p s x i m =
@@ -233,7 +233,7 @@ effect_same first known names a own log f p s x i m =
     ∙ effect_by a own log x
 
 -- behind a marker of another file
-pub state_moved : (first : List (List ℕ)) (names : List (List ℕ)) (a : FileContext) (own : List (Located Named)) (log : Log)
+pub state_moved : (first : List (List ℕ)) (names : List (List ℕ)) (a : FileContext) (own : List (Located Named)) (log : ReadSoFar)
     (f g : Frame) (p q : Progress) (n : ℕ) (name : List ℕ) → IsState first names a own log p f → IsMovedFrame name f g → IsMarkedOpened name p q →
     IsState first names (record a { file = name }) (with_line own a n (SourceLine name)) (record log { opened = mention log.opened name }) q g
 state_moved first names a own log f g p q n name i moved opened =
@@ -291,9 +291,9 @@ state_begun files names root bytes total_lines f p b c = record {
   goes_on = λ e. absurd cc;
 }
 
-pub expands_read : (files : Files) (root bytes : List ℕ) (r : Result Log Refused) → bytes_cause root 0 (files.bytes root) ≡ None → files.bytes root ≡ Some bytes →
+pub expands_read : (files : Files) (root bytes : List ℕ) (r : Result ReadSoFar Refused) → bytes_cause root 0 (files.bytes root) ≡ None → files.bytes root ≡ Some bytes →
     Rest files (root_context root) (unread_lines bytes 1) [] (first_log files root bytes) r → Expands files root r
 expands_read files root bytes r allowed found rest = rw allowed (bytes, found, rest)
 
-pub expands_refused : (files : Files) (root : List ℕ) (why : Cause) (e : Refused) → bytes_cause root 0 (files.bytes root) ≡ Some why → e ≡ refused why root 0 → Expands files root (Err e)
+pub expands_refused : (files : Files) (root : List ℕ) (why : Cause) (e : Refused) → bytes_cause root 0 (files.bytes root) ≡ Some why → e ≡ refused_at why root 0 → Expands files root (Err e)
 expands_refused files root why e bad is = rw bad (ap Err is)

@@ -6,7 +6,7 @@ use Rattle.std.specs.Option.{unwrap_or, IfSome}
 use Rattle.std.proofs.lemmas.List.Elements.{All-nil, All-cons, All-head, All-tail, All-append, All-push, All-take, All-drop, All-map, All-contains, All-from_recursion}
 use Rattle.kc_language.specs.declared.expressions.SymId.{SymId}
 use Rattle.kc_language.specs.Expressions.{Form, all_mentioned, mention, number_of, same_name, symbol}
-use Rattle.kc_language.specs.Expansion.{attributes, is_attribute, last_of, numbers, names_of, numbered_lines}
+use Rattle.kc_language.specs.Expansion.{attributes, is_attribute, last_of, numbers, mentioned_names, numbered_lines}
 use Rattle.kc_read.specs.PartsOfExpansion.{located_numbered}
 use Rattle.kc_language.specs.Statements.{Named, Numbered, Located, ConfigLine, CommentLine, MenuLine, EndMenuLine, MainMenuLine, DefaultLine, DefLine, numbered, names_in_statement, statements}
 use Rattle.kc_language.specs.Symbols.{TreeFacts, SymbolFacts, Guarded, Shown, SymbolShown, MenuShown, EndShown, CommentShown, StatedDefault, definitions_of, dependency, shown_at, stated_default, is_first_definition, indices, symbol_facts, facts_with}
@@ -43,7 +43,7 @@ unless_named : (o : Option (List ℕ)) (d : List ℕ) → IfSome o IsLineText �
 unless_named None d h k = k
 unless_named (Some n) d h k = h
 
-name_lines : (ss : List Named) → All IsInLines ss → All IsLineText (names_of ss)
+name_lines : (ss : List Named) → All IsInLines ss → All IsLineText (mentioned_names ss)
 name_lines ss h = mentioned_all [] (flat_map names_in_statement ss) (All-nil IsLineText) (statement_names ss h)
 
 -- The numbered statements.
@@ -138,7 +138,7 @@ module _ (ls : List (Located Named)) (lines : All IsInLines (statements ls)) whe
   line_statements = map (λ l. l.statement) (numbered_lines ls)
 
   abbrev whole : TreeFacts
-  whole = facts_with (names_of (statements ls)) (numbered_lines ls)
+  whole = facts_with (mentioned_names (statements ls)) (numbered_lines ls)
 
   all_numbered : (number : List ℕ → ℕ) (rest : List (Located Named)) → All IsInLines (statements rest) →
       All IsLineNumbered (map (λ l. numbered number l.statement) rest)
@@ -155,16 +155,16 @@ module _ (ls : List (Located Named)) (lines : All IsInLines (statements ls)) whe
 
   all_texts : All IsLineNumbered line_statements
   all_texts =
-      let number = number_of (names_of (statements ls)) in
+      let number = number_of (mentioned_names (statements ls)) in
       subst (All IsLineNumbered) (numbered_is number ls) (all_numbered number ls lines)
 
   -- each text of the tree stands in one line
   pub line_texts : HasLineTexts whole
   line_texts = record {
     titles = record { main_menu = menu_title line_statements all_texts; entries = entry_title line_statements all_texts };
-    names = λ i name h. All-at IsLineText (names_of (statements ls)) i name (name_lines (statements ls) lines) h;
+    names = λ i name h. All-at IsLineText (mentioned_names (statements ls)) i name (name_lines (statements ls) lines) h;
     defaults = λ i f h g c.
         let each = All-map_each (λ (f : SymbolFacts). All (λ (g : Guarded Form). IsLineForm g.what) f.defaults) (λ i. symbol_facts line_statements (symbol i))
-        (λ i. default_lines line_statements all_texts (symbol i)) (numbers (length (names_of (statements ls)))) in
+        (λ i. default_lines line_statements all_texts (symbol i)) (numbers (length (mentioned_names (statements ls)))) in
         All-contains (λ (g : Guarded Form). IsLineForm g.what) f.defaults g (All-at (λ (f : SymbolFacts). All (λ (g : Guarded Form). IsLineForm g.what) f.defaults) whole.symbols i f each h) c;
   }

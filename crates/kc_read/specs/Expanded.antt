@@ -5,7 +5,7 @@ use Rattle.kc_language.specs.declared.expressions.SymId.{SymId}
 use Rattle.kc_language.specs.Expressions.{all_mentioned, symbol}
 use Rattle.kc_expr.specs.Names.{IsNumber}
 use Rattle.kc_read.specs.declared.expansion.Expansion.{Expansion}
-use Rattle.kc_language.specs.Expansion.{modules_of, Log}
+use Rattle.kc_language.specs.Expansion.{modules_of, ReadSoFar}
 use Rattle.kc_read.specs.PartsOfExpansion.{defined, located_numbered}
 use Rattle.kc_read.specs.Entries.{lines_in}
 use Rattle.kc_read.specs.StatementViews.{ForLater}
@@ -23,7 +23,7 @@ abbrev pub AreNumbers : List (List ℕ) → List SymId → List (List ℕ) → T
 AreNumbers names ids ns = ForLater names (λ number. ids ≡ map (λ n. symbol (number n)) ns)
 
 -- the expanded list that was read: the names stood at first, and are names now
-pub record IsExpansion (first : List (List ℕ)) (names : List (List ℕ)) (log : Log) (e : Expansion) : Type 0 where
+pub record IsExpansion (first : List (List ℕ)) (names : List (List ℕ)) (log : ReadSoFar) (e : Expansion) : Type 0 where
   pub lines : ForLater names (λ number. lines_in e.entries ≡ map (located_numbered number) log.lines)
   pub mentions : names ≡ all_mentioned first (flat_map names_in_statement (statements log.lines))
   pub defined_is : AreNumbers names e.defined (defined (statements log.lines))

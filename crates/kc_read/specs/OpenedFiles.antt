@@ -1,7 +1,7 @@
 -- Trusted: The files that an expansion opens.
 use Rattle.std.specs.List.{Contains}
 use Rattle.std.specs.Prelude.{◌≡◌, ℕ, false, List, [], ◌∷◌, ◌++◌, Some, Ok, Result}
-use Rattle.kc_language.specs.Expansion.{FileContext, Log, Refused, Rest, Expands, at_end, unclosed, too_long, no_tokens, blank, renumbered, moved, bad_line, over_limit, statement, bad_source, refused_inside, source, first_log, Files, SourceNames, AreOpened}
+use Rattle.kc_language.specs.Expansion.{FileContext, ReadSoFar, Refused, Rest, Expands, at_end, unclosed, too_long, no_tokens, blank, renumbered, moved, bad_line, over_limit, statement, bad_source, refused_inside, source, first_log, Files, SourceNames, AreOpened}
 use Rattle.kc_read.specs.PartsOfExpansion.{root_context}
 use Rattle.kc_language.specs.Lines.{UnreadLines, unread_lines}
 use Rattle.kc_language.specs.Statements.{Located, Named}
@@ -10,11 +10,11 @@ use Rattle.kc_language.specs.Statements.{Located, Named}
 abbrev pub OpenedAreOneList : Type 0
 OpenedAreOneList =
     (files : Files) (root : List ℕ) → (names : List (List ℕ)) × AreOpened files root names
-    × ((log : Log) (others : List (List ℕ)) → Expands files root (Ok log) → AreOpened files root others → others ≡ names)
+    × ((log : ReadSoFar) (others : List (List ℕ)) → Expands files root (Ok log) → AreOpened files root others → others ≡ names)
 
 -- The files that are asked for along the rest of a file, in order: those that are opened, and last the one that may not
 -- be opened or has no bytes, where there is one.
-abbrev pub sourced_files : {files : Files} {a : FileContext} {l : UnreadLines} {own : List (Located Named)} {log : Log} {r : Result Log Refused} → Rest files a l own log r → List (List ℕ)
+abbrev pub sourced_files : {files : Files} {a : FileContext} {l : UnreadLines} {own : List (Located Named)} {log : ReadSoFar} {r : Result ReadSoFar Refused} → Rest files a l own log r → List (List ℕ)
 sourced_files (at_end a l own log none closed) = []
 sourced_files (unclosed a l own log opener none unmatched) = []
 sourced_files (too_long a l own log long) = []
@@ -40,7 +40,7 @@ IsNamedByOne files before name = (by bytes : List ℕ) × Contains before by × 
 -- Each file that an expansion asks for after the root is named in one that it opened before. (A flat tree has no other file.)
 abbrev pub SourcedFilesAreNamed : Type 0
 SourcedFilesAreNamed =
-    (files : Files) (root bytes : List ℕ) (r : Result Log Refused) → files.flat ≡ false → files.bytes root ≡ Some bytes →
+    (files : Files) (root bytes : List ℕ) (r : Result ReadSoFar Refused) → files.flat ≡ false → files.bytes root ≡ Some bytes →
     (d : Rest files (root_context root) (unread_lines bytes 1) [] (first_log files root bytes) r) (before after : List (List ℕ)) (name : List ℕ) →
     sourced_files d ≡ before ++ name ∷ after → IsNamedByOne files (root ∷ before) name
 

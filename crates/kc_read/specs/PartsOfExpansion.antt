@@ -1,6 +1,6 @@
 -- Trusted: Parts of the definitions of Expansion, by names of their own.
 use Rattle.std.specs.Prelude.{Bool, List, None, Option, Some, [], codes, drop, false, filter, if◌then◌else◌, is_some, length, nat_le, nat_lt, suc, true, zero, ℕ, ◌&&◌, ◌||◌, ◌∷◌, ◌≡◌}
-use Rattle.kc_language.specs.Expansion.{Bracket, Closes, FileContext, Files, Log, NextLine, NoBracket, Opens, bracket, bracket_at, definitions, is_no_attribute, last_of, names_of, open_block_indices, opened, sourcing_cause, stays_open, with_line}
+use Rattle.kc_language.specs.Expansion.{Bracket, Closes, FileContext, Files, ReadSoFar, NextLine, NoBracket, Opens, bracket, bracket_at, definitions, is_no_attribute, last_of, mentioned_names, open_block_indices, opened, sourcing_cause, stays_open, with_line}
 use Rattle.kc_language.specs.Expressions.{all_mentioned, mention, number_of, same_name}
 use Rattle.kc_language.specs.Lines.{UnreadLines, physical_lines}
 use Rattle.kc_language.specs.Statements.{Cause, Located, Named, Numbered, SourceLine, Statement, begins_with, numbered, statements}
@@ -36,7 +36,7 @@ abbrev pub located_numbered : (List ℕ → ℕ) → Located Named → Located N
 located_numbered number l = record { file = l.file; line = l.line; statement = numbered number l.statement }
 
 abbrev pub number_line : List Named → Located Named → Located Numbered
-number_line ss = located_numbered (number_of (names_of ss))
+number_line ss = located_numbered (number_of (mentioned_names ss))
 
 -- the defined names, in order of their first definition
 abbrev pub defined : List Named → List (List ℕ)
@@ -67,7 +67,7 @@ abbrev pub lines_of : List ℕ → ℕ
 lines_of bytes = length (physical_lines bytes)
 
 -- a statement is added to the log
-abbrev pub logged : Log → FileContext → ℕ → Named → Log
+abbrev pub logged : ReadSoFar → FileContext → ℕ → Named → ReadSoFar
 logged log a n s = record { lines = with_line log.lines a n s; total_lines = log.total_lines; opened = log.opened }
 
 -- reading begins with the root file: no other file is open

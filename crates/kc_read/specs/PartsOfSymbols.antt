@@ -2,10 +2,10 @@
 use Rattle.std.specs.List.{filter_map, flat_map, list_any, take_while}
 use Rattle.std.specs.Option.{option_and_then}
 use Rattle.std.specs.Prelude.{Bool, Err, List, None, Ok, Option, Result, Some, [], count_by, false, filter, if◌then◌else◌, is_none, is_some, map, not, option_map, reverse, slice_get, take, true, unwrap_or, ℕ, ◌&&◌, ◌++◌, ◌==◌, ◌||◌, ◌∷◌}
-use Rattle.kc_language.specs.Expansion.{Log, Refused, attributes, bracket_at, enclosing, is_attribute, is_no_attribute, last_of, names_of, numbered_lines, numbers, opened}
+use Rattle.kc_language.specs.Expansion.{ReadSoFar, Refused, attributes, bracket_at, enclosing, is_attribute, is_no_attribute, last_of, mentioned_names, numbered_lines, numbers, opened}
 use Rattle.kc_language.specs.Expressions.{Form, Single, same_symbol}
 use Rattle.kc_language.specs.Statements.{ConfigLine, DependsLine, ImplyLine, InputPrompt, Located, MainMenuLine, Named, Numbered, RangeLine, SelectLine, VisibleLine, statements}
-use Rattle.kc_language.specs.Symbols.{Bounds, ChoiceFacts, Condition, Guarded, Shown, StatedDefault, TreeFacts, bad_defaults, bad_members, begun, can_be_target, choice_facts, choice_number, dependency, enclosing_choice, entry_choice, entry_symbol, has_text, indices, is_first_definition, line_warnings, listed, located_warning, members_of, named, naming_at, of_block, own_visible, prompt_of, refused_at, same_type, shown_at, shows_entry, single_symbol, stated_default, stated_type, symbol_at, target_of, tree_with, when}
+use Rattle.kc_language.specs.Symbols.{Bounds, ChoiceFacts, Condition, Guarded, Shown, StatedDefault, TreeFacts, bad_defaults, bad_members, begun, can_be_target, choice_facts, choice_number, dependency, enclosing_choice, entry_choice, entry_symbol, holds_text, indices, is_first_definition, line_warnings, listed, located_warning, members_of, named, naming_at, of_block, own_visible, prompt_of, refused_at, same_type, shown_at, shows_entry, single_symbol, stated_default, stated_type, symbol_at, target_of, tree_with, when}
 use Rattle.kc_language.specs.declared.expressions.SymId.{SymId}
 use Rattle.kc_language.specs.declared.expressions.SymbolType.{SymbolType}
 use Rattle.kc_language.specs.declared.statements.Block.{Block}
@@ -156,7 +156,7 @@ without_type types choices first s = flat_map (λ t. when (first && not (has_typ
 
 -- a line that selects or implies a symbol whose value is a text
 abbrev pub text_target : (SymId → SymbolType) → Numbered → List LineWarning
-text_target types s = flat_map (λ t. when (has_text (types (t.1))) (line_warning.TextTarget (t.1) (t.0))) (listed (target_of s))
+text_target types s = flat_map (λ t. when (holds_text (types (t.1))) (line_warning.TextTarget (t.1) (t.0))) (listed (target_of s))
 
 -- a default of a choice that names no member of it
 abbrev pub default_not_member : (ℕ → SymId → Bool) → MenuEntry → Numbered → List LineWarning
@@ -181,7 +181,7 @@ is_bad_member types choices first within_choice s =
 -- A default of a string, int or hex symbol that is no single operand; one of a choice that is no single name.
 abbrev pub is_bad_default : (SymId → SymbolType) → MenuEntry → Numbered → Bool
 is_bad_default types o s =
-    list_any (λ g. (list_any (λ t. has_text (types t)) (listed (entry_symbol o)) && not (is_single g.value)) ||
+    list_any (λ g. (list_any (λ t. holds_text (types t)) (listed (entry_symbol o)) && not (is_single g.value)) ||
     (is_some (entry_choice o) && is_none (single_symbol g.value))) (listed (stated_default s))
 
 module _ (names : List (List ℕ)) where
@@ -212,8 +212,8 @@ abbrev pub unless_refused : List Refused → TreeFacts → Result TreeFacts Refu
 unless_refused refusals tree = elim refusals [ [] ↦ Ok tree | r ∷ rs ↦ Err r ]
 
 -- what an expanded list says once its names have numbers, or its refusal
-abbrev pub tree_of_log : Result Log Refused → Result TreeFacts Refused
-tree_of_log e = elim e [ Ok log ↦ tree_with (names_of (statements log.lines)) (numbered_lines log.lines) | Err r ↦ Err r ]
+abbrev pub tree_of_log : Result ReadSoFar Refused → Result TreeFacts Refused
+tree_of_log e = elim e [ Ok log ↦ tree_with (mentioned_names (statements log.lines)) (numbered_lines log.lines) | Err r ↦ Err r ]
 
 -- a symbol, where there is one and it passes a test
 abbrev pub symbol_if : (SymId → Bool) → Option SymId → Option SymId
@@ -222,4 +222,4 @@ symbol_if p (Some s) = if p s then Some s else None
 
 -- what lines say as they are written, once their names are numbered
 abbrev pub tree_of_lines : List (Located Named) → Result TreeFacts Refused
-tree_of_lines ls = tree_with (names_of (statements ls)) (numbered_lines ls)
+tree_of_lines ls = tree_with (mentioned_names (statements ls)) (numbered_lines ls)

@@ -19,7 +19,7 @@ use Rattle.kc_language.specs.declared.statements.Block.{Block}
 use Rattle.kc_language.specs.declared.statements.EntryKind.{EntryKind}
 use Rattle.kc_language.specs.declared.statements.EntryKind.TheVariants as entry
 use Rattle.kc_read.specs.declared.statement.OpenBlock.{OpenBlock}
-use Rattle.kc_language.specs.Expansion.{Bracket, Opens, Closes, NoBracket, bracket, opened, open_block_indices, last_of, entry_of, is_attribute, definitions, modules_of, defined_name, is_modules, FileContext, Log, Refused, Rest, is_choice, refused, Files}
+use Rattle.kc_language.specs.Expansion.{Bracket, Opens, Closes, NoBracket, bracket, opened, open_block_indices, last_of, entry_of, is_attribute, definitions, modules_of, defined_name, is_modules, FileContext, ReadSoFar, Refused, Rest, is_choice_block, refused_at, Files}
 use Rattle.kc_read.specs.PartsOfExpansion.{last_no_attribute, defined, symbol_cause, nesting_cause, located_numbered}
 use Rattle.kc_language.specs.Statements.{Cause, LineContext, is_config, Statement, Named, Numbered, Located, names_in_statement, statements}
 use Rattle.kc_read.specs.PartsOfStatements.{is_entry}
@@ -77,7 +77,7 @@ IsShallow f = f.depth + length f.blocks.items ≤ most_blocks
 pub record IsFrame (a : FileContext) (own : List (Located Named)) (f : Frame) : Type 0 where
   pub file : f.file.value.items ≡ a.file
   pub depth : f.depth ≡ length a.blocks
-  pub in_choice : f.in_choice ≡ list_any is_choice a.blocks
+  pub in_choice : f.in_choice ≡ list_any is_choice_block a.blocks
   pub blocks : openers f ≡ located_blocks own
   pub entry : f.entry ≡ entry_of (last_no_attribute (statements own))
 
@@ -92,12 +92,12 @@ abbrev pub context_in : Frame → Progress → LineContext
 context_in f p = record {
   entry = f.entry;
   own = option_map (λ o. o.block) (last_of f.blocks.items);
-  in_choice = f.in_choice || list_any (λ o. is_choice o.block) f.blocks.items;
+  in_choice = f.in_choice || list_any (λ o. is_choice_block o.block) f.blocks.items;
   modules = ids_match p.modules p.config;
 }
 
 -- what is remembered of all files: the names stood at first, and are names now
-pub record IsProgress (first : List (List ℕ)) (names : List (List ℕ)) (log : Log) (p : Progress) : Type 0 where
+pub record IsProgress (first : List (List ℕ)) (names : List (List ℕ)) (log : ReadSoFar) (p : Progress) : Type 0 where
   pub lines : ForLater names (λ number. lines_in p.entries ≡ map (located_numbered number) log.lines)
   pub mentions : names ≡ all_mentioned first (flat_map names_in_statement (statements log.lines))
   pub total_lines : p.total_lines ≡ log.total_lines
@@ -111,7 +111,7 @@ pub record IsProgress (first : List (List ℕ)) (names : List (List ℕ)) (log :
 abbrev pub open_names : Progress → List (List ℕ)
 open_names p = map (λ f. f.value.items) p.open_files.items
 
-pub record IsState (first : List (List ℕ)) (names : List (List ℕ)) (a : FileContext) (own : List (Located Named)) (log : Log) (p : Progress) (f : Frame) : Type 0 where
+pub record IsState (first : List (List ℕ)) (names : List (List ℕ)) (a : FileContext) (own : List (Located Named)) (log : ReadSoFar) (p : Progress) (f : Frame) : Type 0 where
   pub progress : IsProgress first names log p
   pub frame : IsFrame a own f
   pub files : open_names p ≡ a.open_files
@@ -185,7 +185,7 @@ limit_view s f p = option_or (defining_cause p.defined (defined_name s)) (nestin
 pub record IsSourcedFrame (f : Frame) (name : List ℕ) (g : Frame) : Type 0 where
   pub file : g.file.value.items ≡ name
   pub depth : g.depth ≡ f.depth + length f.blocks.items
-  pub in_choice : g.in_choice ≡ (f.in_choice || list_any (λ o. is_choice o.block) f.blocks.items)
+  pub in_choice : g.in_choice ≡ (f.in_choice || list_any (λ o. is_choice_block o.block) f.blocks.items)
   pub blocks : g.blocks.items ≡ []
   pub entry : g.entry ≡ entry.Nothing
 
@@ -210,41 +210,41 @@ pub record IsMarkedOpened (name : List ℕ) (old new : Progress) : Type 0 where
 
 -- a block of the file is open at its end
 abbrev pub IsOpenAtEnd : Frame → Refused → Type 0
-IsOpenAtEnd f r = (o : OpenBlock) × (last_of f.blocks.items ≡ Some o) × (r ≡ refused cause.Block o.file.value.items o.line)
+IsOpenAtEnd f r = (o : OpenBlock) × (last_of f.blocks.items ≡ Some o) × (r ≡ refused_at cause.Block o.file.value.items o.line)
 
 -- a refusal of the rest of a file
-abbrev pub IsRestRefusal : Files → FileContext → UnreadLines → List (Located Named) → Log → Refusal → Type 0
+abbrev pub IsRestRefusal : Files → FileContext → UnreadLines → List (Located Named) → ReadSoFar → Refusal → Type 0
 IsRestRefusal files a l own log r = r.cause ≢ cause.Memory → Rest files a l own log (Err (refusal_view r))
 
 module _ (files : Files) (first : List (List ℕ)) (names : List (List ℕ)) (a : FileContext) where
   -- the reader has advanced in a file: what its rest gives from here on is what it gave from the line before on
-  pub record HasAdvanced (old new : UnreadLines) (own : List (Located Named)) (log : Log) (p : Progress) (f : Frame) : Type 0 where
+  pub record HasAdvanced (old new : UnreadLines) (own : List (Located Named)) (log : ReadSoFar) (p : Progress) (f : Frame) : Type 0 where
     pub context_now : FileContext
     pub own_now : List (Located Named)
-    pub log_now : Log
+    pub log_now : ReadSoFar
     pub state : IsState first names context_now own_now log_now p f
-    pub follows : (r : Result Log Refused) → Rest files context_now new own_now log_now r → Rest files a old own log r
+    pub follows : (r : Result ReadSoFar Refused) → Rest files context_now new own_now log_now r → Rest files a old own log r
 
   -- a whole file was read
-  pub record IsFileRead (l : UnreadLines) (log : Log) (p : Progress) : Type 0 where
-    pub log_now : Log
+  pub record IsFileRead (l : UnreadLines) (log : ReadSoFar) (p : Progress) : Type 0 where
+    pub log_now : ReadSoFar
     pub rest : Rest files a l [] log (Ok log_now)
     pub progress : IsProgress first names log_now p
 
   -- a file has ended
-  pub record IsEnded (l : UnreadLines) (own : List (Located Named)) (log : Log) (p : Progress) : Type 0 where
+  pub record IsEnded (l : UnreadLines) (own : List (Located Named)) (log : ReadSoFar) (p : Progress) : Type 0 where
     pub rest : Rest files a l own log (Ok log)
     pub progress : IsProgress first names log p
 
-  abbrev pub IsReading : UnreadLines → Log → Progress → Result ⊤ Refusal → Type 0
+  abbrev pub IsReading : UnreadLines → ReadSoFar → Progress → Result ⊤ Refusal → Type 0
   IsReading l log p (Ok u) = IsFileRead l log p
   IsReading l log p (Err r) = IsRestRefusal files a l [] log r
 
-  abbrev pub IsStatementRead : UnreadLines → UnreadLines → List (Located Named) → Log → Progress → Frame → Result ⊤ Refusal → Type 0
+  abbrev pub IsStatementRead : UnreadLines → UnreadLines → List (Located Named) → ReadSoFar → Progress → Frame → Result ⊤ Refusal → Type 0
   IsStatementRead l m own log p f (Ok u) = HasAdvanced l m own log p f
   IsStatementRead l m own log p f (Err r) = IsRestRefusal files a l own log r
 
-  abbrev pub IsNextRead : UnreadLines → UnreadLines → List (Located Named) → Log → Progress → Frame → Result Bool Refusal → Type 0
+  abbrev pub IsNextRead : UnreadLines → UnreadLines → List (Located Named) → ReadSoFar → Progress → Frame → Result Bool Refusal → Type 0
   IsNextRead l m own log p f (Ok true) = HasAdvanced l m own log p f
   IsNextRead l m own log p f (Ok false) = IsEnded l own log p
   IsNextRead l m own log p f (Err r) = IsRestRefusal files a l own log r

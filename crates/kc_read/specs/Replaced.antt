@@ -2,7 +2,7 @@
 -- statement.
 use Rattle.std.specs.Prelude.{◌≡◌, ℕ, Bool, List, [], ◌∷◌, ◌++◌, false, Some, Ok}
 use Rattle.kc_language.specs.Lines.{UnreadLines, unread_lines}
-use Rattle.kc_language.specs.Expansion.{Log, Expands, IsBlankNext, MarksNext, NextStatement, Files, sourced}
+use Rattle.kc_language.specs.Expansion.{ReadSoFar, Expands, IsBlankNext, MarksNext, NextStatement, Files, sourced}
 use Rattle.kc_language.specs.Expressions.{same_name}
 use Rattle.kc_read.specs.PartsOfExpansion.{is_source}
 use Rattle.kc_language.specs.Statements.{LineContext, Located, Named, SourceLine}
@@ -45,4 +45,4 @@ OneListOf = (files : Files) (name : List ℕ) (list other : List (Located Named)
 
 -- the expanded list is the list of the root file
 abbrev pub ExpandedIsListOf : Type 0
-ExpandedIsListOf = (files : Files) (root : List ℕ) (log : Log) → Expands files root (Ok log) → IsListOf files root log.lines
+ExpandedIsListOf = (files : Files) (root : List ℕ) (log : ReadSoFar) → Expands files root (Ok log) → IsListOf files root log.lines

@@ -3,7 +3,7 @@
 ghost use Rattle.std.specs.Prelude.{◌≡◌, ◌≢◌, ◌≤◌, Err, IfErr, IfOk, Ok};
 ghost use Rattle.kc_language.specs.Text.{most_lines};
 ghost use Rattle.kc_expr.specs.Names.{Extends};
-ghost use Rattle.kc_language.specs.Expansion.{Expands, Log};
+ghost use Rattle.kc_language.specs.Expansion.{Expands, ReadSoFar};
 ghost use Rattle.kc_read.specs.Progress.{IsBegun, IsBounded, IsShallow};
 ghost use Rattle.kc_read.specs.Expanded.{IsExpansion};
 ghost use Rattle.kc_read.specs.Files.{files_in};
@@ -94,7 +94,7 @@ pub fn expand(
     root: &[u8],
     names: &mut Names,
 ) -> Result<Expansion, Refusal>
-    ensures expanded { IfOk result (λ e. (log : Log) × Expands (files_in map.now) root.now (Ok log) × IsExpansion names.old names.new log e) }
+    ensures expanded { IfOk result (λ e. (log : ReadSoFar) × Expands (files_in map.now) root.now (Ok log) × IsExpansion names.old names.new log e) }
     ensures refused { IfErr result (λ r. r.cause ≢ Memory → Expands (files_in map.now) root.now (Err (refusal_view r))) }
     ensures memory { IfErr result IsMemory }
     ensures names { Extends names.old names.new }

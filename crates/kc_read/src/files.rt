@@ -9,7 +9,7 @@ ghost use Rattle.kc_expr.specs.Names.{Extends};
 ghost use Rattle.kc_language.specs.Expressions.{same_name};
 ghost use Rattle.kc_language.specs.declared.diagnostics.Cause.TheVariants.{Memory};
 ghost use Rattle.kc_language.specs.Expansion as spec;
-ghost use Rattle.kc_language.specs.Expansion.{FileContext, Log, NextStatement, bytes_in, sourced, sourcing_cause};
+ghost use Rattle.kc_language.specs.Expansion.{FileContext, ReadSoFar, NextStatement, bytes_in, sourced, sourcing_cause};
 ghost use Rattle.kc_read.specs.Progress.{IsBounded, IsEntered, IsMarkedOpened, IsMovedFrame, IsSourcedFrame, IsNextRead, IsOpenAtEnd, IsReading, IsShallow, IsState, IsStatementRead, IsTaken, limit_view, open_names};
 ghost use Rattle.kc_read.specs.Entries.{IsLastFile};
 ghost use Rattle.kc_read.specs.Files.{files_in};
@@ -238,7 +238,7 @@ pub(crate) fn read_file(
 ) -> Result<(), Refusal>
     requires shallow { IsShallow frame }
     requires bounded { IsBounded progress.old }
-    ensures read { (first : List (List ℕ)) (a : FileContext) (log : Log) → IsState first names.old a [] log progress.old frame
+    ensures read { (first : List (List ℕ)) (a : FileContext) (log : ReadSoFar) → IsState first names.old a [] log progress.old frame
         → IsReading (files_in reader.now.map.now) first names.new a (unread_lines file.now 1) log progress.new result }
     ensures open { OnOk result (progress.new.open_files.items ≡ progress.old.open_files.items) }
     ensures bounded { OnOk result (IsBounded progress.new) }
@@ -275,7 +275,7 @@ fn read_next<'a>(
     requires clear { lines.old.refusal ≡ None }
     requires shallow { IsShallow frame.old }
     requires bounded { IsBounded progress.old }
-    ensures read { (first : List (List ℕ)) (a : FileContext) (own : List (Located Named)) (log : Log)
+    ensures read { (first : List (List ℕ)) (a : FileContext) (own : List (Located Named)) (log : ReadSoFar)
         → IsState first names.old a own log progress.old frame.old
         → IsNextRead (files_in reader.now.map.now) first names.new a lines.old lines.new own log progress.new frame.new result }
     ensures less { IfOk result (λ more. IsTrue more → length lines.new.lines < length lines.old.lines) }
@@ -329,7 +329,7 @@ fn read_statement(
 ) -> Result<(), Refusal>
     requires shallow { IsShallow frame.old }
     requires bounded { IsBounded progress.old }
-    ensures read { (first known : List (List ℕ)) (a : FileContext) (own : List (Located Named)) (log : Log) (x : Named) (l m : UnreadLines)
+    ensures read { (first known : List (List ℕ)) (a : FileContext) (own : List (Located Named)) (log : ReadSoFar) (x : Named) (l m : UnreadLines)
         → IsState first known a own log progress.old frame.old → IsMade known names.old statement x
         → NextStatement reader.now.map.now.flat l m (spec.context_of a own log) (Ok x) → line ≡ l.number
         → IsStatementRead (files_in reader.now.map.now) first names.new a l m own log progress.new frame.new result }
@@ -364,7 +364,7 @@ fn source(
 ) -> Result<(), Refusal>
     requires shallow { IsShallow frame.old }
     requires bounded { IsBounded progress.old }
-    ensures read { (first : List (List ℕ)) (a : FileContext) (own : List (Located Named)) (log : Log) (l m : UnreadLines)
+    ensures read { (first : List (List ℕ)) (a : FileContext) (own : List (Located Named)) (log : ReadSoFar) (l m : UnreadLines)
         → IsState first names.old a own log progress.old frame.old
         → NextStatement reader.now.map.now.flat l m (spec.context_of a own log) (Ok (SourceLine name.items)) → line ≡ l.number
         → IsStatementRead (files_in reader.now.map.now) first names.new a l m own log progress.new frame.new result }

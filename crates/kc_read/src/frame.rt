@@ -60,7 +60,7 @@ fn entry_of(head: &Head) -> EntryKind
 }
 
 fn is_choice(block: Block) -> bool
-    ensures { result ≡ blocks.is_choice block }
+    ensures { result ≡ blocks.is_choice_block block }
 {
     match block {
         Block::Choice => true,
@@ -78,7 +78,7 @@ impl Frame {
 
     /// Whether a choice is open.
     pub(crate) fn is_in_choice(&self) -> bool
-        ensures { result ≡ (self.now.in_choice || list_any (λ o. blocks.is_choice o.block) self.now.blocks.items) }
+        ensures { result ≡ (self.now.in_choice || list_any (λ o. blocks.is_choice_block o.block) self.now.blocks.items) }
     {
         self.in_choice || self.blocks.iter().any(|opener| is_choice(opener.block))
     }

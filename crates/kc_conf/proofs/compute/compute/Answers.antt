@@ -7,7 +7,7 @@ use Rattle.kc_language.specs.Statements.{Located, Numbered}
 use Rattle.kc_language.specs.Symbols.{TreeFacts}
 use Rattle.kc_language.specs.Texts.{Solution, warnings}
 use Rattle.kc_io.specs.Delivery.{NamedText}
-use Rattle.kc_language.specs.Outcome.{Options, Outcome, lead, has_text, lines_text, refuses_input}
+use Rattle.kc_language.specs.Outcome.{Options, Outcome, lead, is_not_empty, lines_text, refuses_input}
 use Rattle.kc_conf.specs.Computed.{ruled_files}
 use Rattle.kc_io.specs.Delivery.{texts_of}
 use Rattle.kc_conf.proofs.ComputedLemmas.{files_are, lines_added, lost_is}
@@ -22,7 +22,7 @@ returns-then-is_refused-clause-computes c = λ files lines are.
     let options = c.args.options.now in
     let s = c.in_ok-solved.solved in
     let input = c.args.input.now in
-    let told = c.is_warned_by-is_warned.ensures ∙ ap (λ t. c.args.is_warned || has_text t) c.deref-2.ensures.value in
+    let told = c.is_warned_by-is_warned.ensures ∙ ap (λ t. c.args.is_warned || is_not_empty t) c.deref-2.ensures.value in
     let e = ap (λ b. refuses_input options input s || (options.strict_tree && b)) (sym told) ∙ sym c.is_refused.ensures ∙ c.if-is_refused.true in
     record {
       solution = s;
@@ -43,7 +43,7 @@ returns-clause-computes c = λ files lines are.
     let options = c.args.options.now in
     let s = c.in_ok-solved.solved in
     let input = c.args.input.now in
-    let told = c.is_warned_by-is_warned.ensures ∙ ap (λ t. c.args.is_warned || has_text t) c.deref-2.ensures.value in
+    let told = c.is_warned_by-is_warned.ensures ∙ ap (λ t. c.args.is_warned || is_not_empty t) c.deref-2.ensures.value in
     let e = ap (λ b. refuses_input options input s || (options.strict_tree && b)) (sym told) ∙ sym c.is_refused.ensures ∙ c.if-is_refused.false in
     record {
       solution = s;

@@ -2,7 +2,7 @@
 use Rattle.std.proofs.Common.{◌∙◌, ap, sym, option_map, not}
 use Rattle.std.proofs.lemmas.Result.{err_from_is_err_and}
 use Rattle.kc_io.proofs.LogLemmas.{leads_nothing}
-use Rattle.kc_language.specs.Outcome.{has_text, lines_text}
+use Rattle.kc_language.specs.Outcome.{is_not_empty, lines_text}
 use Rattle.kc_conf.proofs.OutcomeLemmas.{lines_some}
 use Rattle.kc_conf.specs.RefusedNames.{refused_line}
 use Rattle.kc_conf.proofs.PartOutcomes.{names-taken}
@@ -36,7 +36,7 @@ run_inputs-requires-clause-taken g c =
 
 pub run_inputs-requires-clause-warned : goal.run_inputs-requires-clause-warned
 run_inputs-requires-clause-warned g c =
-    ap not c.is_empty.ensures ∙ lines_some c.parse_warnings-warnings.result.now ∙ ap (λ l. has_text (lines_text l)) c.parse_warnings-warnings.ensures
+    ap not c.is_empty.ensures ∙ lines_some c.parse_warnings-warnings.result.now ∙ ap (λ l. is_not_empty (lines_text l)) c.parse_warnings-warnings.ensures
 
 pub returns-in-Ok : goal.returns-in-Ok
 returns-in-Ok g c = λ files of.

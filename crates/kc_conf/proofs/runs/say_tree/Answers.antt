@@ -2,7 +2,7 @@
 use Rattle.std.proofs.Common.{◌≡◌, ◌≢◌, ◌∙◌, ℕ, List, [], ap, map, sym, true, false, not, OnOk, Result, Ok, Err}
 use Rattle.std.specs.Prelude.{IfErr}
 use Rattle.kc_io.specs.Log.{Leads, Log}
-use Rattle.kc_language.specs.Outcome.{has_text, lines_text}
+use Rattle.kc_language.specs.Outcome.{is_not_empty, lines_text}
 use Rattle.kc_conf.specs.PartRuns.{SaysLines}
 use Rattle.kc_conf.specs.Reads.{IsReportOrMemory}
 use Rattle.kc_conf.specs.Faults.{event_of}
@@ -21,4 +21,4 @@ pub returns : goal.returns
 returns g c =
     let lines = c.args.warnings.now in
     said (lines_text (map (λ line. line.items) lines)) c.say_lines.result (g.D.Device.log c.args.device.now) (g.D.Device.log c.say_lines.new.device)
-    (λ e. let both : true ≡ false = ap not (sym c.if-is_empty.false ∙ c.is_empty.ensures) ∙ lines_some lines ∙ ap has_text e in cc) c.say_lines.ensures.ok c.say_lines.ensures.err
+    (λ e. let both : true ≡ false = ap not (sym c.if-is_empty.false ∙ c.is_empty.ensures) ∙ lines_some lines ∙ ap is_not_empty e in cc) c.say_lines.ensures.ok c.say_lines.ensures.err

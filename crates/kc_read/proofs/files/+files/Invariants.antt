@@ -2,7 +2,7 @@ use Rattle.std.proofs.Common.{◌≡◌, ◌+◌, ◌-◌, ◌*◌, List, [], No
 use Rattle.std.proofs.Common.{ℕ}
 use Rattle.kc_language.specs.Lines.{unread_lines}
 use Rattle.kc_expr.specs.Names.{Extends}
-use Rattle.kc_language.specs.Expansion.{FileContext, Log}
+use Rattle.kc_language.specs.Expansion.{FileContext, ReadSoFar}
 use Rattle.kc_read.specs.Files.{files_in}
 use Rattle.kc_read.specs.Progress.{HasAdvanced, IsBounded, IsShallow, IsState}
 use Rattle.kc_read.proofs.files.+files.Given as goal
@@ -21,7 +21,7 @@ decreases-source l = 4 * (64 - length l.progress.now.open_files.items)
 
 abbrev pub invariant-read_file-loop-tokens : goal.invariant-read_file-loop-tokens
 invariant-read_file-loop-tokens l = record {
-  read : (first : List (List ℕ)) (a : FileContext) (log : Log) → IsState first l.fn.names a [] log l.fn.progress l.fn.frame →
+  read : (first : List (List ℕ)) (a : FileContext) (log : ReadSoFar) → IsState first l.fn.names a [] log l.fn.progress l.fn.frame →
       HasAdvanced (files_in l.reader.map.now) first l.names a (unread_lines l.file 1) l.lines [] log l.progress l.frame;
   clear : l.lines.refusal ≡ None;
   shallow : IsShallow l.frame;
