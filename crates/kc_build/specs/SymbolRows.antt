@@ -16,6 +16,7 @@ use Rattle.kc_language.specs.declared.symbols.LineWarning.{LineWarning as Warnin
 use Rattle.kc_language.specs.Symbols.{listed, type_of, choice_of, enclosing_choice, definitions_of, stated_default, single_symbol, symbol_at, is_selectable, is_first_definition_at, menu_entry_at}
 use Rattle.kc_read.specs.PartsOfSymbols.{line_warnings_by}
 use Rattle.kc_tree.specs.Spans.{definition_ids}
+use Rattle.kc_read.specs.ListFacts.{AreBelow}
 
 -- What is found of a symbol: its type, its choice and the numbers of its definitions.
 pub record SymbolRow : Type 0 where

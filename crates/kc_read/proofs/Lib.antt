@@ -38,7 +38,7 @@ pub mod QuietFiles
 pub mod ReadTextLemmas
 pub mod ReplacedLemmas
 pub mod RestLemmas
-pub mod Rows
+mod Rows
 pub mod ScopeLemmas
 pub mod ShapeLemmas
 pub mod ShownLemmas
