@@ -10,7 +10,7 @@ use Rattle.kc_language.specs.Statements.{Cause, Numbered, Located, Named, statem
 use Rattle.kc_diagnostics.specs.Causes.{owned_cause}
 use Rattle.kc_language.specs.declared.diagnostics.Cause.TheVariants as cause
 use Rattle.kc_read.specs.declared.refusal.Refusal.{Refusal}
-use Rattle.kc_language.specs.Expansion.{Expands, ReadSoFar, Refused, refused_at, Files, mentioned_names, numbered_lines}
+use Rattle.kc_language.specs.Expansion.{Expands, ReadSoFar, Refused, refusal_at, Files, mentioned_names, numbered_lines}
 use Rattle.kc_read.specs.PartsOfExpansion.{defined}
 use Rattle.kc_read.specs.Expansion.{OneExpansion}
 use Rattle.kc_read.specs.Entries.{lines_in}
@@ -46,7 +46,7 @@ refusal_codes names ls =
 
     one_code : (c : List ℕ → Cause) → ((n : List ℕ) → c n ≢ cause.Memory) → (i : ℕ) → All (λ r. r.cause ≢ cause.Memory) (refused_at names ls c i)
     one_code c ne i = All-map_each (λ (r : Refused). r.cause ≢ cause.Memory)
-        (λ (l : Located Numbered). refused_at (c (entry_name names (entry_symbol (menu_entry_at line_statements i)))) l.file l.line) (λ l. ne (entry_name names (entry_symbol (menu_entry_at line_statements i)))) (listed (slice_get ls i))
+        (λ (l : Located Numbered). refusal_at (c (entry_name names (entry_symbol (menu_entry_at line_statements i)))) l.file l.line) (λ l. ne (entry_name names (entry_symbol (menu_entry_at line_statements i)))) (listed (slice_get ls i))
 
 not_memory : (rs : List Refused) (t : TreeFacts) (v : Refused) → All (λ r. r.cause ≢ cause.Memory) rs → Err v ≡ unless_refused rs t → v.cause ≢ cause.Memory
 not_memory [] t v a h = absurd cc

@@ -2,7 +2,7 @@
 use Rattle.std.specs.Prelude.{ℕ, List, Option, Some, None, option_map, if◌then◌else◌}
 use Rattle.kc_language.specs.Statements.{Cause, Numbered, Located}
 use Rattle.kc_language.specs.declared.diagnostics.Cause.TheVariants as cause
-use Rattle.kc_language.specs.Expansion.{Refused, refused_at}
+use Rattle.kc_language.specs.Expansion.{Refused, refusal_at}
 use Rattle.kc_language.specs.declared.symbols.MenuEntry.{MenuEntry}
 use Rattle.kc_build.specs.declared.diagnostics.EntrySummary.{EntrySummary}
 use Rattle.kc_language.specs.declared.symbols.ChoiceId.{ChoiceId}
@@ -13,7 +13,7 @@ use Rattle.kc_read.specs.PartsOfSymbols.{is_bad_default, is_bad_member}
 
 -- the refusal of a line at a place, which names its entry
 abbrev pub entry_refusal : List (List ℕ) → (List ℕ → Cause) → MenuEntry → List ℕ → ℕ → Refused
-entry_refusal names c o file line = refused_at (c (entry_name names (entry_symbol o))) file line
+entry_refusal names c o file line = refusal_at (c (entry_name names (entry_symbol o))) file line
 
 -- the refusal of a line that defines a member it may not, by what is known of the symbols and by the summary of its entry
 abbrev pub bad_member_of : List (List ℕ) → List Symbol → EntrySummary → Located Numbered → Option Refused

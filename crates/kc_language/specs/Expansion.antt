@@ -109,8 +109,8 @@ pub record Refused : Type 0 where
   pub cause : Cause
   pub location : Option (List ℕ × ℕ)
 
-abbrev pub refused_at : Cause → List ℕ → ℕ → Refused
-refused_at c file line = record { cause = c; location = Some (file, line) }
+abbrev pub refusal_at : Cause → List ℕ → ℕ → Refused
+refusal_at c file line = record { cause = c; location = Some (file, line) }
 
 -- What surrounds a file: the open files, of which it is the last, and the blocks that are open in the files that source it.
 pub record FileContext : Type 0 where
@@ -213,11 +213,11 @@ pub data Rest (files : Files) : FileContext → UnreadLines → List (Located Na
   at_end : (a : FileContext) (l : UnreadLines) (own : List (Located Named)) (log : ReadSoFar) → l.lines ≡ [] → open_blocks (statements own) ≡ [] →
       Rest files a l own log (Ok log)
   unclosed : (a : FileContext) (l : UnreadLines) (own : List (Located Named)) (log : ReadSoFar) (opener : Located Named) → l.lines ≡ [] → IsUnclosed own opener →
-      Rest files a l own log (Err (refused_at cause.Block opener.file opener.line))
+      Rest files a l own log (Err (refusal_at cause.Block opener.file opener.line))
   too_long : (a : FileContext) (l : UnreadLines) (own : List (Located Named)) (log : ReadSoFar) → IsTooLong l →
-      Rest files a l own log (Err (refused_at cause.LineTooLong a.file l.number))
+      Rest files a l own log (Err (refusal_at cause.LineTooLong a.file l.number))
   no_tokens : (a : FileContext) (l m : UnreadLines) (own : List (Located Named)) (log : ReadSoFar) (ts : List Lexeme) (why : TextFault) →
-      NextLine files.flat l m ts (Some why) → Rest files a l own log (Err (refused_at (text_cause why) a.file l.number))
+      NextLine files.flat l m ts (Some why) → Rest files a l own log (Err (refusal_at (text_cause why) a.file l.number))
   blank : (a : FileContext) (l m : UnreadLines) (own : List (Located Named)) (log : ReadSoFar) (r : Result ReadSoFar Refused) →
       IsBlankNext files.flat l m → Rest files a m own log r → Rest files a l own log r
   -- A marker of the same file changes the number alone. One of another file is like a `source` line whose file's lines follow here.
@@ -227,15 +227,15 @@ pub data Rest (files : Files) : FileContext → UnreadLines → List (Located Na
       MarksNext files.flat l m n name → same_name name a.file ≡ false → Rest files (record a { file = name }) (record m { number = n })
       (with_line own a l.number (SourceLine name)) (record log { opened = mention log.opened name }) r → Rest files a l own log r
   bad_line : (a : FileContext) (l m : UnreadLines) (own : List (Located Named)) (log : ReadSoFar) (c : Cause) →
-      NextStatement files.flat l m (context_of a own log) (Err c) → Rest files a l own log (Err (refused_at c a.file l.number))
+      NextStatement files.flat l m (context_of a own log) (Err c) → Rest files a l own log (Err (refusal_at c a.file l.number))
   over_limit : (a : FileContext) (l m : UnreadLines) (own : List (Located Named)) (log : ReadSoFar) (s : Named) (c : Cause) →
-      NextStatement files.flat l m (context_of a own log) (Ok s) → limit_cause a own log s ≡ Some c → Rest files a l own log (Err (refused_at c a.file l.number))
+      NextStatement files.flat l m (context_of a own log) (Ok s) → limit_cause a own log s ≡ Some c → Rest files a l own log (Err (refusal_at c a.file l.number))
   statement : (a : FileContext) (l m : UnreadLines) (own : List (Located Named)) (log : ReadSoFar) (s : Named) (r : Result ReadSoFar Refused) →
       NextStatement files.flat l m (context_of a own log) (Ok s) → elim s [ SourceLine t ↦ true | _ ↦ false ] ≡ false → limit_cause a own log s ≡ None →
       Rest files a m (with_line own a l.number s) (record log { lines = with_line log.lines a l.number s }) r → Rest files a l own log r
   bad_source : (a : FileContext) (l m : UnreadLines) (own : List (Located Named)) (log : ReadSoFar) (name : List ℕ) (c : Cause) →
       NextStatement files.flat l m (context_of a own log) (Ok (SourceLine name)) → sourcing_cause files a.open_files log.total_lines name ≡ Some c →
-      Rest files a l own log (Err (refused_at c a.file l.number))
+      Rest files a l own log (Err (refusal_at c a.file l.number))
   refused_inside : (a : FileContext) (l m : UnreadLines) (own : List (Located Named)) (log : ReadSoFar) (name bytes : List ℕ) (e : Refused) →
       NextStatement files.flat l m (context_of a own log) (Ok (SourceLine name)) → sourcing_cause files a.open_files log.total_lines name ≡ None →
       sourced files name ≡ Some bytes → Rest files (inside a own name) (unread_lines bytes 1) [] (with_file log name bytes) (Err e) → Rest files a l own log (Err e)
@@ -252,7 +252,7 @@ abbrev pub Expands : Files → List ℕ → Result ReadSoFar Refused → Type 0
 Expands files root r = MatchOption (bytes_cause root 0 (files.bytes root))
     ((bytes : List ℕ) × (files.bytes root ≡ Some bytes) × Rest files (record { open_files = root ∷ []; file = root; blocks = [] })
     (unread_lines bytes 1) [] (first_log files root bytes) r)
-    (λ c. r ≡ Err (refused_at c root 0))
+    (λ c. r ≡ Err (refusal_at c root 0))
 
 -- Where the root file is accepted, these are the files that are opened, each once, as first opened.
 abbrev pub AreOpened : Files → List ℕ → List (List ℕ) → Type 0

@@ -35,12 +35,12 @@ module _ (tree : TreeFacts) where
   names_of_choice (Some c) = flat_map (λ m. elim (facts tree m) [ None ↦ [] | Some f ↦ flat_map condition_names f.prompts ]) c.members ++
       (conjunct_names c.prompt ++ guarded_names (λ s. []) c.defaults)
 
-  abbrev pub needs_of : Option SymbolFacts → List SymId
-  needs_of o = elim o [ None ↦ [] | Some f ↦ elim f.choice [ None ↦ names_by_type f f.symbol_type | Some c ↦ names_of_choice (choice_at tree c) ] ]
+  abbrev pub named_by : Option SymbolFacts → List SymId
+  named_by o = elim o [ None ↦ [] | Some f ↦ elim f.choice [ None ↦ names_by_type f f.symbol_type | Some c ↦ names_of_choice (choice_at tree c) ] ]
 
   -- What the symbol of a number needs: the symbols that its equation names, by number.
   abbrev pub needs_of : ℕ → List ℕ
-  needs_of i = map (λ (s : SymId). s.0) (filter (λ s. nat_lt s.0 (name_count tree)) (needs_of (facts tree (symbol i))))
+  needs_of i = map (λ (s : SymId). s.0) (filter (λ s. nat_lt s.0 (name_count tree)) (named_by (facts tree (symbol i))))
 
   abbrev pub needs : List (List ℕ)
   needs = map needs_of (range_with_len 0 (length tree.symbols))

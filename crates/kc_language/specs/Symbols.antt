@@ -2,7 +2,7 @@
 -- The rules are those of the kernel's kconfig-language document ("Menu attributes", "Menu dependencies") and of kconfiglib. The texts are our own.
 use Rattle.std.specs.{List.list_any, Option.option_or, Prelude.{Bool, Err, List, None, Ok, Option, Result, Some, [], codes, count_by, decimal, false, filter, filter_map, flat_map, if◌then◌else◌, is_none, is_some, length, map, not, option_and_then, option_map, position, reverse, slice_get, slice_index_or, suc, take, take_while, true, unwrap_or, ℕ, ◌&&◌, ◌++◌, ◌==◌, ◌||◌, ◌∷◌, ◌≡◌}}
 pub use Rattle.std.specs.Option.{option_to_list as listed}
-use Rattle.kc_language.specs.{Expansion.{Expands, Files, ReadSoFar, Refused, attributes, bracket_at, defined_name, definitions, enclosing, is_attribute, is_no_attribute, last_of, modules_of, mentioned_names, numbered_lines, numbers, opened, refused_at}, Expressions.{Form, Leaf, Single, Symbol, same_name, same_symbol, symbol}, Statements.{Cause, ChoiceLine, CommentLine, ConfigLine, DefLine, DefaultLine, DependsLine, EndMenuLine, IfLine, ImplyLine, InputPrompt, Located, MainMenuLine, MenuLine, Numbered, PromptLine, RangeLine, SelectLine, TypeLine, VisibleLine, statements}, declared.{diagnostics.Cause.TheVariants.{BadDefault, ChoiceMember}, diagnostics.Warning.{TheVariants.{Changed, DefaultNotMember, DefaultOutside, Lost, LostWithoutPrompt, MalformedLine, MemberTarget, NotAllowed, PromptRedefined, Selected, SetAgain, TextTarget, TextUnset, TypeRedefined, UnknownSymbol, UserOutside, WithoutType}, Warning as WarningAbout}, expressions.SymId.SymId, expressions.SymbolType.SymbolType, statements.Block.Block, symbols.LineWarning.LineWarning, symbols.MenuEntry.MenuEntry, symbols.SelectOrImply.SelectOrImply}}
+use Rattle.kc_language.specs.{Expansion.{Expands, Files, ReadSoFar, Refused, attributes, bracket_at, defined_name, definitions, enclosing, is_attribute, is_no_attribute, last_of, modules_of, mentioned_names, numbered_lines, numbers, opened, refusal_at}, Expressions.{Form, Leaf, Single, Symbol, same_name, same_symbol, symbol}, Statements.{Cause, ChoiceLine, CommentLine, ConfigLine, DefLine, DefaultLine, DependsLine, EndMenuLine, IfLine, ImplyLine, InputPrompt, Located, MainMenuLine, MenuLine, Numbered, PromptLine, RangeLine, SelectLine, TypeLine, VisibleLine, statements}, declared.{diagnostics.Cause.TheVariants.{BadDefault, ChoiceMember}, diagnostics.Warning.{TheVariants.{Changed, DefaultNotMember, DefaultOutside, Lost, LostWithoutPrompt, MalformedLine, MemberTarget, NotAllowed, PromptRedefined, Selected, SetAgain, TextTarget, TextUnset, TypeRedefined, UnknownSymbol, UserOutside, WithoutType}, Warning as WarningAbout}, expressions.SymId.SymId, expressions.SymbolType.SymbolType, statements.Block.Block, symbols.LineWarning.LineWarning, symbols.MenuEntry.MenuEntry, symbols.SelectOrImply.SelectOrImply}}
 
 -- The least value of these expressions and, where there is one, of the mode of that choice.
 pub record Condition : Type 0 where
@@ -330,7 +330,7 @@ module _ (names : List (List ℕ)) where
 module _ (names : List (List ℕ)) (ls : List (Located Numbered)) where
   -- a refusal at statement i, which names its entry
   abbrev pub refused_at : (List ℕ → Cause) → ℕ → List Refused
-  refused_at c i = map (λ l. refused_at (c (entry_name names (entry_symbol (menu_entry_at (statements ls) i)))) l.file l.line) (listed (slice_get ls i))
+  refused_at c i = map (λ l. refusal_at (c (entry_name names (entry_symbol (menu_entry_at (statements ls) i)))) l.file l.line) (listed (slice_get ls i))
 
   -- what all statements say, if none is refused; the first refusal or, without one, this tree
   abbrev pub facts_with : TreeFacts

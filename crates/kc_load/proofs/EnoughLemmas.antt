@@ -9,7 +9,7 @@ use Rattle.std.specs.Str.{is_utf8}
 use Rattle.kc_language.specs.Lines.{UnreadLines, unread_lines}
 use Rattle.kc_language.specs.Expressions.{same_name}
 use Rattle.kc_language.specs.declared.diagnostics.Cause.TheVariants as cause
-use Rattle.kc_language.specs.Expansion.{FileContext, Expands, ReadSoFar, Refused, Rest, bytes_cause, first_log, refused_at, sourcing_cause, at_end, unclosed, too_long, no_tokens, blank, renumbered, moved, bad_line, over_limit, statement, bad_source, refused_inside, source}
+use Rattle.kc_language.specs.Expansion.{FileContext, Expands, ReadSoFar, Refused, Rest, bytes_cause, first_log, refusal_at, sourcing_cause, at_end, unclosed, too_long, no_tokens, blank, renumbered, moved, bad_line, over_limit, statement, bad_source, refused_inside, source}
 use Rattle.kc_read.specs.PartsOfExpansion.{root_context}
 use Rattle.kc_language.specs.Statements.{Cause, Located, Named}
 use Rattle.kc_read.specs.OpenedFiles.{sourced_files}
@@ -114,21 +114,21 @@ module _ (folder_files : List ℕ → Option (List ℕ)) (dir first : List ℕ) 
   pub forward : (r : Result ReadSoFar Refused) → Expands (tree_of (named folder_files dir)) first r → Expands (tree_of loaded) first r
   forward r d = by (bytes_cause first 0 (named folder_files dir first)) refl d
     where
-      by : (o : Option Cause) → bytes_cause first 0 (named folder_files dir first) ≡ o → MatchOption o (RootGives (named folder_files dir) first r) (λ c. r ≡ Err (refused_at c first 0)) → Expands (tree_of loaded) first r
-      by None e x = subst (λ (k : Option Cause). MatchOption k (RootGives loaded first r) (λ c. r ≡ Err (refused_at c first 0))) (sym (ap (bytes_cause first 0) same_root ∙ e)) (opened_alike r e x)
-      by (Some c) e x = subst (λ (k : Option Cause). MatchOption k (RootGives loaded first r) (λ c. r ≡ Err (refused_at c first 0))) (sym (ap (bytes_cause first 0) same_root ∙ e)) x
+      by : (o : Option Cause) → bytes_cause first 0 (named folder_files dir first) ≡ o → MatchOption o (RootGives (named folder_files dir) first r) (λ c. r ≡ Err (refusal_at c first 0)) → Expands (tree_of loaded) first r
+      by None e x = subst (λ (k : Option Cause). MatchOption k (RootGives loaded first r) (λ c. r ≡ Err (refusal_at c first 0))) (sym (ap (bytes_cause first 0) same_root ∙ e)) (opened_alike r e x)
+      by (Some c) e x = subst (λ (k : Option Cause). MatchOption k (RootGives loaded first r) (λ c. r ≡ Err (refusal_at c first 0))) (sym (ap (bytes_cause first 0) same_root ∙ e)) x
 
   -- the files of the lines
   lines_alike : (log : ReadSoFar) → Expands (tree_of (named folder_files dir)) first (Ok log) → All (λ (l : Located Named). loaded l.file ≡ named folder_files dir l.file) log.lines
   lines_alike log d = by (bytes_cause first 0 (named folder_files dir first)) refl d
     where
       by : (o : Option Cause) → bytes_cause first 0 (named folder_files dir first) ≡ o →
-          MatchOption o (RootGives (named folder_files dir) first (Ok log)) (λ c. Ok log ≡ Err (refused_at c first 0)) →
+          MatchOption o (RootGives (named folder_files dir) first (Ok log)) (λ c. Ok log ≡ Err (refusal_at c first 0)) →
           All (λ (l : Located Named). loaded l.file ≡ named folder_files dir l.file) log.lines
       by None e (bytes, there, d) =
           of_lines (named folder_files dir) (λ y. loaded y ≡ named folder_files dir y) d same_root (requested_agree bytes (Ok log) e there d)
           (All-nil (λ (l : Located Named). loaded l.file ≡ named folder_files dir l.file))
-      by (Some c) e x = absurd (let clash : Ok log ≡ Err (refused_at c first 0) = x in cc)
+      by (Some c) e x = absurd (let clash : Ok log ≡ Err (refusal_at c first 0) = x in cc)
 
   pub alike : ExpandsAlike first (tree_of (named folder_files dir)) (tree_of loaded)
   alike = record { gives = λ r. (forward r, back r); holds = lines_alike }

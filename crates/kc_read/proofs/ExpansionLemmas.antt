@@ -7,7 +7,7 @@ use Rattle.std.proofs.lemmas.List.Folds.{list_any-append}
 use Rattle.kc_language.specs.Lines.{UnreadLines, unread_lines}
 use Rattle.kc_language.specs.declared.statements.Block.{Block}
 use Rattle.kc_language.specs.declared.statements.Block.TheVariants as block
-use Rattle.kc_language.specs.Expansion.{Files, Bracket, Opens, Closes, NoBracket, bracket, last_of, open_blocks, FileContext, ReadSoFar, Refused, Rest, Expands, bytes_cause, first_log, inside, with_file, refused_at, is_choice_block, context_of, with_line, at_end, unclosed, too_long, no_tokens, blank, renumbered, moved, bad_line, over_limit, statement, bad_source, refused_inside, source}
+use Rattle.kc_language.specs.Expansion.{Files, Bracket, Opens, Closes, NoBracket, bracket, last_of, open_blocks, FileContext, ReadSoFar, Refused, Rest, Expands, bytes_cause, first_log, inside, with_file, refusal_at, is_choice_block, context_of, with_line, at_end, unclosed, too_long, no_tokens, blank, renumbered, moved, bad_line, over_limit, statement, bad_source, refused_inside, source}
 use Rattle.kc_read.specs.PartsOfExpansion.{root_context, logged}
 use Rattle.kc_language.specs.Statements.{Statement, Named, Located, IfLine, EndIfLine, SourceLine, MenuLine, EndMenuLine, ChoiceLine, EndChoiceLine, statements, Cause, LineContext}
 use Rattle.kc_read.specs.Progress.{Opener, located_blocks, open_blocks_after}
@@ -171,7 +171,7 @@ pub expansion_is_nested : (files : Files) (root : List ℕ) (log : ReadSoFar) �
 expansion_is_nested files root log x = by (bytes_cause root 0 (files.bytes root)) x
   where
     by : (o : Option Cause) → MatchOption o ((bytes : List ℕ) × (files.bytes root ≡ Some bytes)
-        × Rest files (root_context root) (unread_lines bytes 1) [] (first_log files root bytes) (Ok log)) (λ c. Ok log ≡ Err (refused_at c root 0)) →
+        × Rest files (root_context root) (unread_lines bytes 1) [] (first_log files root bytes) (Ok log)) (λ c. Ok log ≡ Err (refusal_at c root 0)) →
         IsNested [] (statements log.lines)
     by None e = rest_leaves e.2 (record { nested = λ i s f. absurd cc; blocks = refl })
     by (Some c) e = absurd cc

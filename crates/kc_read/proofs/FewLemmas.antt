@@ -5,7 +5,7 @@ use Rattle.std.proofs.lemmas.Bool.Decides.{nat_tests}
 use Rattle.kc_language.specs.Expressions.{mention, same_name}
 use Rattle.kc_language.specs.Lines.{UnreadLines, unread_lines}
 use Rattle.kc_language.specs.declared.diagnostics.Cause.TheVariants as cause
-use Rattle.kc_language.specs.Expansion.{FileContext, Expands, ReadSoFar, Refused, Rest, bytes_cause, first_log, refused_at, sourced, sourcing_cause, at_end, unclosed, too_long, no_tokens, blank, renumbered, moved, bad_line, over_limit, statement, bad_source, refused_inside, source, Files}
+use Rattle.kc_language.specs.Expansion.{FileContext, Expands, ReadSoFar, Refused, Rest, bytes_cause, first_log, refusal_at, sourced, sourcing_cause, at_end, unclosed, too_long, no_tokens, blank, renumbered, moved, bad_line, over_limit, statement, bad_source, refused_inside, source, Files}
 use Rattle.kc_read.specs.PartsOfExpansion.{lines_of, root_context}
 use Rattle.kc_language.specs.Text.{most_lines}
 use Rattle.kc_text.specs.PartsOfText.{most_files}
@@ -71,7 +71,7 @@ expansion_few files root log x = by (bytes_cause root 0 (files.bytes root)) refl
   where
     by : (o : Option Cause) → bytes_cause root 0 (files.bytes root) ≡ o →
         MatchOption o ((bytes : List ℕ) × (files.bytes root ≡ Some bytes) × Rest files (root_context root) (unread_lines bytes 1) [] (first_log files root bytes) (Ok log))
-        (λ c. Ok log ≡ Err (refused_at c root 0)) → length log.lines ≤ most_lines
+        (λ c. Ok log ≡ Err (refusal_at c root 0)) → length log.lines ≤ most_lines
     by None none e =
         let few : lines_of e.0 ≤ most_lines = omega (arith, few_opened root 0 e.0 (ap (bytes_cause root 0) (sym e.1) ∙ none)) in
         let h = rest_adds e.2 in

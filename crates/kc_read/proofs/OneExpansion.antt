@@ -11,7 +11,7 @@ use Rattle.kc_read.proofs.FileLemmas.{same_name_eq}
 use Rattle.kc_expr.proofs.NamesLemmas.{same_name-refl}
 use Rattle.std.proofs.lemmas.Bool.{both_ways, cases_Bool, false≢true}
 use Rattle.kc_language.specs.declared.diagnostics.Cause.TheVariants as cause
-use Rattle.kc_language.specs.Expansion.{last_of, open_blocks, FileContext, ReadSoFar, Refused, Rest, IsBlankNext, IsMarker, IsUnclosed, MarksNext, NextLine, NextStatement, first_log, sourced, refused_at, bytes_cause, context_of, limit_cause, inside, with_file, text_cause, with_line, without_help, at_end, unclosed, too_long, no_tokens, blank, renumbered, moved, bad_line, over_limit, statement, bad_source, refused_inside, source, Files}
+use Rattle.kc_language.specs.Expansion.{last_of, open_blocks, FileContext, ReadSoFar, Refused, Rest, IsBlankNext, IsMarker, IsUnclosed, MarksNext, NextLine, NextStatement, first_log, sourced, refusal_at, bytes_cause, context_of, limit_cause, inside, with_file, text_cause, with_line, without_help, at_end, unclosed, too_long, no_tokens, blank, renumbered, moved, bad_line, over_limit, statement, bad_source, refused_inside, source, Files}
 use Rattle.kc_read.specs.PartsOfExpansion.{is_help, is_source, logged, root_context}
 use Rattle.kc_read.specs.PartsOfExpansion.{innermost, source_cause}
 use Rattle.kc_read.specs.Expansion.{OneExpansion}
@@ -132,9 +132,9 @@ one_unclosed own line other u v =
 module _ (files : Files) (a : FileContext) (l : UnreadLines) (own : List (Located Named)) (log : ReadSoFar) where
   -- after a statement
   data Said (m : UnreadLines) (s : Named) (r : Result ReadSoFar Refused) : Type 0 where
-    said_effect : (c : Cause) → limit_cause a own log s ≡ Some c → r ≡ Err (refused_at c a.file l.number) → Said m s r
+    said_effect : (c : Cause) → limit_cause a own log s ≡ Some c → r ≡ Err (refusal_at c a.file l.number) → Said m s r
     said_plain : is_source s ≡ false → limit_cause a own log s ≡ None → Rest files a m (with_line own a l.number s) (logged log a l.number s) r → Said m s r
-    said_bad_source : (name : List ℕ) (c : Cause) → s ≡ SourceLine name → source_cause files a log.total_lines name ≡ Some c → r ≡ Err (refused_at c a.file l.number) → Said m s r
+    said_bad_source : (name : List ℕ) (c : Cause) → s ≡ SourceLine name → source_cause files a log.total_lines name ≡ Some c → r ≡ Err (refusal_at c a.file l.number) → Said m s r
     said_inside : (name bytes : List ℕ) (e : Refused) → s ≡ SourceLine name → source_cause files a log.total_lines name ≡ None → sourced files name ≡ Some bytes →
         Rest files (inside a own name) (unread_lines bytes 1) [] (with_file log name bytes) (Err e) → r ≡ Err e → Said m s r
     said_source : (name bytes : List ℕ) (more : ReadSoFar) → s ≡ SourceLine name → source_cause files a log.total_lines name ≡ None → sourced files name ≡ Some bytes →
@@ -143,7 +143,7 @@ module _ (files : Files) (a : FileContext) (l : UnreadLines) (own : List (Locate
 
   abbrev Says : UnreadLines → Result Named Cause → Result ReadSoFar Refused → Type 0
   Says m (Ok s) r = Said m s r
-  Says m (Err c) r = r ≡ Err (refused_at c a.file l.number)
+  Says m (Err c) r = r ≡ Err (refusal_at c a.file l.number)
 
   -- behind a line without tokens
   abbrev Behind : UnreadLines → Mark → Result ReadSoFar Refused → Type 0
@@ -153,9 +153,9 @@ module _ (files : Files) (a : FileContext) (l : UnreadLines) (own : List (Locate
       Rest files (record a { file = name }) (record m { number = n }) (with_line own a l.number (SourceLine name)) (record log { opened = mention log.opened name }) r
 
   abbrev Gives : Turn → Result ReadSoFar Refused → Type 0
-  Gives Ends r = ((open_blocks (statements own) ≡ []) × (r ≡ Ok log)) ⊎ ((line : Located Named) × IsUnclosed own line × (r ≡ Err (refused_at cause.Block line.file line.line)))
-  Gives Long r = r ≡ Err (refused_at cause.LineTooLong a.file l.number)
-  Gives (Line m ts (Some why)) r = r ≡ Err (refused_at (text_cause why) a.file l.number)
+  Gives Ends r = ((open_blocks (statements own) ≡ []) × (r ≡ Ok log)) ⊎ ((line : Located Named) × IsUnclosed own line × (r ≡ Err (refusal_at cause.Block line.file line.line)))
+  Gives Long r = r ≡ Err (refusal_at cause.LineTooLong a.file l.number)
+  Gives (Line m ts (Some why)) r = r ≡ Err (refusal_at (text_cause why) a.file l.number)
   Gives (Line m ts None) r = ((ts ≡ []) × ((x : Mark) × IsMark files.flat a.file l m x × Behind m x r)) ⊎ ((ts ≢ []) × ((s : Result Named Cause) × ReadsLine (context_of a own log) ts s × Says m s r))
 
   -- how the file goes on, and what that gives
@@ -230,12 +230,12 @@ same_source s name other e f = one_name name other (sym e ∙ f)
 source_effect : (a : FileContext) (own : List (Located Named)) (log : ReadSoFar) (s : Named) (name : List ℕ) → s ≡ SourceLine name → limit_cause a own log s ≡ None
 source_effect a own log s name e = ap (limit_cause a own log) e
 
-abbrev refused_at : FileContext → UnreadLines → Cause → Result ReadSoFar Refused
-refused_at a l c = Err (refused_at c a.file l.number)
+abbrev refusal_at : FileContext → UnreadLines → Cause → Result ReadSoFar Refused
+refusal_at a l c = Err (refusal_at c a.file l.number)
 
 module _ (files : Files) (a : FileContext) (l m : UnreadLines) (own : List (Located Named)) (log : ReadSoFar) (other : Result ReadSoFar Refused) where
-  same_effect : (s : Named) (c : Cause) → limit_cause a own log s ≡ Some c → Said files a l own log m s other → refused_at a l c ≡ other
-  same_effect s c f (said_effect d g e) = ap (refused_at a l) (one_some (limit_cause a own log s) c d f g) ∙ sym e
+  same_effect : (s : Named) (c : Cause) → limit_cause a own log s ≡ Some c → Said files a l own log m s other → refusal_at a l c ≡ other
+  same_effect s c f (said_effect d g e) = ap (refusal_at a l) (one_some (limit_cause a own log s) c d f g) ∙ sym e
   same_effect s c f (said_plain p g e) = none_or_some (limit_cause a own log s) c g f
   same_effect s c f (said_bad_source name d e g h) = none_or_some (limit_cause a own log s) c (source_effect a own log s name e) f
   same_effect s c f (said_inside name bytes d e g h i j) = none_or_some (limit_cause a own log s) c (source_effect a own log s name e) f
@@ -249,11 +249,11 @@ module _ (files : Files) (a : FileContext) (l m : UnreadLines) (own : List (Loca
   same_plain s p f (said_source name bytes more e g h i j) = plain_or_source s name p e
 
   module _ (name : List ℕ) where
-    same_bad_source : (c : Cause) → source_cause files a log.total_lines name ≡ Some c → Said files a l own log m (SourceLine name) other → refused_at a l c ≡ other
+    same_bad_source : (c : Cause) → source_cause files a log.total_lines name ≡ Some c → Said files a l own log m (SourceLine name) other → refusal_at a l c ≡ other
     same_bad_source c f (said_effect d g e) = none_or_some (limit_cause a own log (SourceLine name)) d refl g
     same_bad_source c f (said_plain p g e) = plain_or_source (SourceLine name) name p refl
     same_bad_source c f (said_bad_source n d e g h) =
-        ap (refused_at a l) (one_some (source_cause files a log.total_lines n) c d (subst (λ k. source_cause files a log.total_lines k ≡ Some c) (one_name name n e) f) g) ∙ sym h
+        ap (refusal_at a l) (one_some (source_cause files a log.total_lines n) c d (subst (λ k. source_cause files a log.total_lines k ≡ Some c) (one_name name n e) f) g) ∙ sym h
     same_bad_source c f (said_inside n bytes d e g h i j) =
         none_or_some (source_cause files a log.total_lines n) c g (subst (λ k. source_cause files a log.total_lines k ≡ Some c) (one_name name n e) f)
     same_bad_source c f (said_source n bytes more e g h i j) =
@@ -295,15 +295,15 @@ pub one_rest : {files : Files} {a : FileContext} {l : UnreadLines} {own : List (
     Rest files a l own log r → (other : Result ReadSoFar Refused) → Rest files a l own log other → r ≡ other
 one_rest {files} (at_end a l own log none closed) other e = by (gives files a l own log other Ends none e)
   where
-    by : ((open_blocks (statements own) ≡ []) × (other ≡ Ok log)) ⊎ ((line : Located Named) × IsUnclosed own line × (other ≡ Err (refused_at cause.Block line.file line.line))) → Ok log ≡ other
+    by : ((open_blocks (statements own) ≡ []) × (other ≡ Ok log)) ⊎ ((line : Located Named) × IsUnclosed own line × (other ≡ Err (refusal_at cause.Block line.file line.line))) → Ok log ≡ other
     by (inl x) = sym x.1
     by (inr x) = absurd (closed_or_not own x.0 closed x.1)
 one_rest {files} (unclosed a l own log line none unmatched) other e = by (gives files a l own log other Ends none e)
   where
-    by : ((open_blocks (statements own) ≡ []) × (other ≡ Ok log)) ⊎ ((n : Located Named) × IsUnclosed own n × (other ≡ Err (refused_at cause.Block n.file n.line))) →
-        Err (refused_at cause.Block line.file line.line) ≡ other
+    by : ((open_blocks (statements own) ≡ []) × (other ≡ Ok log)) ⊎ ((n : Located Named) × IsUnclosed own n × (other ≡ Err (refusal_at cause.Block n.file n.line))) →
+        Err (refusal_at cause.Block line.file line.line) ≡ other
     by (inl x) = absurd (closed_or_not own line x.0 unmatched)
-    by (inr x) = ap (λ n. Err (refused_at cause.Block n.file n.line)) (one_unclosed own line x.0 unmatched x.1) ∙ sym x.2
+    by (inr x) = ap (λ n. Err (refusal_at cause.Block n.file n.line)) (one_unclosed own line x.0 unmatched x.1) ∙ sym x.2
 one_rest {files} (too_long a l own log long) other e = sym (gives files a l own log other Long long e)
 one_rest {files} (no_tokens a l m own log ts why next) other e = sym (gives files a l own log other (Line m ts (Some why)) next e)
 one_rest {files} (blank a l m own log r next d) other e = one_rest d other (behind files a l m own log NoMark other next.0 next e)
@@ -333,7 +333,7 @@ RootGives files root r = (bytes : List ℕ) × (files.bytes root ≡ Some bytes)
 pub one_expansion_law : OneExpansion
 one_expansion_law files root r other d e = by (bytes_cause root 0 (files.bytes root)) d e
   where
-    by : (o : Option Cause) → MatchOption o (RootGives files root r) (λ c. r ≡ Err (refused_at c root 0)) → MatchOption o (RootGives files root other) (λ c. other ≡ Err (refused_at c root 0)) → r ≡ other
+    by : (o : Option Cause) → MatchOption o (RootGives files root r) (λ c. r ≡ Err (refusal_at c root 0)) → MatchOption o (RootGives files root other) (λ c. other ≡ Err (refusal_at c root 0)) → r ≡ other
     by (Some c) x y = x ∙ sym y
     by None x y =
         let b : y.0 ≡ x.0 = one_some (files.bytes root) y.0 x.0 y.1 x.1 in

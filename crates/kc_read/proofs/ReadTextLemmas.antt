@@ -13,7 +13,7 @@ use Rattle.kc_expr.specs.PartsOfExpressions.{is_tristate_constant, terminals}
 use Rattle.kc_language.specs.declared.diagnostics.Cause.TheVariants as cause
 use Rattle.kc_language.specs.declared.statements.Keyword.{Keyword}
 use Rattle.kc_language.specs.declared.statements.Keyword.TheVariants as key
-use Rattle.kc_language.specs.Expansion.{FileContext, ReadSoFar, Refused, Rest, Expands, NextLine, bytes_cause, context_of, first_log, refused_at, with_line, without_help, at_end, unclosed, too_long, no_tokens, blank, renumbered, moved, bad_line, over_limit, statement, bad_source, refused_inside, source, Files}
+use Rattle.kc_language.specs.Expansion.{FileContext, ReadSoFar, Refused, Rest, Expands, NextLine, bytes_cause, context_of, first_log, refusal_at, with_line, without_help, at_end, unclosed, too_long, no_tokens, blank, renumbered, moved, bad_line, over_limit, statement, bad_source, refused_inside, source, Files}
 use Rattle.kc_read.specs.PartsOfExpansion.{root_context, is_help}
 use Rattle.kc_language.specs.Statements.{Cause, LineContext, After, Front, IsCondition, ReadsLine, ReadsRest, ReadsWhole, ReadsCondition, ReadsTextLine, ReadsValue, ReadsPrompt, StartsExpression, begins_with, finish, is_good_name, keyword_of, operand_of, option_line, placement_cause, plain_text, named_target, text_of, word_of, Statement, InputPrompt, Named, Located, ConfigLine, IfLine, EndIfLine, CommentLine, SourceLine, MenuLine, EndMenuLine, ChoiceLine, EndChoiceLine, MainMenuLine, TypeLine, PromptLine, DefaultLine, DefLine, DependsLine, VisibleLine, SelectLine, ImplyLine, RangeLine, HelpLine, ModulesLine, IgnoredLine, names_in_condition, names_in_statement, statements}
 use Rattle.kc_read.specs.PartsOfStatements.{IsWhole, ReadsTarget, ReadsType, choice_line, expected}
@@ -263,10 +263,10 @@ module _ (files : Files) where
 
   by_bytes : (root : List ℕ) (log : ReadSoFar) (o : Option Cause) →
       MatchOption o ((bytes : List ℕ) × (files.bytes root ≡ Some bytes)
-      × Rest files (root_context root) (unread_lines bytes 1) [] (first_log files root bytes) (Ok log)) (λ c. Ok log ≡ Err (refused_at c root 0)) →
+      × Rest files (root_context root) (unread_lines bytes 1) [] (first_log files root bytes) (Ok log)) (λ c. Ok log ≡ Err (refusal_at c root 0)) →
       AreInLines log.lines
   by_bytes root log None h = rest_lines h.2 (file_lines h.0) (All-nil IsInLines)
-  by_bytes root log (Some c) h = absurd (let e : ◌≡◌ {A = Result ReadSoFar Refused} (Ok log) (Err (refused_at c root 0)) = h in cc)
+  by_bytes root log (Some c) h = absurd (let e : ◌≡◌ {A = Result ReadSoFar Refused} (Ok log) (Err (refusal_at c root 0)) = h in cc)
 
   -- each statement of an expanded list is what a line says
   pub expanded_lines : (root : List ℕ) (log : ReadSoFar) → Expands files root (Ok log) → All IsInLines (statements log.lines)

@@ -2,7 +2,7 @@
 use Rattle.std.proofs.Common.{◌≡◌, ℕ, List, [], ◌∷◌, ◌++◌, Option, Some, None, Result, Ok, Err, refl, sym, ap, subst, ◌∙◌, append_assoc, append-nil}
 use Rattle.std.specs.Prelude.{MatchOption, false}
 use Rattle.kc_language.specs.Lines.{UnreadLines, unread_lines}
-use Rattle.kc_language.specs.Expansion.{FileContext, ReadSoFar, Refused, Rest, IsBlankNext, MarksNext, NextStatement, context_of, bytes_cause, refused_at, first_log, sourced, at_end, unclosed, too_long, no_tokens, blank, renumbered, moved, bad_line, over_limit, statement, bad_source, refused_inside, source, Files}
+use Rattle.kc_language.specs.Expansion.{FileContext, ReadSoFar, Refused, Rest, IsBlankNext, MarksNext, NextStatement, context_of, bytes_cause, refusal_at, first_log, sourced, at_end, unclosed, too_long, no_tokens, blank, renumbered, moved, bad_line, over_limit, statement, bad_source, refused_inside, source, Files}
 use Rattle.kc_read.specs.PartsOfExpansion.{is_source, root_context}
 use Rattle.kc_language.specs.Statements.{Cause, LineContext, Located, Named, SourceLine}
 use Rattle.kc_language.specs.Expressions.{same_name}
@@ -85,9 +85,9 @@ pub expanded_is_list_of : ExpandedIsListOf
 expanded_is_list_of files root log h = by (bytes_cause root 0 (files.bytes root)) h
   where
     by : (o : Option Cause) → MatchOption o ((bytes : List ℕ) × (files.bytes root ≡ Some bytes)
-        × Rest files (root_context root) (unread_lines bytes 1) [] (first_log files root bytes) (Ok log)) (λ c. Ok log ≡ Err (refused_at c root 0)) →
+        × Rest files (root_context root) (unread_lines bytes 1) [] (first_log files root bytes) (Ok log)) (λ c. Ok log ≡ Err (refusal_at c root 0)) →
         IsListOf files root log.lines
     by None x =
         let m : Adds files root (unread_lines x.0 1) [] log.lines = made x.2 in
         record { bytes = x.0; there = x.1; own = m.own; owns = m.owns; replaces = subst (λ ls. Replaces files m.own ls) (sym m.lines) m.replaces }
-    by (Some c) e = absurd (let f : Ok log ≡ Err (refused_at c root 0) = e in cc)
+    by (Some c) e = absurd (let f : Ok log ≡ Err (refusal_at c root 0) = e in cc)

@@ -16,7 +16,7 @@ use Rattle.kc_language.specs.declared.statements.EntryKind.TheVariants as entry
 use Rattle.kc_read.specs.declared.statement.Attribute.{Attribute}
 use Rattle.kc_read.specs.declared.statement.Statement.{Statement}
 use Rattle.kc_read.specs.declared.statement.Statement.TheVariants as made
-use Rattle.kc_language.specs.Expansion.{is_attribute, last_of, FileContext, ReadSoFar, Rest, refused_at, context_of, inside, with_file, sourcing_cause, with_line, without_help, IsBlankNext, MarksNext, NextLine, NextStatement, sourced, at_end, unclosed, too_long, no_tokens, blank, renumbered, moved, bad_line, over_limit, statement, bad_source, refused_inside, source, Files}
+use Rattle.kc_language.specs.Expansion.{is_attribute, last_of, FileContext, ReadSoFar, Rest, refusal_at, context_of, inside, with_file, sourcing_cause, with_line, without_help, IsBlankNext, MarksNext, NextLine, NextStatement, sourced, at_end, unclosed, too_long, no_tokens, blank, renumbered, moved, bad_line, over_limit, statement, bad_source, refused_inside, source, Files}
 use Rattle.kc_read.specs.PartsOfExpansion.{is_help, is_source, logged}
 use Rattle.kc_read.specs.PartsOfExpansion.{source_cause}
 use Rattle.kc_read.specs.Entries.{IsLastFile}
@@ -55,17 +55,17 @@ next_clear l m ts out n = by (is_help ts) n.left_after
 
 -- a refusal of the next line is one of the rest
 fault_of_rest : (files : Files) (a : FileContext) (l : UnreadLines) (own : List (Located Named)) (log : ReadSoFar) (c : LineContext) (why : Cause) →
-    c ≡ context_of a own log → StepFault files.flat c l why → Rest files a l own log (Err (refused_at why a.file l.number))
+    c ≡ context_of a own log → StepFault files.flat c l why → Rest files a l own log (Err (refusal_at why a.file l.number))
 fault_of_rest files a l own log c why e (step.too_long t) = too_long a l own log t
 fault_of_rest files a l own log c why e (step.no_tokens new ts w n) = no_tokens a l new own log ts w n
 fault_of_rest files a l own log c why e (step.refused_line new w n) = bad_line a l new own log w (subst (λ k. NextStatement files.flat l new k (Err w)) e n)
 
 -- a refusal that is made for a cause and a line
 pub refusal_at : (files : Files) (a : FileContext) (l : UnreadLines) (own : List (Located Named)) (log : ReadSoFar) (r : Refusal) (why : Cause) (file : List ℕ)
-    (line : ℕ) → refusal_view r ≡ refused_at why file line → file ≡ a.file → line ≡ l.number → Rest files a l own log (Err (refused_at why a.file l.number)) →
+    (line : ℕ) → refusal_view r ≡ refusal_at why file line → file ≡ a.file → line ≡ l.number → Rest files a l own log (Err (refusal_at why a.file l.number)) →
     Rest files a l own log (Err (refusal_view r))
 refusal_at files a l own log r why file line v e n rest =
-    subst (λ x. Rest files a l own log (Err x)) (sym (v ∙ ap (λ f. refused_at why f line) e ∙ ap (λ k. refused_at why a.file k) n)) rest
+    subst (λ x. Rest files a l own log (Err x)) (sym (v ∙ ap (λ f. refusal_at why f line) e ∙ ap (λ k. refusal_at why a.file k) n)) rest
 
 pub step_refused : (files : Files) (a : FileContext) (l : UnreadLines) (own : List (Located Named)) (log : ReadSoFar) (c : LineContext) (file : List ℕ) (r : Refusal)
     → c ≡ context_of a own log → file ≡ a.file → IsStepRefusal files.flat file c l r → IsRestRefusal files a l own log r
@@ -88,7 +88,7 @@ pub end_refused : (files : Files) (first : List (List ℕ)) (names : List (List 
 end_refused files first names a l own log p f r i e o =
     let found : last_of (openers f) ≡ Some (opener_of o.0) = last_of-map opener_of f.blocks.items ∙ ap (option_map opener_of) o.1 in
     let (opener, is_open, file, line) = blocks.unclosed own (opener_of o.0) (ap last_of (sym i.frame.blocks) ∙ found) in
-    subst (λ x. Rest files a l own log (Err x)) (sym (o.2 ∙ (λ j. refused_at cause.Block (file j) (line j)))) (unclosed a l own log opener e is_open)
+    subst (λ x. Rest files a l own log (Err x)) (sym (o.2 ∙ (λ j. refusal_at cause.Block (file j) (line j)))) (unclosed a l own log opener e is_open)
 
 -- a line without tokens
 pub blank_goes : (files : Files) (first : List (List ℕ)) (names : List (List ℕ)) (a : FileContext) (l m : UnreadLines)
@@ -153,7 +153,7 @@ statement_goes files first known names a l m own log f g p q s x line i is next 
 pub effect_refused : (files : Files) (first : List (List ℕ)) (known names : List (List ℕ)) (a : FileContext) (l m : UnreadLines)
     (own : List (Located Named)) (log : ReadSoFar) (f : Frame) (p : Progress) (s : Statement) (x : Named) (line : ℕ) (file : List ℕ) (why : Cause) (r : Refusal) →
     IsState first known a own log p f → IsMade known names s x → NextStatement files.flat l m (context_of a own log) (Ok x) → line ≡ l.number →
-    file ≡ f.file.value.items → limit_view (statement_view s) f p ≡ Some why → refusal_view r ≡ refused_at why file line →
+    file ≡ f.file.value.items → limit_view (statement_view s) f p ≡ Some why → refusal_view r ≡ refusal_at why file line →
     Rest files a l own log (Err (refusal_view r))
 effect_refused files first known names a l m own log f p s x line file why r i is next e g effect v =
     refusal_at files a l own log r why file line v (g ∙ i.frame.file) e
@@ -163,7 +163,7 @@ effect_refused files first known names a l m own log f p s x line file why r i i
 pub source_refused : (files : Files) (first : List (List ℕ)) (names : List (List ℕ)) (a : FileContext) (l m : UnreadLines)
     (own : List (Located Named)) (log : ReadSoFar) (f : Frame) (p : Progress) (name : List ℕ) (line : ℕ) (file : List ℕ) (why : Cause) (r : Refusal) →
     IsState first names a own log p f → NextStatement files.flat l m (context_of a own log) (Ok (SourceLine name)) → line ≡ l.number → file ≡ f.file.value.items →
-    sourcing_cause files (open_names p) p.total_lines name ≡ Some why → refusal_view r ≡ refused_at why file line → Rest files a l own log (Err (refusal_view r))
+    sourcing_cause files (open_names p) p.total_lines name ≡ Some why → refusal_view r ≡ refusal_at why file line → Rest files a l own log (Err (refusal_view r))
 source_refused files first names a l m own log f p name line file why r i next e g bad v =
     refusal_at files a l own log r why file line v (g ∙ i.frame.file) e
     (bad_source a l m own log name why next ((λ j. sourcing_cause files (sym i.files j) (sym i.progress.total_lines j) name) ∙ bad))
@@ -255,7 +255,7 @@ pub statement_passed : (files : Files) (first : List (List ℕ)) (names : List (
 statement_passed files first names a l m own log p f r e is h = let q = err_from_is_err_and r is in rw (q.1, q.2) h
 
 -- a cause that is not being out of memory
-pub no_memory : (r : Refusal) (f : LineFault) (file : List ℕ) (line : ℕ) → r.cause ≢ cause.Memory → (r.cause ≢ cause.Memory → refusal_view r ≡ refused_at (cause_of f) file line) → f ≢ cause.Memory
+pub no_memory : (r : Refusal) (f : LineFault) (file : List ℕ) (line : ℕ) → r.cause ≢ cause.Memory → (r.cause ≢ cause.Memory → refusal_view r ≡ refusal_at (cause_of f) file line) → f ≢ cause.Memory
 no_memory r f file line ne view e = ne (no_other_memory (λ name. name.items) r.cause (ap (λ v. v.cause) (view ne) ∙ ap cause_of e))
 
 -- what was put at the end is taken away again

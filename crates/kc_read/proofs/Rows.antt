@@ -11,7 +11,7 @@ use Rattle.kc_language.specs.declared.diagnostics.Cause.TheVariants as cause
 use Rattle.kc_language.specs.Symbols.{TreeFacts, Condition, Guarded, SymbolFacts, SymbolShown, MenuShown, EndShown, CommentShown, symbol_facts, facts_with}
 use Rattle.kc_read.specs.PartsOfSymbols.{choices, entries, warnings, whole_list_refusals}
 use Rattle.kc_read.specs.PartsOfSymbols.{tree_of_lines}
-use Rattle.kc_language.specs.Expansion.{Refused, refused_at, mentioned_names, numbered_lines}
+use Rattle.kc_language.specs.Expansion.{Refused, refusal_at, mentioned_names, numbered_lines}
 
 -- Short words for the rows.
 abbrev whole : Negation → Disjunction
@@ -291,11 +291,11 @@ choice_prompt_condition_choices = refl
 
 tristate_member_refused : tree_of_lines (in_root (ChoiceLine ∷ PromptLine (asked (codes "c") None) ∷ ConfigLine (codes "A") ∷
     TypeLine symbol_type.Tristate (Some (asked (codes "a") None)) ∷ EndChoiceLine ∷ [])) ≡ Err
-    (refused_at (cause.ChoiceMember (codes "A")) (codes "Kconfig") 3)
+    (refusal_at (cause.ChoiceMember (codes "A")) (codes "Kconfig") 3)
 tristate_member_refused = refl
 
 string_default_refused : tree_of_lines (in_root (ConfigLine (codes "S") ∷ TypeLine symbol_type.Str (Some (asked (codes "s") None)) ∷
-    DefaultLine (both (codes "A") (codes "B")) None ∷ [])) ≡ Err (refused_at (cause.BadDefault (codes "S")) (codes "Kconfig") 3)
+    DefaultLine (both (codes "A") (codes "B")) None ∷ [])) ≡ Err (refusal_at (cause.BadDefault (codes "S")) (codes "Kconfig") 3)
 string_default_refused = refl
 
 -- a range, and a default that is no symbol
@@ -460,7 +460,7 @@ refused_twice = ConfigLine (codes "S") ∷ TypeLine symbol_type.Str None ∷ Def
     DefaultLine (word (codes "n")) None ∷ ConfigLine (codes "A") ∷ bool_line (codes "a") ∷ EndChoiceLine ∷ ConfigLine (codes "A") ∷ []
 
 abbrev at_line : (List ℕ → Cause) → List ℕ → ℕ → Refused
-at_line c d n = refused_at (c d) (codes "Kconfig") n
+at_line c d n = refusal_at (c d) (codes "Kconfig") n
 
 refused_twice_all : refusals refused_twice ≡ at_line cause.ChoiceMember (codes "A") 10 ∷ at_line cause.BadDefault (codes "S") 3 ∷ at_line cause.BadDefault (codes "choice") 6 ∷ []
 refused_twice_all = refl

@@ -16,7 +16,7 @@ use Rattle.kc_read.specs.PartsOfStatements.{is_entry}
 use Rattle.kc_read.specs.declared.frame.Frame.{Frame}
 use Rattle.kc_read.specs.declared.progress.Progress.{Progress}
 use Rattle.kc_read.specs.declared.statement.Statement.{Statement}
-use Rattle.kc_language.specs.Expansion.{bracket, definitions, entry_of, is_attribute, is_modules, is_no_attribute, last_of, modules_of, defined_name, open_blocks, FileContext, ReadSoFar, Rest, context_of, limit_cause, first_log, inside, is_choice_block, with_file, with_line, Expands, Refused, bytes_cause, refused_at, Files}
+use Rattle.kc_language.specs.Expansion.{bracket, definitions, entry_of, is_attribute, is_modules, is_no_attribute, last_of, modules_of, defined_name, open_blocks, FileContext, ReadSoFar, Rest, context_of, limit_cause, first_log, inside, is_choice_block, with_file, with_line, Expands, Refused, bytes_cause, refusal_at, Files}
 use Rattle.kc_read.specs.PartsOfExpansion.{lines_of, logged, root_context}
 use Rattle.kc_read.specs.PartsOfExpansion.{last_no_attribute, nesting_cause, defined, located_numbered}
 use Rattle.kc_read.proofs.ModulesLemmas.{marked_push, modules_of_push}
@@ -295,5 +295,5 @@ pub expands_read : (files : Files) (root bytes : List ℕ) (r : Result ReadSoFar
     Rest files (root_context root) (unread_lines bytes 1) [] (first_log files root bytes) r → Expands files root r
 expands_read files root bytes r allowed found rest = rw allowed (bytes, found, rest)
 
-pub expands_refused : (files : Files) (root : List ℕ) (why : Cause) (e : Refused) → bytes_cause root 0 (files.bytes root) ≡ Some why → e ≡ refused_at why root 0 → Expands files root (Err e)
+pub expands_refused : (files : Files) (root : List ℕ) (why : Cause) (e : Refused) → bytes_cause root 0 (files.bytes root) ≡ Some why → e ≡ refusal_at why root 0 → Expands files root (Err e)
 expands_refused files root why e bad is = rw bad (ap Err is)

@@ -17,7 +17,7 @@ use Rattle.kc_read.specs.RefusalView.{out_of_memory, refusal_view}
 use Rattle.kc_read.specs.NextStep.{IsMarked, IsStep, IsStepRefusal, StepFault, too_long, no_tokens, refused_line, long_line}
 use Rattle.kc_text.specs.Lexemes.{lexemes}
 use Rattle.kc_text.specs.declared.tokens.Token.{Token}
-use Rattle.kc_language.specs.Expansion.{without_help, NextLine, NextStatement, refused_at, text_cause}
+use Rattle.kc_language.specs.Expansion.{without_help, NextLine, NextStatement, refusal_at, text_cause}
 use Rattle.kc_read.specs.declared.step.Step.{Step}
 use Rattle.kc_read.specs.declared.step.Step.TheVariants as step
 use Rattle.kc_read.specs.PartsOfExpansion.{is_help}
@@ -29,12 +29,12 @@ help_first ls b e t = let h : begins_with (codes "help") ls ≡ true = sym e ∙
 pub help_second : (ls : List Lexeme) (b d : Bool) → b ≡ begins_with (codes "help") ls → b ≡ false → d ≡ begins_with (codes "---help---") ls → d ≡ is_help ls
 help_second ls b d e t g = let h : begins_with (codes "help") ls ≡ false = sym e ∙ t in rw h g
 
-view_with : (r : Refusal) (a b : Cause) (file : List ℕ) (m n : ℕ) → a ≡ b → m ≡ n → refusal_view r ≡ refused_at a file m → refusal_view r ≡ refused_at b file n
-view_with r a b file m n e d h = h ∙ ap (λ c. refused_at c file m) e ∙ ap (λ k. refused_at b file k) d
+view_with : (r : Refusal) (a b : Cause) (file : List ℕ) (m n : ℕ) → a ≡ b → m ≡ n → refusal_view r ≡ refusal_at a file m → refusal_view r ≡ refusal_at b file n
+view_with r a b file m n e d h = h ∙ ap (λ c. refusal_at c file m) e ∙ ap (λ k. refusal_at b file k) d
 
 pub line_fault : (flat : Bool) (file : List ℕ) (c : LineContext) (old : UnreadLines) (why : TextFault) (r : Refusal) (line : ℕ) (a : Cause) → old.refusal ≡ None →
     MatchOption old.refusal (IsLineFault old why) (λ given. given ≡ why) → line ≡ long_line why → a ≡ text_cause why →
-    (r.cause ≢ cause.Memory → refusal_view r ≡ refused_at a file line) → IsStepRefusal flat file c old r
+    (r.cause ≢ cause.Memory → refusal_view r ≡ refusal_at a file line) → IsStepRefusal flat file c old r
 line_fault flat file c old why r line a clear cause_is number_is a_is view = by why (cause_none old.refusal (IsLineFault old why) (λ given. given ≡ why) clear cause_is) number_is a_is
   where
     by : (w : TextFault) → IsLineFault old w → line ≡ long_line w → a ≡ text_cause w → IsStepRefusal flat file c old r
@@ -48,7 +48,7 @@ refused_tokens : (flat : Bool) (c : LineContext) (old mid : UnreadLines) (text :
 refused_tokens flat c old mid text ts why t k = no_tokens (cond (is_help ts) (without_help mid) mid) ts why (record { middle = mid; text = text; taken = t; cut = k; left_after = refl })
 
 pub lex_fault : (flat : Bool) (file : List ℕ) (c : LineContext) (old mid : UnreadLines) (text : List ℕ) (why : TextFault) (r : Refusal) (line : ℕ) (a : Cause) →
-    TakesLine old mid text → IsRefused flat text why → line ≡ old.number → a ≡ text_cause why → (r.cause ≢ cause.Memory → refusal_view r ≡ refused_at a file line) →
+    TakesLine old mid text → IsRefused flat text why → line ≡ old.number → a ≡ text_cause why → (r.cause ≢ cause.Memory → refusal_view r ≡ refusal_at a file line) →
     IsStepRefusal flat file c old r
 lex_fault flat file c old mid text fault.Memory r line a t k d e view ne = absurd (ne (no_other_memory (λ name. name.items) r.cause (ap (λ v. v.cause) (view ne) ∙ e)))
 lex_fault flat file c old mid text why r line a t k d e view ne = (text_cause why, refused_tokens flat c old mid text k.0 why t k.1, view_with r a (text_cause why) file line old.number e d (view ne))
@@ -72,11 +72,11 @@ next_statement flat c old mid new text (x ∷ xs) r t k some reads e = record {
 
 pub read_refused : (flat : Bool) (file : List ℕ) (c : LineContext) (old mid new : UnreadLines) (text : List ℕ) (ts : List Token) (f : LineFault) (r : Refusal) (line : ℕ) →
     TakesLine old mid text → IsCutting flat text (lexemes ts) → ts ≢ [] → new ≡ cond (is_help (lexemes ts)) (without_help mid) mid →
-    IsFault f (λ y. ReadsLine c (lexemes_from ts 0) (Err y)) → line ≡ old.number → (r.cause ≢ cause.Memory → refusal_view r ≡ refused_at (cause_of f) file line) →
+    IsFault f (λ y. ReadsLine c (lexemes_from ts 0) (Err y)) → line ≡ old.number → (r.cause ≢ cause.Memory → refusal_view r ≡ refusal_at (cause_of f) file line) →
     IsStepRefusal flat file c old r
 read_refused flat file c old mid new text ts f r line t k some e h d view ne =
     let g : f ≢ cause.Memory = λ p. ne (no_other_memory (λ name. name.items) r.cause (ap (λ v. v.cause) (view ne) ∙ ap cause_of p)) in
-    (cause_of f, refused_line new (cause_of f) (next_statement flat c old mid new text ts (Err (cause_of f)) t k some (h g) e), view ne ∙ ap (λ n. refused_at (cause_of f) file n) d)
+    (cause_of f, refused_line new (cause_of f) (next_statement flat c old mid new text ts (Err (cause_of f)) t k some (h g) e), view ne ∙ ap (λ n. refusal_at (cause_of f) file n) d)
 
 -- a line without tokens
 pub marked_step : (flat : Bool) (file : List ℕ) (known names : List (List ℕ)) (c : LineContext) (old new : UnreadLines) (text : List ℕ) (s : Step) → names ≡ known →

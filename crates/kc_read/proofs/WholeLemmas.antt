@@ -18,7 +18,7 @@ use Rattle.kc_language.specs.declared.expressions.SymbolType.TheVariants as symb
 use Rattle.kc_language.specs.Statements.{Cause, is_good_name, Named, Numbered, Located, statements}
 use Rattle.kc_language.specs.declared.diagnostics.Cause.TheVariants as cause
 use Rattle.kc_language.specs.declared.statements.Block.TheVariants as block
-use Rattle.kc_language.specs.Expansion.{Files, Expands, ReadSoFar, Refused, refused_at, definitions, mentioned_names, numbered_lines}
+use Rattle.kc_language.specs.Expansion.{Files, Expands, ReadSoFar, Refused, refusal_at, definitions, mentioned_names, numbered_lines}
 use Rattle.kc_read.specs.PartsOfExpansion.{defined}
 use Rattle.kc_read.proofs.NameLemmas.{known_at}
 use Rattle.kc_tree.specs.TreeFacts.{IsMentioned, IsSymbolName, IsWellFormed}
@@ -97,7 +97,7 @@ module _ (names : List (List ℕ)) (ls : List (Located Numbered)) where
   not_refused : (c : List ℕ → Cause) (i : ℕ) → bad_at i (slice_get numbered i) ≡ true → refused_at names ls c i ≡ [] → ⊥
   not_refused c i h n =
       let gone : slice_get ls i ≡ None = listed_none (slice_get ls i)
-      (map_none (λ l. refused_at (c (entry_name names (entry_symbol (menu_entry_at numbered i)))) l.file l.line)
+      (map_none (λ l. refusal_at (c (entry_name names (entry_symbol (menu_entry_at numbered i)))) l.file l.line)
       (listed (slice_get ls i)) n) in
       let none : slice_get numbered i ≡ None = slice_get-map (λ l. l.statement) ls i ∙ ap (option_map (λ l. l.statement)) gone in
       let no : bad_at i (slice_get numbered i) ≡ false = ap (bad_at i) none in

@@ -6,7 +6,7 @@ use Rattle.kc_language.specs.declared.diagnostics.Cause.TheVariants as cause
 use Rattle.kc_read.specs.declared.step.Step.{Step}
 use Rattle.kc_read.specs.declared.step.Step.TheVariants as step
 use Rattle.kc_language.specs.Statements.{Named, Cause, LineContext}
-use Rattle.kc_language.specs.Expansion.{refused_at, IsBlankNext, IsMarker, MarksNext, NextLine, NextStatement, text_cause}
+use Rattle.kc_language.specs.Expansion.{refusal_at, IsBlankNext, IsMarker, MarksNext, NextLine, NextStatement, text_cause}
 use Rattle.kc_language.specs.Expressions.{same_name}
 use Rattle.kc_read.specs.LineReads.{IsMade}
 use Rattle.kc_language.specs.Tokens.{Lexeme}
@@ -50,7 +50,7 @@ pub data StepFault (flat : Bool) (c : LineContext) (old : UnreadLines) : Cause �
   refused_line : (new : UnreadLines) (why : Cause) → NextStatement flat old new c (Err why) → StepFault flat c old why
 
 abbrev pub IsStepRefusal : Bool → List ℕ → LineContext → UnreadLines → Refusal → Type 0
-IsStepRefusal flat file c old r = r.cause ≢ cause.Memory → (why : Cause) × StepFault flat c old why × (refusal_view r ≡ refused_at why file old.number)
+IsStepRefusal flat file c old r = r.cause ≢ cause.Memory → (why : Cause) × StepFault flat c old why × (refusal_view r ≡ refusal_at why file old.number)
 
 abbrev pub IsStepRefusalAt : Position → UnreadLines → Refusal → Type 0
 IsStepRefusalAt p old r = IsStepRefusal p.is_flat p.frame.now.file.value.items (context_in p.frame.now p.progress.now) old r

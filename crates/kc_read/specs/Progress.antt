@@ -19,7 +19,7 @@ use Rattle.kc_language.specs.declared.statements.Block.{Block}
 use Rattle.kc_language.specs.declared.statements.EntryKind.{EntryKind}
 use Rattle.kc_language.specs.declared.statements.EntryKind.TheVariants as entry
 use Rattle.kc_read.specs.declared.statement.OpenBlock.{OpenBlock}
-use Rattle.kc_language.specs.Expansion.{Bracket, Opens, Closes, NoBracket, bracket, opened, open_block_indices, last_of, entry_of, is_attribute, definitions, modules_of, defined_name, is_modules, FileContext, ReadSoFar, Refused, Rest, is_choice_block, refused_at, Files}
+use Rattle.kc_language.specs.Expansion.{Bracket, Opens, Closes, NoBracket, bracket, opened, open_block_indices, last_of, entry_of, is_attribute, definitions, modules_of, defined_name, is_modules, FileContext, ReadSoFar, Refused, Rest, is_choice_block, refusal_at, Files}
 use Rattle.kc_read.specs.PartsOfExpansion.{last_no_attribute, defined, symbol_cause, nesting_cause, located_numbered}
 use Rattle.kc_language.specs.Statements.{Cause, LineContext, is_config, Statement, Named, Numbered, Located, names_in_statement, statements}
 use Rattle.kc_read.specs.PartsOfStatements.{is_entry}
@@ -210,7 +210,7 @@ pub record IsMarkedOpened (name : List ℕ) (old new : Progress) : Type 0 where
 
 -- a block of the file is open at its end
 abbrev pub IsOpenAtEnd : Frame → Refused → Type 0
-IsOpenAtEnd f r = (o : OpenBlock) × (last_of f.blocks.items ≡ Some o) × (r ≡ refused_at cause.Block o.file.value.items o.line)
+IsOpenAtEnd f r = (o : OpenBlock) × (last_of f.blocks.items ≡ Some o) × (r ≡ refusal_at cause.Block o.file.value.items o.line)
 
 -- a refusal of the rest of a file
 abbrev pub IsRestRefusal : Files → FileContext → UnreadLines → List (Located Named) → ReadSoFar → Refusal → Type 0

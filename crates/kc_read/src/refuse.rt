@@ -2,7 +2,7 @@
 
 ghost use Rattle.std.specs.Prelude.{◌≡◌, ◌≢◌};
 ghost use Rattle.kc_language.specs.declared.diagnostics.Cause.TheVariants.{Memory};
-ghost use Rattle.kc_language.specs.Expansion.{refused_at};
+ghost use Rattle.kc_language.specs.Expansion.{refusal_at};
 ghost use Rattle.kc_read.specs.LineReads.{cause_of};
 ghost use Rattle.kc_read.specs.RefusalView.{IsMemory, refusal_view};
 
@@ -15,7 +15,7 @@ use std::alloc::Global;
 /// the parts of a result that may be a refusal in registers.
 #[inline(always)]
 pub(crate) fn refuse(alloc: Global, fault: LineFault, file: &[u8], line: u32) -> Refusal
-    ensures refused_at { result.cause ≢ Memory → refusal_view result ≡ refused_at (cause_of fault.entry) file.now line }
+    ensures refusal_at { result.cause ≢ Memory → refusal_view result ≡ refusal_at (cause_of fault.entry) file.now line }
     ensures memory { IsMemory result }
 {
     match fault {

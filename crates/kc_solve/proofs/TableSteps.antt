@@ -36,7 +36,7 @@ use Rattle.kc_values.specs.PartsOfValues.{is_mentioned, by_choice}
 use Rattle.kc_values.specs.PartsOfValues.{user_place_by, user_place_of}
 use Rattle.kc_user.specs.declared.value.UserValue.{UserValue}
 use Rattle.kc_values.specs.TableFacts.{IsRowOf, known_at}
-use Rattle.kc_language.specs.Needs.{needs_of}
+use Rattle.kc_language.specs.Needs.{named_by}
 use Rattle.kc_values.specs.Selections.{given_for}
 use Rattle.kc_values.specs.Table.{value_in, tri_in, text_in, known_value, known_in}
 use Rattle.kc_values.specs.User.{given_in}
@@ -148,7 +148,7 @@ equation_seen : (tree : TreeFacts) (values : List (Option Value)) → length val
     equation tree (known_in tree values) s f user ≡ equation tree (known_from tree (valuation tree values)) s f user
 equation_seen tree values l s f user =
     same_equation depends_on_symbols tree (known_in tree values) (known_from tree (valuation tree values)) s f user
-    (each (λ (t : SymId). known_in tree values t ≡ known_from tree (valuation tree values) t) (known_seen tree values l) (needs_of tree f))
+    (each (λ (t : SymId). known_in tree values t ≡ known_from tree (valuation tree values) t) (known_seen tree values l) (named_by tree f))
 
 -- what was given for a symbol, as it is looked up
 pub place_given : (given : List (Option UserValue)) (i : ℕ) (own : Option (Bor UserValue)) → option_copied own ≡ slice_index_or given i None →

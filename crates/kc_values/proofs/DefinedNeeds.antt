@@ -6,7 +6,7 @@ use Rattle.std.proofs.lemmas.List.{length-map}
 use Rattle.kc_language.specs.Expressions.{symbol}
 use Rattle.kc_language.specs.declared.expressions.SymId.{SymId}
 use Rattle.kc_language.specs.declared.expressions.SymbolType.TheVariants.{Undefined}
-use Rattle.kc_language.specs.Needs.{needs_in, names_by_type, needs_of, needs}
+use Rattle.kc_language.specs.Needs.{needs_in, names_by_type, named_by, needs}
 use Rattle.kc_values.specs.PartsOfNeeds.{mentioned_numbers, names_by_choice}
 use Rattle.kc_tree.specs.TreeFacts.{IsWellFormed}
 use Rattle.kc_language.specs.Symbols.{SymbolFacts, TreeFacts}
@@ -30,7 +30,7 @@ module _ (tree : TreeFacts) (formed : IsWellFormed tree) where
   no_names : (f : SymbolFacts) → f.choice ≡ None → f.symbol_type ≡ Undefined → names_by_choice tree f f.choice ≡ []
   no_names f none u = ap (names_by_choice tree f) none ∙ ap (names_by_type tree f) u
 
-  by_facts : (s t : ℕ) (o : Option SymbolFacts) → facts tree (symbol s) ≡ o → Contains (mentioned_numbers tree (needs_of tree o)) t → Contains (map (λ (t : SymId). t.0) tree.defined) s
+  by_facts : (s t : ℕ) (o : Option SymbolFacts) → facts tree (symbol s) ≡ o → Contains (mentioned_numbers tree (named_by tree o)) t → Contains (map (λ (t : SymId). t.0) tree.defined) s
   by_facts s t None e c = absurd (omega (arith, c.1))
   by_facts s t (Some f) e c =
       typed (symbol s) f e (λ none u.

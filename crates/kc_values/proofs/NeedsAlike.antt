@@ -176,18 +176,18 @@ module _ (tree : TreeFacts) (l : Layout) (laid : IsLayoutOf tree l) (g : Nodes) 
 
   module _ (there : AreChoicesThere l) where
     -- and a symbol
-    symbol_stands : (i : ℕ) → i < length l.symbols.items → list_any st (needs_in g.rows i) ≡ names tree l v (spec.needs_of tree (facts tree (symbol i)))
+    symbol_stands : (i : ℕ) → i < length l.symbols.items → list_any st (needs_in g.rows i) ≡ names tree l v (spec.named_by tree (facts tree (symbol i)))
     symbol_stands i b =
         elim (slice_get_cases l.symbols.items i).1 [
           | inl h ↦
               ap (list_any st) (row_of_symbol tree l g made i h.0 b h.2)
               ∙ of_row (rows.symbol_nodes l i h.0) (rows.symbol_names tree l i h.0)
               ∙ symbol_needs tree l v (sym laid.modules) st stand i h.0 (λ k e. choice_stands k.0 (there i h.0 k h.2 e))
-              ∙ ap (λ o. names tree l v (spec.needs_of tree o)) (sym (facts_laid tree l laid i ∙ ap (option_map (facts_of l i)) h.2))
+              ∙ ap (λ o. names tree l v (spec.named_by tree o)) (sym (facts_laid tree l laid i ∙ ap (option_map (facts_of l i)) h.2))
           | inr h ↦ absurd (omega (arith, h.0))
         ]
 
-    graph_needs : (i : ℕ) → i < length l.symbols.items → stands v (needs_in (needs_of g) i) ≡ names tree l v (spec.needs_of tree (facts tree (symbol i)))
+    graph_needs : (i : ℕ) → i < length l.symbols.items → stands v (needs_in (needs_of g) i) ≡ names tree l v (spec.named_by tree (facts tree (symbol i)))
     graph_needs i b =
         ap (stands v) (needs_stand g is i (omega (arith, made.symbols_are)))
         ∙ any_flat (λ m. m == v) (stands_for g.symbols (groups_of g)) (needs_in g.rows i)
@@ -204,7 +204,7 @@ module _ (tree : TreeFacts) (l : Layout) (laid : IsLayoutOf tree l) (g : Nodes) 
     onward c =
         elim (cases_lt i (length l.symbols.items)) [
           | inl b ↦
-              let ss = spec.needs_of tree (facts tree (symbol i)) in
+              let ss = spec.named_by tree (facts tree (symbol i)) in
               let numbers = map (λ (s : SymId). s.0) (filter (is_mentioned tree) ss) in
               let seen = numbers_seen ss ∙ sym (graph_needs there i b) ∙ in_stands v (needs_in (needs_of g) i) c in
               subst (λ row. Contains row v) (sym (needs_at tree i)) (stands_in v numbers seen)
@@ -215,7 +215,7 @@ module _ (tree : TreeFacts) (l : Layout) (laid : IsLayoutOf tree l) (g : Nodes) 
     back c =
         elim (cases_lt i (length l.symbols.items)) [
           | inl b ↦
-              let ss = spec.needs_of tree (facts tree (symbol i)) in
+              let ss = spec.named_by tree (facts tree (symbol i)) in
               let numbers = map (λ (s : SymId). s.0) (filter (is_mentioned tree) ss) in
               let there' = subst (λ row. Contains row v) (needs_at tree i) c in
               stands_in v (needs_in (needs_of g) i) (graph_needs there i b ∙ sym (numbers_seen ss) ∙ in_stands v numbers there')

@@ -299,7 +299,7 @@ module _ (law : DependsOnSymbols) (tree : TreeFacts) (k l : SymId → SymbolValu
   same_by_choice s f (Some c) user h =
       ap (λ o. Truth (cond (is_symbol_of s o) Y N)) (same_selected (choice_at tree c) user h)
 
-  pub same_equation : (s : SymId) (f : Option SymbolFacts) (user : Option GivenValue) → Sames (n.needs_of tree f) → v.equation tree k s f user ≡ v.equation tree l s f user
+  pub same_equation : (s : SymId) (f : Option SymbolFacts) (user : Option GivenValue) → Sames (n.named_by tree f) → v.equation tree k s f user ≡ v.equation tree l s f user
   same_equation s None user h = refl
   same_equation s (Some f) user h = same_by_choice s f f.choice user h
 
@@ -334,4 +334,4 @@ module _ (tree : TreeFacts) (V W : ℕ → SymbolValue) where
 
 pub reads_needs : DependsOnSymbols → (tree : TreeFacts) (user : UserPlace → Option GivenValue) → ReadsNeeds (needs_of tree) (equations tree user)
 reads_needs law tree user s V W h =
-    same_equation law tree (known_from tree V) (known_from tree W) (symbol s) (facts tree (symbol s)) (user (user_place tree s)) (same_seen tree V W (n.needs_of tree (facts tree (symbol s))) h)
+    same_equation law tree (known_from tree V) (known_from tree W) (symbol s) (facts tree (symbol s)) (user (user_place tree s)) (same_seen tree V W (n.named_by tree (facts tree (symbol s))) h)

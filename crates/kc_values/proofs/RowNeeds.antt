@@ -497,7 +497,7 @@ module _ (tree : TreeFacts) (l : Layout) (v : ℕ) (alike : l.modules ≡ tree.m
 
     -- what the row of a symbol stands for is what its equation names
     pub symbol_needs : ((k : ChoiceId) → s.choice ≡ Some k → st (choice_number l k.0) ≡ name (spec.names_of_choice tree (choice_at tree k.0))) →
-        (list_any st (rows.symbol_nodes l i s) || name (rows.symbol_names tree l i s)) ≡ name (spec.needs_of tree (Some (facts_of l i s)))
+        (list_any st (rows.symbol_nodes l i s) || name (rows.symbol_names tree l i s)) ≡ name (spec.named_by tree (Some (facts_of l i s)))
     symbol_needs h = by_choice_needs s.choice h
 
   -- the selection of a choice

@@ -7,7 +7,7 @@ use Rattle.std.proofs.lemmas.List.{get_or_past}
 use Rattle.std.proofs.lemmas.Option.{slice_get_past}
 use Rattle.kc_expr.specs.Value.{DependsOnSymbols}
 use Rattle.kc_language.specs.declared.expressions.SymId.{SymId}
-use Rattle.kc_language.specs.Needs.{needs_in, needs, needs_of, needs_of}
+use Rattle.kc_language.specs.Needs.{needs_in, needs, needs_of, named_by}
 use Rattle.kc_order.specs.PartsOfNeeds.{AreAccepted as IsAccepted}
 use Rattle.kc_order.specs.PartsOfNeeds.{NothingUnordered}
 use Rattle.kc_values.specs.PartsOfNeeds.{mentioned_numbers}
@@ -39,7 +39,7 @@ pub needs_length : (tree : TreeFacts) → length (needs tree) ≡ name_count tre
 needs_length tree = length-map-range_with_len (needs_of tree) 0 (name_count tree)
 
 past_needs : (tree : TreeFacts) (i : ℕ) → name_count tree ≤ i → needs_of tree i ≡ []
-past_needs tree i l = ap (λ f. mentioned_numbers tree (needs_of tree f)) (slice_get_past tree.symbols i l)
+past_needs tree i l = ap (λ f. mentioned_numbers tree (named_by tree f)) (slice_get_past tree.symbols i l)
 
 -- the row of a symbol is what it needs
 pub needs_at : (tree : TreeFacts) (i : ℕ) → needs_in (needs tree) i ≡ needs_of tree i

@@ -1,6 +1,6 @@
 use Rattle.kc_read.proofs.ListLemmas.{last_of-none}
 use Rattle.std.proofs.Common.{◌∙◌, ap, sym}
-use Rattle.kc_language.specs.Expansion.{refused_at}
+use Rattle.kc_language.specs.Expansion.{refusal_at}
 use Rattle.kc_language.specs.declared.diagnostics.Cause.TheVariants.{Block}
 use Rattle.kc_read.proofs.files.end.Goals as goal
 
@@ -10,4 +10,4 @@ returns-in-None-clause-closed c = last_of-none c.args.frame.now.blocks.items (sy
 pub returns-in-Some-clause-open : goal.returns-in-Some-clause-open
 returns-in-Some-clause-open c = λ ne.
     let file = c.deref-in-Some.ensures.value ∙ ap (λ v. v.items) c.deref.ensures in
-    (c.in-Some.opener.now, sym c.in-Some.ensures, c.refuse.ensures.refused ne ∙ ap (λ f. refused_at Block f c.in-Some.opener.now.line) file)
+    (c.in-Some.opener.now, sym c.in-Some.ensures, c.refuse.ensures.refused ne ∙ ap (λ f. refusal_at Block f c.in-Some.opener.now.line) file)
