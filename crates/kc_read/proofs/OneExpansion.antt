@@ -230,12 +230,12 @@ same_source s name other e f = one_name name other (sym e ∙ f)
 source_effect : (a : FileContext) (own : List (Located Named)) (log : ReadSoFar) (s : Named) (name : List ℕ) → s ≡ SourceLine name → limit_cause a own log s ≡ None
 source_effect a own log s name e = ap (limit_cause a own log) e
 
-abbrev refusal_at : FileContext → UnreadLines → Cause → Result ReadSoFar Refused
-refusal_at a l c = Err (refusal_at c a.file l.number)
+abbrev refused_at : FileContext → UnreadLines → Cause → Result ReadSoFar Refused
+refused_at a l c = Err (refusal_at c a.file l.number)
 
 module _ (files : Files) (a : FileContext) (l m : UnreadLines) (own : List (Located Named)) (log : ReadSoFar) (other : Result ReadSoFar Refused) where
-  same_effect : (s : Named) (c : Cause) → limit_cause a own log s ≡ Some c → Said files a l own log m s other → refusal_at a l c ≡ other
-  same_effect s c f (said_effect d g e) = ap (refusal_at a l) (one_some (limit_cause a own log s) c d f g) ∙ sym e
+  same_effect : (s : Named) (c : Cause) → limit_cause a own log s ≡ Some c → Said files a l own log m s other → refused_at a l c ≡ other
+  same_effect s c f (said_effect d g e) = ap (refused_at a l) (one_some (limit_cause a own log s) c d f g) ∙ sym e
   same_effect s c f (said_plain p g e) = none_or_some (limit_cause a own log s) c g f
   same_effect s c f (said_bad_source name d e g h) = none_or_some (limit_cause a own log s) c (source_effect a own log s name e) f
   same_effect s c f (said_inside name bytes d e g h i j) = none_or_some (limit_cause a own log s) c (source_effect a own log s name e) f
@@ -249,11 +249,11 @@ module _ (files : Files) (a : FileContext) (l m : UnreadLines) (own : List (Loca
   same_plain s p f (said_source name bytes more e g h i j) = plain_or_source s name p e
 
   module _ (name : List ℕ) where
-    same_bad_source : (c : Cause) → source_cause files a log.total_lines name ≡ Some c → Said files a l own log m (SourceLine name) other → refusal_at a l c ≡ other
+    same_bad_source : (c : Cause) → source_cause files a log.total_lines name ≡ Some c → Said files a l own log m (SourceLine name) other → refused_at a l c ≡ other
     same_bad_source c f (said_effect d g e) = none_or_some (limit_cause a own log (SourceLine name)) d refl g
     same_bad_source c f (said_plain p g e) = plain_or_source (SourceLine name) name p refl
     same_bad_source c f (said_bad_source n d e g h) =
-        ap (refusal_at a l) (one_some (source_cause files a log.total_lines n) c d (subst (λ k. source_cause files a log.total_lines k ≡ Some c) (one_name name n e) f) g) ∙ sym h
+        ap (refused_at a l) (one_some (source_cause files a log.total_lines n) c d (subst (λ k. source_cause files a log.total_lines k ≡ Some c) (one_name name n e) f) g) ∙ sym h
     same_bad_source c f (said_inside n bytes d e g h i j) =
         none_or_some (source_cause files a log.total_lines n) c g (subst (λ k. source_cause files a log.total_lines k ≡ Some c) (one_name name n e) f)
     same_bad_source c f (said_source n bytes more e g h i j) =
