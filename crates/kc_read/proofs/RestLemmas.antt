@@ -61,17 +61,17 @@ fault_of_rest files a l own log c why e (step.no_tokens new ts w n) = no_tokens 
 fault_of_rest files a l own log c why e (step.refused_line new w n) = bad_line a l new own log w (subst (λ k. NextStatement files.flat l new k (Err w)) e n)
 
 -- a refusal that is made for a cause and a line
-pub refusal_at : (files : Files) (a : FileContext) (l : UnreadLines) (own : List (Located Named)) (log : ReadSoFar) (r : Refusal) (why : Cause) (file : List ℕ)
+pub refusal_stands : (files : Files) (a : FileContext) (l : UnreadLines) (own : List (Located Named)) (log : ReadSoFar) (r : Refusal) (why : Cause) (file : List ℕ)
     (line : ℕ) → refusal_view r ≡ refusal_at why file line → file ≡ a.file → line ≡ l.number → Rest files a l own log (Err (refusal_at why a.file l.number)) →
     Rest files a l own log (Err (refusal_view r))
-refusal_at files a l own log r why file line v e n rest =
+refusal_stands files a l own log r why file line v e n rest =
     subst (λ x. Rest files a l own log (Err x)) (sym (v ∙ ap (λ f. refusal_at why f line) e ∙ ap (λ k. refusal_at why a.file k) n)) rest
 
 pub step_refused : (files : Files) (a : FileContext) (l : UnreadLines) (own : List (Located Named)) (log : ReadSoFar) (c : LineContext) (file : List ℕ) (r : Refusal)
     → c ≡ context_of a own log → file ≡ a.file → IsStepRefusal files.flat file c l r → IsRestRefusal files a l own log r
 step_refused files a l own log c file r e f h ne =
     let w = h ne in
-    refusal_at files a l own log r w.0 file l.number w.2 f refl (fault_of_rest files a l own log c w.0 e w.1)
+    refusal_stands files a l own log r w.0 file l.number w.2 f refl (fault_of_rest files a l own log c w.0 e w.1)
 
 -- the end of a file
 pub ended : (files : Files) (first : List (List ℕ)) (names : List (List ℕ)) (a : FileContext) (l : UnreadLines)
@@ -156,7 +156,7 @@ pub effect_refused : (files : Files) (first : List (List ℕ)) (known names : Li
     file ≡ f.file.value.items → limit_view (statement_view s) f p ≡ Some why → refusal_view r ≡ refusal_at why file line →
     Rest files a l own log (Err (refusal_view r))
 effect_refused files first known names a l m own log f p s x line file why r i is next e g effect v =
-    refusal_at files a l own log r why file line v (g ∙ i.frame.file) e
+    refusal_stands files a l own log r why file line v (g ∙ i.frame.file) e
     (over_limit a l m own log x why next (sym (effect_same first known names a own log f p s x i is) ∙ effect))
 
 -- a `source` line
@@ -165,7 +165,7 @@ pub source_refused : (files : Files) (first : List (List ℕ)) (names : List (Li
     IsState first names a own log p f → NextStatement files.flat l m (context_of a own log) (Ok (SourceLine name)) → line ≡ l.number → file ≡ f.file.value.items →
     sourcing_cause files (open_names p) p.total_lines name ≡ Some why → refusal_view r ≡ refusal_at why file line → Rest files a l own log (Err (refusal_view r))
 source_refused files first names a l m own log f p name line file why r i next e g bad v =
-    refusal_at files a l own log r why file line v (g ∙ i.frame.file) e
+    refusal_stands files a l own log r why file line v (g ∙ i.frame.file) e
     (bad_source a l m own log name why next ((λ j. sourcing_cause files (sym i.files j) (sym i.progress.total_lines j) name) ∙ bad))
 
 source_allowed : (files : Files) (first : List (List ℕ)) (names : List (List ℕ)) (a : FileContext) (own : List (Located Named))
