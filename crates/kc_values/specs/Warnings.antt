@@ -1,4 +1,4 @@
--- Trusted: What the values are warned of (our own).
+-- Trusted: The warnings about values (our own).
 use Rattle.std.specs.Prelude.{ℕ, List, map}
 use Rattle.std.specs.declared.alloc.Global.{Global}
 use Rattle.std.specs.declared.vec.Vec.{Vec}
