@@ -125,7 +125,7 @@ pub fn config_is_idempotent()
     idempotent_where();
 }
 
-/// Reading the list of new symbols after the input files, if no new string is too long for a line. Its lines have no
+/// The list of new symbols is read after the input files; no new string is too long for a line. Then its lines have no
 /// warnings. The values stay if and only if no new tristate symbol outside a choice is greater than both its visibility
 /// and what it is selected to. A symbol is still new only if it has a comment: an int or hex whose value is not a
 /// number. (Our own.)

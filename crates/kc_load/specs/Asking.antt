@@ -1,4 +1,4 @@
--- Trusted: The order in which a folder is asked for the files of a tree: the order of their `source` lines (our own).
+-- Trusted: The order in which the files of a tree are read: the order of their `source` lines (our own).
 use Rattle.std.specs.Prelude.{Contains, IsUtf8, List, None, Option, Some, [], false, ℕ, ◌++◌, ◌∷◌, ◌≡◌}
 use Rattle.kc_language.specs.{Expansion.{Files, SourceNames}, Lines.unread_lines}
 

@@ -6,6 +6,6 @@ use Rattle.kc_diagnostics.specs.Warnings.{owned_warning}
 use Rattle.kc_language.specs.Symbols.{Warning}
 use Rattle.kc_language.specs.declared.diagnostics.Warning as declared
 
--- the warnings that are held
+-- the warnings in a list of the code
 abbrev pub held : List (declared.Warning (Vec ℕ Global)) → List Warning
 held warnings = map owned_warning warnings
