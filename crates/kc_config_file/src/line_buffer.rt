@@ -133,9 +133,9 @@ fn bytes_before_lf(bytes: &[u8], room: usize) -> usize
     }
 }
 
-// Takes a prefix of the bytes, and returns its length. If nothing is pending, it takes a line with its LF, and reads it
-// without a copy. Otherwise it takes the bytes before the next LF, as many as the line has room for, or one byte if
-// there are none.
+// Takes a prefix of the bytes, and returns its length. If nothing is pending and the bytes start with a whole line,
+// takes that with its LF, and reads it without a copy. Otherwise takes the bytes before the next LF, as many as the
+// line has room for, or one byte if there are none.
 fn take_front<'a>(
     alloc: Global,
     stream: &NamedStream<'a>,
