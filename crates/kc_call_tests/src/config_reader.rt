@@ -1,4 +1,4 @@
-//! Reading a `.config` in any pieces: what the calls tell, what they leave, and what waits (kc_config_file).
+//! Reading a `.config` in any chunks: the warnings, the results and the pending bytes (kc_config_file).
 ghost use Rattle.std.specs.Prelude.{◌≡◌};
 ghost use Rattle.kc_language.specs.ConfigFile.{ArePlacesOf};
 
@@ -14,14 +14,15 @@ use std::alloc::{AllocError, Global};
 
 const KCONFIG: &[u8] = b"config A\n\tbool \"a\"\n";
 
-// Its second and third line are none of a `.config`, its fourth sets A again.
+// Its second and third lines are not lines of a `.config`. Its fourth sets A again.
 const LINES: &[u8] = b"CONFIG_A=y\nfoo\nbar\n# CONFIG_A is not set\n";
 
 const WARNINGS: &[u8] = b".config:2: warning K9: malformed line\n\
     .config:3: warning K9: malformed line\n\
     .config:4: warning K10: A is set again\n";
 
-// A reader over no user values at first, and what it told. Its calls have no contract of their own: what they leave is looked at.
+// A reader that starts without user values, and its warnings. Its calls have no contract of their own: the tests check
+// their results.
 #[derive(Drop)]
 struct Trial<'a> {
     alloc: Global,
@@ -37,10 +38,10 @@ struct Trial<'a> {
 // A call of the reader.
 enum Call {
     Feed(&'static [u8]),
-    // So many bytes `#`.
+    // This many bytes `#`.
     FeedHashes(usize),
     Finish,
-    // Ends the file, and goes on with a reader of the next one, of this name.
+    // Ends the input file, and continues with a reader of the next one, of this name.
     NextFile(&'static [u8]),
 }
 
@@ -87,7 +88,7 @@ impl<'a> Trial<'a> {
         }
     }
 
-    // How many of the calls answer that this line is too long.
+    // The number of calls that return the error that this line is too long.
     fn refused_calls(&mut self, calls: &[Call], line: u64) -> usize {
         let mut refused = 0_usize;
         for call in calls {
@@ -98,7 +99,7 @@ impl<'a> Trial<'a> {
         refused
     }
 
-    // A, as the user has it.
+    // The user value of A.
     fn value_of_a(&self, tree: &Tree) -> Option<Tri> {
         let id = tree.find(b"A")?;
         match self.user.user().symbols().get(id.0) {
@@ -107,7 +108,7 @@ impl<'a> Trial<'a> {
         }
     }
 
-    // Whether what is left is what the case says.
+    // Whether the result is that of the case.
     fn is_at(&self, tree: &Tree, case: &Case) -> bool {
         self.value_of_a(tree) == Some(case.a)
             && self.reader.pending() == case.waits
@@ -115,7 +116,7 @@ impl<'a> Trial<'a> {
     }
 }
 
-// Calls: how many of them are refused, what A is then, what was told, and how much of a line waits.
+// Calls: how many of them fail, A afterwards, the warnings, and how many bytes of a line are pending.
 #[derive(Clone, Copy)]
 struct Case {
     name: &'static str,
@@ -193,7 +194,7 @@ const CASES: &[Case] = &[
     },
 ];
 
-// Whether the calls leave what the case says, where line 3 is the one that may be too long.
+// Whether the calls have the result of the case. Only line 3 may be too long.
 fn leaves(alloc: Global, tree: &Tree, prefix: &Prefix, case: &Case) -> bool {
     match Trial::new(alloc, tree, prefix) {
         Ok(mut trial) => {
@@ -212,12 +213,12 @@ impl Claim for Case {
     }
 }
 
-// The lines, cut here into two pieces.
+// The lines, cut here into two chunks.
 #[derive(Clone, Copy)]
 struct Cut(usize);
 
 impl Cut {
-    // Whether the two leave what the lines leave as one.
+    // Whether the two chunks have the same result as all lines at once.
     fn leaves_all(&self, alloc: Global, tree: &Tree, prefix: &Prefix) -> bool {
         let at = self.0.min(LINES.len());
         match Trial::new(alloc, tree, prefix) {

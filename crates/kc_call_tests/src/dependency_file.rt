@@ -1,4 +1,4 @@
-//! The dependency file (kc_load): how a name is written there.
+//! The dependency file (kc_load): how names are written in it.
 
 use kc_expr::names::Names;
 use kc_load::{rule_text, unreadable_name};
@@ -30,7 +30,7 @@ fn each_file_is_a_prerequisite_and_has_an_empty_rule(rt: HostRuntime) {
     assert!(rt; is_rule(rt.alloc(), "o", &[], "o:\n"));
 }
 
-// A name, and how it stands in a rule: as the target, and as the last prerequisite.
+// A name, and its form in a rule: as the target, and as the last prerequisite.
 const ESCAPED: &[(&str, &str, &str)] = &[
     ("a b", "a\\ b", "a\\ b"),
     ("a\tb", "a\\\tb", "a\\\tb"),
@@ -47,7 +47,7 @@ const ESCAPED: &[(&str, &str, &str)] = &[
     ("\\%|", "\\\\\\%|", "\\%\\|"),
 ];
 
-// Whether the name stands so in a rule.
+// Whether the name has these forms in a rule.
 fn is_escaped(alloc: Global, name: &str, target: &str, prerequisite: &str) -> bool {
     let mut rule = String::new(alloc);
     write!(rule, "{target}: \\\n {prerequisite}\n\n{target}:\n").is_ok()
@@ -64,7 +64,7 @@ fn a_name_is_escaped(rt: HostRuntime) {
     }
 }
 
-// Names that make reads in a rule.
+// Names that make can read in a rule.
 const READABLE: &[&str] = &[
     "Kconfig",
     "./a",
@@ -93,7 +93,7 @@ const READABLE: &[&str] = &[
     "d/-l",
 ];
 
-// Names that it does not read, or not in each place.
+// Names that make cannot read, or not in each position.
 const UNREADABLE: &[&str] = &[
     "",
     "./",

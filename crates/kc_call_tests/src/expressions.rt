@@ -1,4 +1,4 @@
-//! Names, and the value of expressions over a type of one's own (kc_expr).
+//! Names, and the value of expressions over the test's own type of values (kc_expr).
 
 ghost use Rattle.std.specs.Prelude.{[], Some};
 ghost use Rattle.kc_language.specs.Expressions.{symbol};
@@ -11,10 +11,10 @@ use kc_expr::values::{Values, eval, eval_depends_on_symbols, symbols_into};
 use kc_text::{Token, lex};
 use std::alloc::Global;
 
-// Functions that answer whether a case holds own names and expressions: each early exit of a test would prove their drops
-// once more.
+// The functions that check a case own the names and expressions. In a test, each early exit would prove their drops
+// again.
 
-// Each symbol is a bool of this value, and the first is the modules symbol.
+// Each symbol is a bool of this value, and the first one is the modules symbol.
 struct Alike(Tri);
 
 impl Values for Alike {
@@ -109,7 +109,7 @@ fn a_number_has_its_name(rt: HostRuntime) {
     assert!(rt; the_second_has_its_name(rt.alloc()));
 }
 
-// Whether the tokens are a condition of this value where each symbol is worth m.
+// Whether the tokens are a condition of this value if each symbol is m.
 fn tokens_are_worth(alloc: Global, tokens: &[Token], names: &mut Names, want: Tri) -> bool {
     match parse(alloc, tokens, 0, true, names) {
         Ok((expr, _)) => value_of(&expr) == want,
@@ -130,7 +130,7 @@ fn is_worth(alloc: Global, line: &[u8], want: Tri) -> bool {
         && tokens_are_worth(alloc, &tokens, &mut names, want)
 }
 
-// Expressions over a symbol that is worth m, and their values.
+// Expressions over a symbol that is m, and their values.
 const TRUTHS: &[(&[u8], Tri)] = &[
     (b"A", Tri::M),
     (b"!A", Tri::M),
@@ -150,7 +150,7 @@ fn expressions_are_evaluated_over_any_type(rt: HostRuntime) {
     }
 }
 
-// Adds the symbols that the tokens name to those that are there.
+// Adds the symbols in the tokens to the list.
 fn named_into(alloc: Global, tokens: &[Token], names: &mut Names, ids: &mut Vec<SymId>) -> bool {
     match parse(alloc, tokens, 0, true, names) {
         Ok((expr, _)) => symbols_into(&expr, Some(SymId(7)), ids).is_ok(),
@@ -160,7 +160,7 @@ fn named_into(alloc: Global, tokens: &[Token], names: &mut Names, ids: &mut Vec<
 
 const NAMED: &[SymId] = &[SymId(9), SymId(0), SymId(1), SymId(0), SymId(2), SymId(7)];
 
-// Whether the symbols that a line names stand after the number 9, from left to right.
+// Whether the symbols of a line come after the number 9, from left to right.
 fn are_named(alloc: Global) -> bool {
     let mut tokens = Vec::new(alloc);
     let mut names = Names::new(alloc);
@@ -176,7 +176,8 @@ fn symbols_are_named_from_left_to_right(rt: HostRuntime) {
     assert!(rt; are_named(rt.alloc()));
 }
 
-// Names as long as stand in place, one byte longer, and much longer; the last two differ in their last byte.
+// Names of the greatest length that is stored in place, one byte longer, and much longer. The last two differ in their
+// last byte.
 static LONG_NAMES: &[&[u8]] = &[
     b"ABCDEFGHIJKLMNOPQRSTUVW",
     b"ABCDEFGHIJKLMNOPQRSTUVWX",

@@ -1,4 +1,4 @@
-//! Files that are put into a map, parts of which are repeated, and a refusal as a text.
+//! Puts files into a map, with repeated parts, and formats a refusal as a text.
 
 use kc_diagnostics::cause_parts;
 use kc_read::{FileMap, Refusal};
@@ -27,7 +27,7 @@ pub(crate) fn put_all(
     Ok(())
 }
 
-/// Whether the names have these bytes.
+/// Whether the files of these names have these bytes.
 pub(crate) fn has_files(map: &FileMap, files: &[(&str, &[u8])]) -> bool {
     for (name, bytes) in files {
         if map.get(name.as_bytes()) != Some(*bytes) {
@@ -37,7 +37,7 @@ pub(crate) fn has_files(map: &FileMap, files: &[(&str, &[u8])]) -> bool {
     true
 }
 
-/// Whether these names are there, and those are not.
+/// Whether the map has exactly those of these names that it should have.
 pub(crate) fn has_names(map: &FileMap, names: &[(&str, bool)]) -> bool {
     for (name, held) in names {
         if map.get(name.as_bytes()).is_some() != *held {
@@ -47,8 +47,8 @@ pub(crate) fn has_names(map: &FileMap, names: &[(&str, bool)]) -> bool {
     true
 }
 
-/// A part of a file: how often a text stands there. In it `~` stands for a line feed, `^` for a carriage return, `@` for a
-/// tab, and `%` for a name that tells how often the text stood before.
+/// A part of a file: a text and how often it is repeated. In it `~` is a line feed, `^` a carriage return, `@` a tab,
+/// and `%` a name made from the number of earlier repetitions.
 pub(crate) type Piece<'a> = (usize, &'a [u8]);
 
 // Adds the number, written with the letters A to P.
@@ -84,7 +84,7 @@ pub(crate) fn pieces_into(pieces: &[Piece], bytes: &mut Vec<u8>) -> Result<(), A
     Ok(())
 }
 
-/// Puts a file with these parts under its name; without a part there is no file.
+/// Puts a file with these parts under its name; puts no file if there are no parts.
 pub(crate) fn put_pieces(
     alloc: Global,
     map: &mut FileMap,
@@ -99,15 +99,15 @@ pub(crate) fn put_pieces(
     put(alloc, map, name, &bytes)
 }
 
-/// Adds the bytes, each as one letter. A text that is compared has no byte
-/// for which memory was missing, so it is then another than the one that is wanted.
+/// Adds the bytes, each as one letter. A byte is left out if there is not enough memory. Then the text differs from the
+/// expected one.
 pub(crate) fn letters_into(bytes: &[u8], text: &mut String) {
     for byte in bytes {
         let _ = text.push(char::from(*byte));
     }
 }
 
-/// Adds the refusal as `FILE:LINE TEXT`; without a location it has less.
+/// Adds the refusal as `FILE:LINE TEXT`, or less if it has no location.
 pub(crate) fn refusal_into(refusal: &Refusal, text: &mut String) {
     if let Some((file, line)) = &refusal.location {
         letters_into(file, text);

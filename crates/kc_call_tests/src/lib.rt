@@ -1,6 +1,6 @@
-//! Tests of single calls of the crates up to kc_config_file, of what no run of the program shows by itself: limits whose inputs are
-//! made by code, a folder that fails, a `.config` in pieces, the order in which files are read, the plain slow solver beside the solver,
-//! user values, and generic functions at a type. Whole runs are cases in kconf_cases.
+//! Tests of single calls of the crates up to kc_config_file. They cover what no run of the program shows: limits whose
+//! inputs are generated, a folder that fails, a `.config` in chunks, the order in which files are read, the plain slow
+//! solver compared with the solver, user values, and generic functions at a type. Whole runs are cases in kconf_cases.
 #![tactic(auto)]
 
 #[cfg(test)]

@@ -1,4 +1,5 @@
-//! Loading, over a folder in memory: the order in which files are asked for, one that fails, and a million lines (kc_load).
+//! Loading from a folder in memory: the order in which files are read, a file that fails, and a million lines
+//! (kc_load).
 ghost use Rattle.std.specs.Prelude.{◌≡◌, ◌++◌, ◌∷◌, [], Some, IfOk, OnErr, OnOk, map, option_map};
 ghost use Rattle.kc_language.specs.Expansion.{bytes_in};
 
@@ -7,7 +8,8 @@ use kc_load::*;
 use kc_read::FileMap;
 use std::alloc::{AllocError, Global};
 
-// Files by path, of which one may fail; the paths at which one failed; and those that were asked for, each followed by a blank.
+// Files by path, one of which may fail; the paths at which a read failed; and the paths that were read, each followed
+// by a blank.
 #[derive(Drop)]
 struct MemoryFolder<'a> {
     files: FileMap,
@@ -30,7 +32,7 @@ impl<'a> Folder for MemoryFolder<'a> {
     }
 }
 
-// Keeps a path at which the device failed. Where memory is refused, nothing changes.
+// Records a path at which the device failed. If there is not enough memory, nothing changes.
 fn keep(alloc: Global, failed: &mut Vec<Vec<u8>>, path: &str) -> Result<(), AllocError>
     ensures kept { OnOk result (map (λ p. p.items) failed.new.items ≡ map (λ p. p.items) failed.old.items ++ path.now ∷ []) }
     ensures refused { OnErr result (failed.new.items ≡ failed.old.items) }
@@ -40,7 +42,7 @@ fn keep(alloc: Global, failed: &mut Vec<Vec<u8>>, path: &str) -> Result<(), Allo
     Ok(())
 }
 
-// Writes a path that was asked for.
+// Adds a path that is read.
 fn note(asked: &mut String, path: &str) -> Result<(), AllocError> {
     asked.push_str(path)?;
     asked.push_str(" ")
@@ -55,8 +57,8 @@ fn copied(alloc: Global, bytes: Option<&[u8]>) -> Result<Option<Vec<u8>>, AllocE
     }
 }
 
-// Files by path, a name that is loaded from them, and what comes of it: the paths that are asked for, how often the device
-// fails, and what is loaded.
+// Files by path, a name that is loaded from them, and the result: the paths that are read, how often the device fails,
+// and what is loaded.
 #[derive(Clone, Copy)]
 struct Case {
     name: &'static str,
@@ -69,7 +71,8 @@ struct Case {
     loaded: Loaded,
 }
 
-// What is loaded: for these names whether they are there, and files with their bytes; or the name of the file that failed.
+// The loaded files: for these names whether they exist, and files with their bytes; or the name of the file that
+// failed.
 #[derive(Clone, Copy)]
 enum Loaded {
     Files(&'static [(&'static str, bool)], &'static [(&'static str, &'static [u8])]),
@@ -93,7 +96,7 @@ fn is_loaded(outcome: &Result<FileMap, LoadFault>, loaded: Loaded) -> bool {
     }
 }
 
-// Whether the case's files are loaded as it says.
+// Whether the case's files are loaded as expected.
 fn holds(alloc: Global, case: &Case) -> bool {
     let mut folder = MemoryFolder {
         files: FileMap::new(alloc, false),
@@ -199,7 +202,7 @@ fn files_are_loaded(rt: HostRuntime) {
     }
 }
 
-// A root of two lines, and the lines of `a`.
+// A root file of two lines, and the lines of `a`.
 const MILLION: Case = Case {
     name: "a million lines and one are a reason to stop",
     files: &[

@@ -1,4 +1,4 @@
-//! Orders and loops of graphs (kc_order): which loop is named, and the laws at a type.
+//! Orders and loops of graphs (kc_order): which loop is reported, and the laws at a type.
 
 ghost use Rattle.std.specs.Prelude.{◌≡◌, ◌<◌, ◌^◌, map, IfOk};
 ghost use Rattle.std.specs.List.{range_with_len};
@@ -22,7 +22,7 @@ fn numbers(alloc: Global, count: usize) -> Result<Vec<u32>, AllocError>
     Ok(numbers)
 }
 
-// An order, for a graph that may be asked for, whose symbols count in the order of their numbers.
+// An order of a graph, if a graph of this size is allowed. Symbols are ordered by number.
 fn order_if_within(alloc: Global, graph: Graph) -> Result<Order, NoOrder> {
     if graph.is_within() {
         if graph.count() < 1_000_000 {
@@ -33,7 +33,7 @@ fn order_if_within(alloc: Global, graph: Graph) -> Result<Order, NoOrder> {
     Err(NoOrder::Memory)
 }
 
-// The same of a graph of two symbols, of which the second counts first.
+// The same for a graph of two symbols, the second of which comes first.
 fn order_of_two(alloc: Global, graph: Graph) -> Result<Order, NoOrder> {
     if graph.is_within() {
         if graph.count() < 1_000_000 && graph.symbols() == 2 {
@@ -43,7 +43,7 @@ fn order_of_two(alloc: Global, graph: Graph) -> Result<Order, NoOrder> {
     Err(NoOrder::Memory)
 }
 
-// The loop that is named, and nothing where there is an order.
+// The reported loop; empty if there is an order.
 fn loop_of(alloc: Global, order: Result<Order, NoOrder>) -> Result<Vec<u32>, AllocError> {
     match order {
         Ok(_order) => Ok(Vec::new(alloc)),
@@ -54,7 +54,7 @@ fn loop_of(alloc: Global, order: Result<Order, NoOrder>) -> Result<Vec<u32>, All
     }
 }
 
-// A graph with these rows, of which the first are symbols.
+// A graph with these rows. The first ones are symbols.
 fn graph_from(alloc: Global, symbols: usize, rows: &[&[u32]]) -> Result<Graph, AllocError> {
     let mut graph = Graph::with_room(alloc, symbols, rows.len())?;
     for row in rows {
@@ -63,7 +63,7 @@ fn graph_from(alloc: Global, symbols: usize, rows: &[&[u32]]) -> Result<Graph, A
     Ok(graph)
 }
 
-// A graph whose first nodes are symbols, what each node needs, and the loop that is named; none where there is an order.
+// A graph whose first nodes are symbols, the needs of each node, and the reported loop; empty if there is an order.
 struct LoopCase {
     name: &'static str,
     symbols: usize,

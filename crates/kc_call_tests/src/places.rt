@@ -1,4 +1,4 @@
-//! Which user values a symbol may have, and what places hold (kc_user).
+//! The allowed user values of symbols, and what a list of places holds (kc_user).
 
 use crate::trial::{Claim, is_true_of};
 use kc_expr::expression::{SymId, Tri};
@@ -12,14 +12,14 @@ const TREE: &[u8] =
     b"config A\n\tbool \"a\"\nconfig T\n\ttristate \"t\"\nconfig S\n\tstring \"s\"\nconfig I\n\tint \"i\"\n\
 config X\n\thex \"x\"\nconfig U\nchoice\n\tprompt \"c\"\nconfig M\n\tbool \"m\"\nendchoice\n";
 
-// A value of a user: a truth value, a text, or a text of so many quotes.
+// A user value: a truth value, a text, or a text of this many quotes.
 enum Sample {
     Truth(Tri),
     Text(&'static [u8]),
     Quotes(usize),
 }
 
-// Whether the symbol of this number may have the value.
+// Whether this value is allowed for the symbol of this number.
 struct Allowed(usize, Sample, bool);
 
 const SAMPLES: &[(&str, Allowed)] = &[
@@ -125,7 +125,7 @@ fn hold(places: &SparseVec<u8>, first: Option<u8>, second: Option<u8>, third: Op
         && places.get(2).copied() == third
 }
 
-// Whether three places hold what was put there last, and a fourth, which is not there, holds nothing.
+// Whether three places hold the last values that were put there, and a fourth, which does not exist, holds nothing.
 fn hold_the_last(alloc: Global) -> Result<bool, AllocError> {
     let mut places: SparseVec<u8> = SparseVec::empty(alloc, 3)?;
     let mut all = hold(&places, None, None, None);

@@ -1,5 +1,5 @@
-//! Files that are read: how many lines and symbols they have, where a line may stand, what lies at a limit and one past it,
-//! made by code, and the names that a file sources (kc_read).
+//! Reading files: the number of lines and symbols, where a line may be, inputs at a limit and one past it, which are
+//! generated, and the names that a file sources (kc_read).
 
 use crate::files::{
     Piece, has_files, has_names, letters_into, pieces_into, put, put_all, put_pieces, refusal_into,
@@ -8,8 +8,8 @@ use kc_expr::names::Names;
 use kc_read::{FileMap, expand, sources_of};
 use std::alloc::{AllocError, Global};
 
-// Files with how much is read of them, as `ROOT => WANT`, or `ROOT ++ A => WANT` beside a file `a`. In a file `~` stands for a
-// line feed, `^` for a carriage return and `@` for a tab.
+// Files, and the expected result of reading them: `ROOT => WANT`, or `ROOT ++ A => WANT` with a file `a`. In a file `~`
+// is a line feed, `^` a carriage return and `@` a tab.
 const READ: &str = r#"config config => 1 lines, 1 symbols
 config 5 => 1 lines, 1 symbols
 config _aZ09 => 1 lines, 1 symbols
@@ -41,8 +41,8 @@ choice~endchoice~source a~ ++ mainmenu m~ => 3 lines, 0 symbols
 source a~source a~source a ++ config A => 3 lines, 1 symbols
 if y~source a~endif~ ++ menu m~endmenu~ => 4 lines, 0 symbols"#;
 
-// For each line how it is taken after a config, a choice, a menu, a comment and an `if`: well (`+`), misplaced (`-`) or
-// left out (`o`).
+// Each line, and how it is read after a config, a choice, a menu, a comment and an `if`: correct (`+`), misplaced (`-`)
+// or unsupported (`o`).
 const PLACES: &str = r#"bool => ++---
 bool p if A => ++---
 tristate => +o---
@@ -74,7 +74,7 @@ choice => +-+++
 mainmenu m => +-+++
 # none => +++++"#;
 
-// A file and the names that its `source` lines give, each followed by a `;`.
+// A file and the names in its `source` lines, each followed by a `;`.
 const SOURCE_LISTS: &str = r#" => 
 source "a"~source b~source a => a;b;a;
 foo~endif~if y~source 'c\d'^~source ""~ => cd;;
@@ -94,9 +94,9 @@ config A~@bool~@help~@@a text~config B~ =>
 foo $~& => 
 # resource~config A~@prompt "source a"~resource b~ => "#;
 
-// Functions that answer whether a case holds own what is compared: each early exit of a test would prove its drops once more.
+// The functions that check a case own what they compare. In a test, each early exit would prove its drops again.
 
-// Adds how much the file `Kconfig` gives, or its refusal.
+// Adds the number of lines and symbols of the file `Kconfig`, or its refusal.
 fn outcome_into(alloc: Global, map: &FileMap, names: &mut Names, text: &mut String) {
     match expand(alloc, map, b"Kconfig", names) {
         Ok(expansion) => {
@@ -109,7 +109,7 @@ fn outcome_into(alloc: Global, map: &FileMap, names: &mut Names, text: &mut Stri
     }
 }
 
-// Whether this comes of the file `Kconfig`.
+// Whether the file `Kconfig` gives this result.
 fn gives_outcome(alloc: Global, map: &FileMap, want: &str) -> bool {
     let mut names = Names::new(alloc);
     let mut text = String::new(alloc);
@@ -117,7 +117,7 @@ fn gives_outcome(alloc: Global, map: &FileMap, want: &str) -> bool {
     text.as_str() == want
 }
 
-// Whether this comes of a root file beside the file `a`.
+// Whether a root file with the file `a` gives this result.
 fn gives(alloc: Global, root: &[Piece], other: &[Piece], want: &str) -> bool {
     let mut map = FileMap::new(alloc, false);
     put_pieces(alloc, &mut map, b"Kconfig", root).is_ok()
@@ -152,7 +152,7 @@ const MISPLACED: &str = "Kconfig:2 E10: misplaced";
 
 const LEFT_OUT: &str = "Kconfig:2 E7: tristate choice is left out";
 
-// Whether a line is taken as the sign says after an entry, beside an empty file `a`.
+// Whether a line after an entry is read as the sign says, with an empty file `a`.
 fn is_taken(alloc: Global, entry: &str, line: &str, sign: u8) -> bool {
     let root = &[(1, entry.as_bytes()), (1, line.as_bytes())];
     let other = &[(1, b"".as_slice())];
@@ -169,7 +169,7 @@ fn is_taken(alloc: Global, entry: &str, line: &str, sign: u8) -> bool {
 
 const PLACED: &[&str] = &["config Z~", "choice~", "menu m~", "comment c~", "if y~"];
 
-// Whether a line is taken as its signs say after each kind of entry.
+// Whether a line is read as its signs say after each kind of entry.
 fn has_places(alloc: Global, case: &str) -> bool {
     let (line, signs) = cut(case, " => ");
     for (entry, sign) in PLACED.iter().zip(signs.as_bytes()) {
@@ -207,7 +207,7 @@ fn sources(alloc: Global, file: &[u8], want: &str) -> bool {
     }
 }
 
-// Whether the file of a case, before the arrow, sources the names after it.
+// Whether the file of a case, before the arrow, sources the names after the arrow.
 fn has_sources(alloc: Global, case: &str) -> bool {
     let (file, want) = cut(case, " => ");
     let mut bytes = Vec::new(alloc);
@@ -221,14 +221,14 @@ fn sources_end_at_the_first_bad_line(rt: HostRuntime) {
     }
 }
 
-// The parts of a root file and of the file `a`, and what comes of both.
+// The parts of a root file and of the file `a`, and their result.
 type Case = (
     &'static [Piece<'static>],
     &'static [Piece<'static>],
     &'static str,
 );
 
-// Lines, levels and blocks at their limits; one past them is refused, as cases show.
+// Lines, levels and blocks at their limits. Cases show that one more is refused.
 const LIMITS: &[Case] = &[
     (&[(8191, b"#")], &[], "0 lines, 0 symbols"),
     (
@@ -272,11 +272,11 @@ const LIMITS: &[Case] = &[
         &[],
         "2 lines, 1 symbols",
     ),
-    // Over memory a file may have the empty name.
+    // In memory a file may have an empty name.
     (&[(1, b"source \"\"")], &[], "Kconfig:1 E1: no file "),
 ];
 
-// Forty blocks around the file `a`, which opens up to 25 in them.
+// Forty blocks around the file `a`, which opens up to 25 blocks in them.
 const AROUND: &[Piece] = &[
     (39, b"if y~"),
     (1, b"choice~source a~endchoice~"),
@@ -290,8 +290,8 @@ fn limits_of_a_line_and_of_blocks_hold_to_the_last_one(rt: HostRuntime) {
     }
 }
 
-// Files of which each sources the next, whose name has one letter more, once or twice: the name and the text of the last one,
-// and what comes of the first, `Kconfig`, beside the file `long`.
+// Files each of which sources the next, whose name is one letter longer, once or twice. Holds the name and the text of
+// the last one, and the result of the first, `Kconfig`, with the file `long`.
 #[derive(Clone, Copy)]
 struct Chain {
     last: &'static str,
@@ -339,7 +339,7 @@ fn is_chain(alloc: Global, chain: &Chain) -> bool {
 // The name of the last of 64 files.
 const LAST: &str = "aaaaaaaaaaaaaaaaaaaaaaaaaaaaaaaaaaaaaaaaaaaaaaaaaaaaaaaaaaaaaaaKconfig";
 
-// Sixty-four files beside one of more lines than a tree may have.
+// Sixty-four files, and one of more lines than a tree may have.
 const LONG: Chain = Chain {
     last: LAST,
     twice: false,
@@ -370,7 +370,7 @@ const CHAINS: &[Chain] = &[
         want: "aaaaaaaaaaaaaaaaaaaaaaaaaaaaaaaaaaaaaaaaaaaaaaaaaaaaaaaaaaaaaaaKconfig:1 E7: pattern is left out",
         ..LONG
     },
-    // Twenty-one files, of which each sources the next twice.
+    // Twenty-one files, each of which sources the next twice.
     Chain {
         last: "aaaaaaaaaaaaaaaaaaaaKconfig",
         twice: true,
@@ -390,7 +390,7 @@ fn sixty_four_files_are_open(rt: HostRuntime) {
 // A root file that sources the file `a` twice.
 const TWICE: &[Piece] = &[(2, b"source \"a\"~")];
 
-// A million lines and one.
+// A million lines, and one more.
 const MILLIONS: &[Case] = &[
     (TWICE, &[(499_999, b"~")], "0 lines, 0 symbols"),
     (
@@ -423,7 +423,7 @@ fn a_million_lines_are_counted(rt: HostRuntime) {
     }
 }
 
-// The most symbols, and a line after them.
+// The maximum number of symbols, and a line after them.
 const SYMBOLS: &[Case] = &[
     (&[(65_535, b"config %~")], &[], "65535 lines, 65535 symbols"),
     (
@@ -455,7 +455,7 @@ fn symbols_are_counted(rt: HostRuntime) {
     }
 }
 
-// Files, of which one is put twice, and what they are then.
+// Files, one of which is put twice, and the files afterwards.
 const PUT: &[(&str, &[u8])] = &[("a", b"old"), ("b", b""), ("a", b"new")];
 
 const KEPT: &[(&str, &[u8])] = &[("a", b"new"), ("b", b"")];

@@ -1,4 +1,4 @@
-//! The plain slow solver, beside which the tests hold the solver: every value computed anew, in iterations.
+//! The plain slow solver, with which the tests compare the solver: it computes every value again in each iteration.
 
 ghost use Rattle.std.specs.Prelude.{◌≡◌, ◌<◌, length, replicate, slice_get, None, Some, IfOk, IfSome, OnOk, []};
 ghost use Rattle.kc_expr.specs.Value.{value_by_type};
@@ -68,7 +68,7 @@ fn first_values(alloc: Global, tree: &Tree) -> Result<SparseVec<Value>, AllocErr
     Ok(values)
 }
 
-// A table of n and empty texts, where nothing is computed.
+// A table of n and empty texts, without computed contexts and selections.
 fn first_table<'t>(alloc: Global, laid: &LaidTree<'t>) -> Result<Table<'t>, AllocError>
     ensures tree { IfOk result (λ t. t.tree.now ≡ laid.now.tree.now) }
     ensures count { IfOk result (λ t. length t.values ≡ name_count laid.now.tree.now) }
@@ -79,7 +79,7 @@ fn first_table<'t>(alloc: Global, laid: &LaidTree<'t>) -> Result<Table<'t>, Allo
     Ok(table)
 }
 
-// The value of a member of a choice: y where it is selected. The selection is found anew.
+// The value of a member of a choice: y if it is selected. Computes the selection again.
 fn member_value(table: &Table, id: SymId, choice: ChoiceId, chosen: &[Option<SymId>]) -> Tri
     requires { choice.0 < length chosen.now }
     ensures { result ≡ at.member_equation table.now id choice.0 (member_given chosen.now choice.0) }
@@ -90,7 +90,7 @@ fn member_value(table: &Table, id: SymId, choice: ChoiceId, chosen: &[Option<Sym
     }
 }
 
-// The value that the equation of a symbol gives, under the values of the table.
+// The value of the equation of a symbol, under the values of the table.
 fn value_anew(
     alloc: Global,
     table: &Table,
@@ -114,7 +114,7 @@ fn value_anew(
     }
 }
 
-// Writes the value that the equation of a symbol gives, under the values of the table.
+// Stores the value of the equation of a symbol, under the values of the table.
 fn compute_anew(
     alloc: Global,
     table: &mut Table<'_>,
@@ -129,7 +129,7 @@ fn compute_anew(
     requires unsettled { table.old.contexts.items ≡ replicate (length table.old.contexts.items) None }
     ensures { OnOk result (IsComputedSymbol given.now chosen.now id table.old table.new) }
 {
-    // A member's choice is one of the tree's: `name_count` says so.
+    // A member's choice exists in the tree: this follows from `name_count`.
     let _count = table.tree.name_count();
     let symbol = symbol_row(table.layout, id);
     let value = value_anew(alloc, table, id, symbol, given, chosen)?;
@@ -137,10 +137,10 @@ fn compute_anew(
     Ok(())
 }
 
-/// The values that [`kc_solve::solve::solve`] finds, by the plainest way there is. In a table of n and empty texts
-/// every equation is computed anew, one symbol after another in the order of their first mention, in as many iterations
-/// as there are symbols; the order is only asked that there is one (our own). The caller owes the order and the places of
-/// that tree. Fails only when it is out of memory.
+/// Computes the values that [`kc_solve::solve::solve`] computes, in the plainest way. In a table of n and empty texts
+/// it computes every equation again, one symbol after another in the order of their first mention, in as many
+/// iterations as there are symbols. The order is only needed as a proof that there is one (our own). The caller must
+/// pass an order and user values of that tree. Fails only if there is not enough memory.
 pub(crate) fn slow_table<'t>(
     alloc: Global,
     laid: &LaidTree<'t>,

@@ -1,4 +1,4 @@
-//! What the plain slow solver finds, as lines.
+//! The results of the plain slow solver, as lines.
 
 use crate::trial::{SymbolReport, choice_count, choice_into, symbol_into, warnings_into};
 use kc_diagnostics::Warning;
@@ -16,12 +16,12 @@ use kc_values::warnings;
 use kc_values::written::written;
 use std::alloc::{AllocError, Global};
 
-// What was given for the symbol.
+// The user value of the symbol.
 fn given(user: &User, id: SymId) -> Option<&UserValue> {
     user.symbols().get(id.0)
 }
 
-// The member that was chosen.
+// The member that the user chose.
 fn chosen(user: &User, choice: ChoiceId) -> Option<SymId> {
     match user.choices().get(choice.0 as usize) {
         Some(Some(member)) => Some(*member),
@@ -38,7 +38,7 @@ fn holds(place: Option<&Value>, value: &Value) -> bool {
     }
 }
 
-// Whether the symbol's value is another one without what was given for it.
+// Whether the symbol's value differs from its value without its user value.
 fn differs(
     alloc: Global,
     table: &Table<'_>,
@@ -65,7 +65,7 @@ fn text_of<'t>(table: &'t Table<'_>, id: SymId) -> &'t [u8] {
     }
 }
 
-// The line of a symbol, and its warnings.
+// Adds the line of a symbol, and its warnings.
 fn symbol_line(
     alloc: Global,
     table: &Table<'_>,
@@ -90,7 +90,7 @@ fn symbol_line(
     warnings::warnings_into(alloc, table, id, symbol, shown, own, warned)
 }
 
-/// Adds the lines of the values in a table; the warnings stand after those that were found, and go into the text with them.
+/// Adds the lines of the values in a table. Adds the warnings to the earlier ones, and all of them to the text.
 pub(crate) fn lines_into(
     alloc: Global,
     table: &Table<'_>,

@@ -1,4 +1,4 @@
-//! What the solver finds, as lines.
+//! The results of the solver, as lines.
 
 use crate::trial::{SymbolReport, choice_count, choice_into, symbol_into, warnings_into};
 use kc_expr::expression::SymId;
@@ -8,7 +8,7 @@ use kc_tree::rows::ChoiceId;
 use kc_values::table::name;
 use std::alloc::AllocError;
 
-// The line of a symbol.
+// Adds the line of a symbol.
 fn symbol_line(solved: &Solved<'_>, id: SymId, out: &mut Vec<u8>) -> Result<(), AllocError> {
     let report = SymbolReport {
         name: name(solved.tree(), id),
@@ -20,7 +20,7 @@ fn symbol_line(solved: &Solved<'_>, id: SymId, out: &mut Vec<u8>) -> Result<(), 
     symbol_into(report, out)
 }
 
-// The line of a choice.
+// Adds the line of a choice.
 fn choice_line(solved: &Solved<'_>, choice: ChoiceId, out: &mut Vec<u8>) -> Result<(), AllocError> {
     if choice.0 as usize >= choice_count(solved.tree()) {
         return Ok(());

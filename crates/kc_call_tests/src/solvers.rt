@@ -1,4 +1,4 @@
-//! The solver beside the plain slow one (kc_solve): they agree on each tree.
+//! The solver compared with the plain slow one (kc_solve): they agree on each tree.
 
 ghost use Rattle.kc_solve.specs.Graphs.{IsGraphOf};
 ghost use Rattle.kc_language.specs.ConfigFile.{ArePlacesOf};
@@ -14,7 +14,7 @@ use kc_tree::tree::Tree;
 use kc_user::user::User;
 use std::alloc::Global;
 
-// Adds what the solver finds of the tree under these user values. The answer is whether it finds a solution.
+// Adds the results of the solver for the tree and these user values. Returns whether there is a solution.
 fn solved_into(
     alloc: Global,
     laid: &LaidTree<'_>,
@@ -31,7 +31,7 @@ fn solved_into(
     }
 }
 
-// Adds what the plain slow solver finds. The answer is whether it finds a solution.
+// Adds the results of the plain slow solver. Returns whether there is a solution.
 fn slowly_solved_into(
     alloc: Global,
     laid: &LaidTree<'_>,
@@ -49,7 +49,7 @@ fn slowly_solved_into(
     }
 }
 
-// Whether both find the same.
+// Whether both have the same results.
 fn agree_along(alloc: Global, laid: &LaidTree<'_>, order: &EvaluationOrder, user: &User) -> bool
     requires order { IsGraphOf laid.now order.now }
     requires user { ArePlacesOf laid.now.tree.now user.now }
@@ -61,7 +61,7 @@ fn agree_along(alloc: Global, laid: &LaidTree<'_>, order: &EvaluationOrder, user
         && found.as_slice() == slowly.as_slice()
 }
 
-// Whether the tree has no dependency loop, and both find the same.
+// Whether the tree has no dependency loop, and both have the same results.
 fn agree(alloc: Global, tree: &Tree, user: &User) -> bool
     requires { ArePlacesOf tree.now user.now }
 {

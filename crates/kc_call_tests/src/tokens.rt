@@ -2,7 +2,7 @@
 use kc_text::*;
 use std::alloc::{AllocError, Global};
 
-// Functions that answer whether a case holds own what is compared: each early exit of a test would prove its drops once more.
+// The functions that check a case own what they compare. In a test, each early exit would prove its drops again.
 
 fn name_of_fault(fault: TextFault) -> &'static str {
     match fault {
@@ -29,7 +29,7 @@ fn spelling_of(op: Op) -> &'static [u8] {
     }
 }
 
-// Adds what the tokens say, each followed by a blank; a quoted text stands in `<` and `>`.
+// Adds the text of the tokens, each followed by a blank. A quoted text is between `<` and `>`.
 fn tokens_into(tokens: &[Token], text: &mut Vec<u8>) -> Result<(), AllocError> {
     for token in tokens {
         match token {
@@ -46,7 +46,7 @@ fn tokens_into(tokens: &[Token], text: &mut Vec<u8>) -> Result<(), AllocError> {
     Ok(())
 }
 
-// Whether the line is cut into these tokens, each followed by a blank.
+// Whether the lexer cuts the line into these tokens, each followed by a blank.
 fn is_cut(alloc: Global, line: &[u8], want: &[u8]) -> bool {
     let mut tokens = Vec::new(alloc);
     let mut text = Vec::new(alloc);
@@ -55,7 +55,7 @@ fn is_cut(alloc: Global, line: &[u8], want: &[u8]) -> bool {
         && text.as_slice() == want
 }
 
-// A line, and its tokens.
+// A line and its tokens.
 const TOKENS: &[(&[u8], &[u8])] = &[
     (
         b"a=b!=c<d>e<=f>=g!h&&i||(j)\"k\"'l'#m",
@@ -80,7 +80,7 @@ fn each_kind_of_token_is_cut(rt: HostRuntime) {
     }
 }
 
-// Whether the line cannot be cut, for this reason.
+// Whether the lexer fails on the line with this error.
 fn is_not_cut(alloc: Global, line: &[u8], want: &str) -> bool {
     let mut tokens = Vec::new(alloc);
     match lex(line, false, &mut tokens) {
@@ -89,7 +89,7 @@ fn is_not_cut(alloc: Global, line: &[u8], want: &str) -> bool {
     }
 }
 
-// Lines that cannot be cut, and the fault of the first place that cannot.
+// Lines on which the lexer fails, and the first error.
 const FAULTS: &[(&[u8], &str)] = &[
     (b"bool \"$(x)\"", "macro"),
     (b"A $B + C", "macro"),
@@ -196,7 +196,7 @@ fn texts_are_escaped_and_back(rt: HostRuntime) {
     }
 }
 
-// An escaped text as none is written, and the text.
+// Escaped texts that are never written, and their meanings.
 const UNESCAPED: &[(&[u8], &[u8])] = &[(b"\\m\\n", b"mn"), (b"a\\", b"a\\"), (b"\\\\\\", b"\\\\")];
 
 #[test]

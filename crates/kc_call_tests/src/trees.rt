@@ -1,10 +1,10 @@
-//! Trees and user values on which the solver and the plain slow solver must agree. What each gives is shown by the cases of
-//! whole runs.
+//! Trees and user values on which the solver and the plain slow solver must agree. Cases of whole runs show the
+//! results.
 
 use crate::trial::Setting;
 use kc_expr::expression::Tri;
 
-/// A tree, and the user values.
+/// A tree and user values.
 pub(crate) struct Setup {
     /// What the tree shows.
     pub name: &'static str,

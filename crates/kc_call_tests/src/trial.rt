@@ -1,4 +1,4 @@
-//! Claims about a tree, user values, and the lines that show a solution.
+//! Claims about a tree, user values, and lines for a solution.
 
 ghost use Rattle.std.specs.Prelude.{◌≡◌, length};
 ghost use Rattle.kc_language.specs.ConfigFile.{ArePlacesOf};
@@ -26,9 +26,9 @@ pub(crate) enum Setting {
     Member(&'static [u8]),
 }
 
-/// What may be true of a tree.
+/// A claim about a tree.
 pub(crate) trait Claim {
-    /// Whether it is.
+    /// Whether it holds.
     fn holds_of(&self, alloc: Global, tree: &Tree) -> bool;
 }
 
@@ -44,7 +44,7 @@ fn built(alloc: Global, files: &FileMap) -> Result<Tree, Refusal> {
     tree_of(alloc, reading.listing)
 }
 
-// The tree of this file; none where it is refused.
+// The tree of this file; None if it is refused.
 fn tree_with(alloc: Global, kconfig: &[u8]) -> Option<Tree> {
     let mut files = FileMap::new(alloc, false);
     match put_file(alloc, kconfig, &mut files) {
@@ -53,8 +53,8 @@ fn tree_with(alloc: Global, kconfig: &[u8]) -> Option<Tree> {
     }
 }
 
-// No other function has the tree as its own: the code that drops it would stand in each of them.
-/// Whether the claim is true of the tree of this file.
+// No other function owns the tree: the code that drops it would be in each of them.
+/// Whether the claim holds for the tree of this file.
 pub(crate) fn is_true_of(alloc: Global, kconfig: &[u8], claim: &dyn Claim) -> bool {
     match tree_with(alloc, kconfig) {
         Some(tree) => claim.holds_of(alloc, &tree),
@@ -62,14 +62,14 @@ pub(crate) fn is_true_of(alloc: Global, kconfig: &[u8], claim: &dyn Claim) -> bo
     }
 }
 
-/// How many choices there are.
+/// The number of choices.
 pub(crate) fn choice_count(tree: &Tree) -> usize
     ensures { result ≡ length tree.now.choices }
 {
     tree.choices().len()
 }
 
-// Fills the place of the symbol of this name, if there is one.
+// Stores the user value of the symbol of this name, if there is one.
 #[tactic(auto, using(crate::proofs::PlaceLemmas::set_stays))]
 fn set(tree: &Tree, user: &mut User, name: &[u8], value: UserValue) -> bool
     requires { ArePlacesOf tree.now user.old }
@@ -81,7 +81,7 @@ fn set(tree: &Tree, user: &mut User, name: &[u8], value: UserValue) -> bool
     }
 }
 
-// Fills the first choice's place, if there is one, with the symbol of this name.
+// Selects the symbol of this name in the first choice, if there is one.
 #[tactic(auto, using(crate::proofs::PlaceLemmas::select_stays))]
 fn select(tree: &Tree, user: &mut User, name: &[u8]) -> bool
     requires { ArePlacesOf tree.now user.old }
@@ -96,7 +96,7 @@ fn select(tree: &Tree, user: &mut User, name: &[u8]) -> bool
     }
 }
 
-// Fills one place. The answer is whether it is there.
+// Stores one user value. Returns whether its symbol or choice exists.
 fn give(alloc: Global, tree: &Tree, user: &mut User, given: &Setting) -> bool
     requires { ArePlacesOf tree.now user.old }
     ensures { ArePlacesOf tree.now user.new }
@@ -111,7 +111,7 @@ fn give(alloc: Global, tree: &Tree, user: &mut User, given: &Setting) -> bool
     }
 }
 
-/// Fills the places with what is given, one after another. The answer is whether all of them are there.
+/// Stores these user values, one after another. Returns whether all their symbols and choices exist.
 pub(crate) fn give_all(alloc: Global, tree: &Tree, user: &mut User, given: &[Setting]) -> bool
     requires { ArePlacesOf tree.now user.old }
     ensures { ArePlacesOf tree.now user.new }
@@ -124,7 +124,7 @@ pub(crate) fn give_all(alloc: Global, tree: &Tree, user: &mut User, given: &[Set
     true
 }
 
-/// What is shown of a symbol.
+/// The reported facts of a symbol.
 pub(crate) struct SymbolReport<'a> {
     pub name: &'a [u8],
     pub value: &'a [u8],
@@ -133,7 +133,7 @@ pub(crate) struct SymbolReport<'a> {
     pub differs: bool,
 }
 
-/// The line of a symbol, after what stands in the text.
+/// Adds the line of a symbol to the text.
 pub(crate) fn symbol_into(report: SymbolReport<'_>, out: &mut Vec<u8>) -> Result<(), AllocError> {
     let SymbolReport {
         name,
@@ -151,7 +151,7 @@ pub(crate) fn symbol_into(report: SymbolReport<'_>, out: &mut Vec<u8>) -> Result
     out.extend_from_slice(if differs { b" differs\n" } else { b"\n" })
 }
 
-// The name of what is selected.
+// The name of the selected member.
 fn member_name(tree: &Tree, selection: Option<SymId>) -> &[u8] {
     match selection {
         Some(member) => name(tree, member),
@@ -159,7 +159,7 @@ fn member_name(tree: &Tree, selection: Option<SymId>) -> &[u8] {
     }
 }
 
-/// The line of a choice, after what stands in the text.
+/// Adds the line of a choice to the text.
 pub(crate) fn choice_into(
     tree: &Tree,
     selection: Option<SymId>,
@@ -174,7 +174,7 @@ pub(crate) fn choice_into(
     Ok(())
 }
 
-/// The warnings, after what stands in the text.
+/// Adds the warnings to the text.
 pub(crate) fn warnings_into(
     warnings: &[Warning<Vec<u8>>],
     out: &mut Vec<u8>,

@@ -1,4 +1,4 @@
-//! A `.config` that is read, values, and the three files.
+//! Reading a `.config`, values, and the three files.
 ghost use Rattle.std.specs.Prelude.{◌≡◌};
 ghost use Rattle.kc_language.specs.ConfigFile.{ArePlacesOf};
 ghost use Rattle.kc_solve.specs.Graphs.{IsGraphOf};
@@ -35,7 +35,7 @@ const SETTINGS: &[u8] = b"CONFIG_Q=y\n\
 
 const TEXT: &[u8] = b"a text \"in quotes\"";
 
-// The room that is made at first, in which all warnings have place: so telling one needs no memory.
+// The initial capacity, which is enough for all warnings: so a warning needs no allocation.
 const ROOM: usize = 1_000;
 
 const UNKNOWN: &[u8] = b".config:1: warning K7: unknown symbol Q\n";
@@ -48,12 +48,12 @@ fn prefix_of(alloc: Global) -> Result<Prefix, AllocError> {
     }
 }
 
-// What stands in the symbol's place.
+// The user value of the symbol.
 fn given(user: &User, id: SymId) -> Option<&UserValue> {
     user.symbols().get(id.0)
 }
 
-// The symbol's place is empty, or holds n.
+// The symbol has no user value, or n.
 fn is_empty_or_n(user: &User, id: SymId, is_empty: bool) -> bool {
     match given(user, id) {
         None => is_empty,
@@ -62,7 +62,7 @@ fn is_empty_or_n(user: &User, id: SymId, is_empty: bool) -> bool {
     }
 }
 
-// The symbol's place is empty, or holds `TEXT`.
+// The symbol has no user value, or `TEXT`.
 fn is_empty_or_text(user: &User, id: SymId, is_empty: bool) -> bool {
     match given(user, id) {
         None => is_empty,
@@ -71,7 +71,7 @@ fn is_empty_or_text(user: &User, id: SymId, is_empty: bool) -> bool {
     }
 }
 
-// The places are as after so many lines of `SETTINGS`, and the warnings are theirs.
+// The user values and the warnings are those after this many lines of `SETTINGS`.
 fn stands_after(user: &User, diagnostics: &[u8], lines: u8) -> bool {
     let warned = if lines > 0 { UNKNOWN } else { b"".as_slice() };
     diagnostics == warned
@@ -80,12 +80,12 @@ fn stands_after(user: &User, diagnostics: &[u8], lines: u8) -> bool {
         && given(user, N).is_none()
 }
 
-// After how many lines of `SETTINGS` the places stand.
+// The number of lines of `SETTINGS` after which the user values are as they are.
 fn lines_read(user: &User, diagnostics: &[u8]) -> Option<u8> {
     (0u8..4).find(|lines| stands_after(user, diagnostics, *lines))
 }
 
-// A reader over places, and what it told. Its calls have no contract of their own: what they leave is looked at.
+// A reader, its user values, and its warnings. Its calls have no contract of their own: the tests check their results.
 #[derive(Drop)]
 struct Fed<'a> {
     reader: InputReader<'a>,
@@ -112,7 +112,7 @@ impl<'a> Fed<'a> {
         self.reader.finish(&mut self.user, &mut self.diagnostics)
     }
 
-    // How `feed` ends: of a warning, two places and a line that is not at its end.
+    // The result of `feed`, for a warning, two user values and an unfinished line.
     fn end(&mut self) -> CallEnd {
         match self.feed(SETTINGS) {
             Ok(()) => {
@@ -121,7 +121,7 @@ impl<'a> Fed<'a> {
                         && stands_after(self.user.user(), &self.diagnostics, 3),
                 )
             }
-            // Each later call answers the same and changes nothing.
+            // Each later call returns the same and changes nothing.
             Err(fault) => {
                 let before = lines_read(self.user.user(), &self.diagnostics);
                 let again = self.feed(b"\n");
@@ -146,7 +146,7 @@ impl TreeCall for Feed {
     }
 }
 
-// Reads all lines of `SETTINGS` into the places. The answer is whether that was done.
+// Reads all lines of `SETTINGS` into the user values. Returns whether that succeeded.
 fn read_into<'a>(
     alloc: Global,
     tree: &'a Tree,
@@ -161,7 +161,7 @@ fn read_into<'a>(
     reader.feed(SETTINGS, user, diagnostics).is_ok() && reader.finish(user, diagnostics).is_ok()
 }
 
-// The same, with a text of its own for the warnings.
+// The same, with its own text for the warnings.
 fn fill<'a>(
     alloc: Global,
     tree: &'a Tree,
@@ -175,7 +175,7 @@ fn fill<'a>(
     Ok(read_into(alloc, tree, prefix, user, &mut diagnostics))
 }
 
-// A is n, B the text, and N seven.
+// A is n, B is the text, and N is seven.
 fn has_values(solved: &Solved<'_>) -> bool {
     solved.tri(A) == Tri::N && solved.text(B) == TEXT && solved.text(N) == b"7".as_slice()
 }
@@ -215,7 +215,7 @@ pub(crate) enum Output {
     Minimal,
 }
 
-// How a text is made, with values that are solved.
+// The result of formatting a text, with solved values.
 fn end_of_text(alloc: Global, solved: &Solved<'_>, prefix: &Prefix, output: Output) -> CallEnd {
     let (made, text) = match output {
         Output::Config => (config_text(alloc, solved, prefix), CONFIG),
@@ -237,7 +237,7 @@ pub(crate) enum Work {
     Text(Output),
 }
 
-// How the work ends under this order.
+// The result of the work for this order.
 fn end_in_order(
     alloc: Global,
     laid: &LaidTree<'_>,
@@ -257,7 +257,7 @@ fn end_in_order(
     }
 }
 
-// How it ends over these places.
+// The result for these user values.
 fn end_over(
     alloc: Global,
     tree: &Tree,
@@ -274,7 +274,7 @@ fn end_over(
     }
 }
 
-// How it ends where `SETTINGS` are read.
+// The result after reading `SETTINGS`.
 fn end_with(
     alloc: Global,
     tree: &Tree,

@@ -1,24 +1,24 @@
-//! How a call ended.
+//! The result of a call.
 
 use std::alloc::AllocError;
 
-/// How a call ended in which a growth may have been refused.
+/// The result of a call in which an allocation may have failed.
 #[derive(Clone, Copy)]
 pub(crate) enum CallEnd {
     /// It did its work.
     Done,
-    /// It answered being out of memory, and left what its contract says.
+    /// It failed with out of memory, and its contract holds.
     Refused,
-    /// It did neither.
+    /// Neither.
     Wrong,
 }
 
-/// The end of a call that did its work, where this holds of the work.
+/// The result of a call that did its work, if this check of the work holds.
 pub(crate) fn done(holds: bool) -> CallEnd {
     if holds { CallEnd::Done } else { CallEnd::Wrong }
 }
 
-/// The end of a call that answered being out of memory, where this holds of what it left.
+/// The result of a call that failed with out of memory, if this check of its effects holds.
 pub(crate) fn refused(holds: bool) -> CallEnd {
     if holds {
         CallEnd::Refused
@@ -27,7 +27,7 @@ pub(crate) fn refused(holds: bool) -> CallEnd {
     }
 }
 
-/// How a call ended, in words. The error is out of memory for what the call works on.
+/// The result of a call, in words. An error means out of memory while its input was prepared.
 pub(crate) fn said(end: Result<CallEnd, AllocError>) -> &'static str {
     match end {
         Ok(CallEnd::Done) => "done",

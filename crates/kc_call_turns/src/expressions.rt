@@ -21,7 +21,7 @@ const NAMES: &[&[u8]] = &[
     b"H",
 ];
 
-// The first so many of `NAMES` have their numbers.
+// The first `count` of `NAMES` have their numbers.
 fn are_numbered(names: &Names, count: usize) -> bool {
     let mut number = 0usize;
     for name in NAMES.iter().take(count) {
@@ -33,7 +33,8 @@ fn are_numbered(names: &Names, count: usize) -> bool {
     true
 }
 
-// After being out of memory the names are as they were: no known name asks for memory, and this one may get the next number.
+// After running out of memory the names are unchanged: a known name needs no memory, and this name can get the next
+// number.
 fn is_unnumbered(names: &mut Names, count: usize, name: &[u8]) -> bool {
     let was_kept = names.count() == count
         && are_numbered(names, count)
@@ -45,7 +46,7 @@ fn is_unnumbered(names: &mut Names, count: usize, name: &[u8]) -> bool {
     }
 }
 
-// How `id` ends, of each of `NAMES` in turn.
+// The result of `id`, for each of `NAMES` in turn.
 fn id_end(names: &mut Names) -> CallEnd {
     let mut count = 0usize;
     for name in NAMES {
@@ -58,7 +59,7 @@ fn id_end(names: &mut Names) -> CallEnd {
     done(names.count() == NAMES.len() && are_numbered(names, NAMES.len()))
 }
 
-/// `id`, of each of `NAMES`.
+/// `id`, for each of `NAMES`.
 pub(crate) fn call_id(alloc: Global) -> CallEnd {
     let mut names = Names::new(alloc);
     id_end(&mut names)
@@ -67,17 +68,17 @@ pub(crate) fn call_id(alloc: Global) -> CallEnd {
 const EXPRESSION: &[u8] =
     b"A && (B || !A_NAME_THAT_IS_TOO_LONG_TO_STAND_IN_PLACE) && C = \"x\" && D && E > \"1\"";
 
-// Adds the tokens of `EXPRESSION`. The answer is whether there was memory for them.
+// Adds the tokens of `EXPRESSION`. Returns whether there was enough memory.
 fn cut_into(tokens: &mut Vec<Token<'static>>) -> bool {
     EXPRESSION.len() <= 8191 && lex(EXPRESSION, false, tokens).is_ok()
 }
 
-// Numbers the first two of `NAMES`. The answer is whether there was memory for them.
+// Numbers the first two of `NAMES`. Returns whether there was enough memory.
 fn number_two(names: &mut Names) -> bool {
     names.id(NAMES[0]).is_ok() && names.id(NAMES[1]).is_ok()
 }
 
-// How many parts a chain of `&&` has.
+// The number of parts of a chain of `&&`.
 fn part_count(expression: &Expr) -> usize {
     match expression {
         Expr::All(parts) => parts.rest.len().saturating_add(2),
@@ -85,14 +86,14 @@ fn part_count(expression: &Expr) -> usize {
     }
 }
 
-// How `parse` ends, of an expression of six names, two of which are known.
+// The result of `parse`, for an expression of six names, two of which are known.
 fn parse_end(alloc: Global, tokens: &[Token], names: &mut Names) -> CallEnd {
     match parse(alloc, tokens, 0, false, names) {
         Ok((expression, after)) => {
             let is_whole = part_count(&expression) == 5 && after == tokens.len();
             done(is_whole && names.count() == 6 && are_numbered(names, 6))
         }
-        // Further names of the expression may have been added, each with the next number, and none has another.
+        // Further names of the expression may have been added, each with the next number; no other name was added.
         Err(fault) => {
             let count = names.count();
             let is_some_of_six = count >= 2 && count <= 6 && are_numbered(names, count);
@@ -101,7 +102,7 @@ fn parse_end(alloc: Global, tokens: &[Token], names: &mut Names) -> CallEnd {
     }
 }
 
-// What stands before the symbols, and they.
+// An earlier symbol, and the symbols after it.
 const LISTED: &[SymId] = &[
     SymId(9),
     SymId(0),
@@ -112,7 +113,7 @@ const LISTED: &[SymId] = &[
     SymId(5),
 ];
 
-// How `symbols_into` ends, behind a symbol that stands there.
+// The result of `symbols_into`, after an earlier symbol.
 fn symbols_end(alloc: Global, expression: &Expr) -> Result<CallEnd, AllocError> {
     let mut listed = vec![in alloc; SymId(9)]?;
     match symbols_into(expression, None, &mut listed) {
@@ -121,7 +122,7 @@ fn symbols_end(alloc: Global, expression: &Expr) -> Result<CallEnd, AllocError> 
     }
 }
 
-// The same for what the tokens are.
+// The same for the expression of these tokens.
 fn listed_end(alloc: Global, tokens: &[Token], names: &mut Names) -> Result<CallEnd, AllocError> {
     match parse(alloc, tokens, 0, false, names) {
         Ok((expression, _)) => symbols_end(alloc, &expression),
@@ -129,16 +130,16 @@ fn listed_end(alloc: Global, tokens: &[Token], names: &mut Names) -> Result<Call
     }
 }
 
-/// What is called over the tokens of an expression.
+/// The call on the tokens of an expression.
 #[derive(Clone, Copy)]
 pub(crate) enum Reading {
     /// `parse`.
     Parse,
-    /// `symbols_into`, of what they are.
+    /// `symbols_into`, for the parsed expression.
     SymbolsInto,
 }
 
-/// `parse`, and `symbols_into` of what it gives.
+/// `parse`, and `symbols_into` for its result.
 pub(crate) fn call_on_tokens(alloc: Global, reading: Reading) -> Result<CallEnd, AllocError> {
     let mut tokens = Vec::new(alloc);
     let mut names = Names::new(alloc);

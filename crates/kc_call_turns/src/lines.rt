@@ -6,14 +6,14 @@ use std::alloc::Global;
 
 const FILE: &[u8] = b"config A_NAME_OF_SEVERAL\\\n_LINES\n\tbool\n";
 
-// After being out of memory: the line is empty, and each later call answers the same.
+// After running out of memory the line is empty, and each later call fails in the same way.
 fn stays_refused(lines: &mut LogicalLines<'_>, line: &mut Vec<u8>) -> bool {
     let was_empty = line.is_empty();
     let again = lines.next_into(line);
     was_empty && line.is_empty() && again == Err(TextFault::Memory) && lines.next_single().is_none()
 }
 
-/// `next_into`, at a line that is joined of two.
+/// `next_into`, for a line that is joined from two lines.
 pub(crate) fn call_next_into(alloc: Global) -> CallEnd {
     let mut lines = LogicalLines::new(FILE);
     let mut line = Vec::new(alloc);
@@ -27,7 +27,7 @@ pub(crate) fn call_next_into(alloc: Global) -> CallEnd {
     }
 }
 
-/// `lex`, at a line of eleven tokens and a comment.
+/// `lex`, for a line of eleven tokens and a comment.
 pub(crate) fn call_lex(alloc: Global) -> CallEnd {
     let mut tokens = Vec::new(alloc);
     match lex(b"default \"x\" if A && !(B || C) # why", false, &mut tokens) {

@@ -1,6 +1,6 @@
-//! Single calls, each with what it leaves. With ample memory each does its work, which is what the gate sees. Where a
-//! growth is refused, as `make refused` refuses each in turn, a call does its work without it, or answers being out of memory
-//! and leaves what its contract says: no call may be wrong then.
+//! Single calls, and their results. With enough memory each call does its work: that is what the gate checks. `make
+//! refused` makes each allocation fail in turn. Then a call does its work without the allocation, or fails with out of
+//! memory and its contract holds. No call may be wrong.
 #![tactic(auto)]
 
 mod config_files;
@@ -16,7 +16,7 @@ use crate::trees::{KCONFIG, LOOP, Ordering, on_tree};
 use std::alloc::{AllocError, Global};
 use std::io;
 
-/// A call that is made.
+/// A call.
 #[derive(Clone, Copy)]
 enum Call {
     NextInto,
@@ -71,7 +71,7 @@ fn end_of(alloc: Global, call: Call) -> Result<CallEnd, AllocError> {
     }
 }
 
-// One line: the call, and how it ended.
+// Prints one line: the call and its result.
 fn tell(rt: &HostRuntime, name: &str, call: Call) -> io::Result<()> {
     let said = said(end_of(rt.alloc(), call));
     println!(rt; "{name}: {said}")

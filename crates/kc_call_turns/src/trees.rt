@@ -20,7 +20,7 @@ const FILES: &[(&[u8], &[u8])] = &[
     (b"e", b"endmenu\n"),
 ];
 
-// The first so many of `FILES` have their bytes, and the others none.
+// The first `count` of `FILES` have their bytes, and the others have none.
 fn are_filled(files: &FileMap, count: usize) -> bool {
     let mut left = count;
     for (name, bytes) in FILES {
@@ -33,7 +33,7 @@ fn are_filled(files: &FileMap, count: usize) -> bool {
     true
 }
 
-// Puts copies of a file's name and bytes into the map. The answer is whether `insert` did its work.
+// Puts copies of a file's name and bytes into the map. Returns whether `insert` succeeded.
 fn insert_one(
     alloc: Global,
     files: &mut FileMap,
@@ -45,7 +45,7 @@ fn insert_one(
     Ok(files.insert(own_name, own_bytes).is_ok())
 }
 
-// How many of `FILES` are put into the map, up to the first that `insert` refuses.
+// Puts `FILES` into the map, up to the first for which `insert` fails. Returns their number.
 fn insert_all(alloc: Global, files: &mut FileMap) -> Result<usize, AllocError> {
     let mut count = 0usize;
     for (name, bytes) in FILES {
@@ -57,7 +57,7 @@ fn insert_all(alloc: Global, files: &mut FileMap) -> Result<usize, AllocError> {
     Ok(count)
 }
 
-/// `insert`, of each of `FILES`.
+/// `insert`, for each of `FILES`.
 pub(crate) fn call_insert(alloc: Global) -> Result<CallEnd, AllocError> {
     let mut files = FileMap::new(alloc, false);
     let count = insert_all(alloc, &mut files)?;
@@ -85,7 +85,7 @@ fn are_named(names: &[Vec<u8>], want: &[&[u8]]) -> bool {
     true
 }
 
-/// `sources_of`, of a file with three such lines, one of them joined.
+/// `sources_of`, for a file with three such lines, one of them joined.
 pub(crate) fn call_sources_of(alloc: Global) -> CallEnd {
     match sources_of(alloc, SOURCES) {
         Ok(names) => done(are_named(&names, &[b"a", b"b/c", b"d"])),
@@ -93,7 +93,8 @@ pub(crate) fn call_sources_of(alloc: Global) -> CallEnd {
     }
 }
 
-/// The tree of the calls: a bool, a string that waits for it, a number whose default lies outside, and a name without a type.
+/// The tree of the calls: a bool, a string that depends on it, a number whose default is outside its range, and a name
+/// without a type.
 pub(crate) const KCONFIG: &[u8] = b"config A\n\
     \tbool \"a\"\n\
     \tdefault y\n\
@@ -108,7 +109,7 @@ pub(crate) const KCONFIG: &[u8] = b"config A\n\
     config U\n\
     endmenu\n";
 
-/// A tree whose loop is named.
+/// A tree with a dependency loop.
 pub(crate) const LOOP: &[u8] =
     b"config A\n\tbool \"a\"\n\tdepends on B\n\tselect B\nconfig B\n\tbool \"b\"\n";
 
@@ -137,13 +138,14 @@ fn tree_with(alloc: Global, kconfig: &[u8]) -> Result<Tree, AllocError> {
     }
 }
 
-/// A call that works on a tree.
+/// A call on a tree.
 pub(crate) trait TreeCall {
-    /// How it ends. The error is out of memory for what it works on besides.
+    /// Its result. An error means out of memory while its other input was prepared.
     fn end(&self, alloc: Global, tree: &Tree) -> Result<CallEnd, AllocError>;
 }
 
-/// How the call ends on the tree of this one file. No other function has a tree as its own: the code that drops it is long.
+/// The result of the call on the tree of this one file. No other function owns a tree, because the code that drops it
+/// is long.
 pub(crate) fn on_tree(
     alloc: Global,
     kconfig: &[u8],
@@ -153,7 +155,7 @@ pub(crate) fn on_tree(
     call.end(alloc, &tree)
 }
 
-// Being out of memory, with no location.
+// The refusal is out of memory, without a location.
 fn is_memory(refusal: &Refusal) -> bool {
     refusal.cause == Cause::Memory && refusal.location.is_none()
 }
@@ -168,7 +170,7 @@ fn is_built(tree: &Tree) -> bool {
         )
 }
 
-/// `read_listing`, and `tree_of` of what it reads.
+/// `read_listing`, and `tree_of` for its result.
 pub(crate) fn call_build(alloc: Global) -> Result<CallEnd, AllocError> {
     let files = files_of(alloc, KCONFIG)?;
     match built(alloc, &files) {
@@ -177,7 +179,7 @@ pub(crate) fn call_build(alloc: Global) -> Result<CallEnd, AllocError> {
     }
 }
 
-// A stands before B, and each symbol once.
+// A comes before B, and each symbol once.
 fn is_order(nodes: &[u32]) -> bool {
     let first = nodes.iter().position(|node| *node == 0);
     let second = nodes.iter().position(|node| *node == 1);
@@ -188,7 +190,7 @@ fn is_order(nodes: &[u32]) -> bool {
         && nodes.contains(&3)
 }
 
-// How the refusal of a tree whose loop is named ends the call.
+// The result of the call for the refusal of a tree with a dependency loop.
 fn loop_end(refusal: &Refusal) -> CallEnd {
     match &refusal.cause {
         Cause::Loop(names) => {
@@ -201,9 +203,9 @@ fn loop_end(refusal: &Refusal) -> CallEnd {
 
 /// `EvaluationOrder::of`.
 pub(crate) enum Ordering {
-    /// Of a tree that has an order.
+    /// For a tree that has an order.
     Order,
-    /// Of a tree whose loop is named.
+    /// For a tree with a dependency loop.
     Loop,
 }
 

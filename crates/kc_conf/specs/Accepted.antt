@@ -20,7 +20,7 @@ use Rattle.kc_conf.specs.declared.accepted.TreeSources.{TreeSources}
 abbrev pub IsSources : Files → List (Located Numbered) → TreeSources → Type 0
 IsSources files lines sources = (files_in sources.files ≡ files) × (lines_in sources.entries ≡ lines)
 
--- they were kept, or were not to be
+-- they were kept, or were not wanted
 abbrev pub AreKept : Files → List (Located Numbered) → Bool → Option TreeSources → Type 0
 AreKept files lines keeps None = keeps ≡ false
 AreKept files lines keeps (Some sources) = IsSources files lines sources
@@ -34,13 +34,13 @@ abbrev pub AreSources : Files → List (Located Numbered) → Options → Option
 AreSources files lines options None = wants_sources options ≡ false
 AreSources files lines options (Some sources) = IsSources files lines sources.now
 
--- what was read of these files: the tree of the root file, the files that it opens, and its sources, if they are kept
+-- the result of reading these files: the tree of the root file, the files that it opens, and its sources, if kept
 pub record IsReadOf (files : Files) (root : List ℕ) (keeps : Bool) (read : TreeReading) : Type 0 where
   pub built : IsTreeOf files root (Ok read.tree)
   pub opened : AreOpened files root read.opened
   pub sources : (log : ReadSoFar) × Expands files root (Ok log) × AreKept files (numbered_lines log.lines) keeps read.sources
 
--- or why there is none, unless there was no memory
+-- or why there is no tree, unless there was not enough memory
 pub record IsReadingOf (files : Files) (root : List ℕ) (keeps : Bool) (reading : Result TreeReading Refusal) : Type 0 where
   pub read : IfOk reading (IsReadOf files root keeps)
   pub refused : IfErr reading (λ r. r.cause ≢ Memory → IsTreeOf files root (Err (refusal_view r)))
@@ -49,7 +49,7 @@ pub record IsReadingOf (files : Files) (root : List ℕ) (keeps : Bool) (reading
 abbrev pub IsReady : OrderedTree → Type 0
 IsReady accepted = IsGraphOf accepted.laid accepted.order.now
 
--- it is the tree of these files, with the files that it opens, and its sources, if they are kept
+-- the tree of these files, with the files that it opens, and its sources, if kept
 pub record IsOrderedOf (files : Files) (root : List ℕ) (keeps : Bool) (accepted : OrderedTree) : Type 0 where
   pub tree : IsAcceptedTree files root accepted.laid.tree.now
   pub opened : AreOpened files root accepted.opened.now

@@ -1,4 +1,4 @@
--- For proofs: What follows from the user's input.
+-- For proofs: What is computed from the user's input.
 use Rattle.kc_read.specs.Files.{files_in}
 use Rattle.std.specs.Borrow.{Bor}
 use Rattle.std.specs.Prelude.{◌≡◌, ℕ, Bool, false, ◌||◌, ◌&&◌, if◌then◌else◌, List, [], ◌++◌, codes, flat_map, map, Option, None, Some, option_map}
@@ -20,20 +20,20 @@ abbrev pub ruled_files : Files → Options → TreeFacts → List (Located Numbe
 ruled_files files options tree lines input solution names =
     record (files_of files options tree lines input solution) { depfile = option_map (rule_text (target options)) names }
 
--- what each line of such an explanation begins with
+-- the start of each line of such an explanation
 abbrev pub explanation_lead : Options → List ℕ
 explanation_lead options = lead options ++ codes "  "
 
--- the lines of the values that are lost, each with the explanation of its symbol
+-- the lines of lost values, each with the explanation of its symbol
 abbrev pub explained_lost : Bool → List ℕ → List (Located Numbered) → UserInput → Solution → List ℕ
 explained_lost is_raw front lines input solution = flat_map (λ s. flat_map (λ line. line ++ codes "\n" ++ explanation_text lines solution input is_raw front 1 s)
     (lost_at is_raw input.lines solution s)) solution.tree.defined
 
--- the sources, where they are wanted
+-- the sources, if they are wanted
 abbrev pub sources_if : Bool → Option (Bor TreeSources) → Option (Bor TreeSources)
 sources_if wanted sources = if wanted then sources else None
 
--- what is told of lost values, of new symbols and of the symbols that are asked for, by the sources that are wanted for it
+-- the lines of lost values, of new symbols and of explained symbols, from the sources that they need
 abbrev pub lost_by : Option (Bor TreeSources) → Options → UserInput → Solution → List ℕ
 lost_by None options input solution = lines_text (lost_warnings options input solution)
 lost_by (Some sources) options input solution = explained_lost options.prefix.is_raw (explanation_lead options) (lines_in sources.now.entries) input solution
@@ -56,7 +56,7 @@ new_from options sources solution = new_by (sources_if options.with_help sources
 abbrev no_files : Files
 no_files = record { bytes = λ file. None; flat = false }
 
--- the files of a solution, made of these sources
+-- the texts of a solution, from these sources
 abbrev pub files_from : Options → Option (Bor TreeSources) → UserInput → Solution → Option (List (List ℕ)) → Outcome
 files_from options sources input solution names = record (files_of no_files options solution.tree [] input solution) {
   list_new = text_if options.list_new (new_from options sources solution);
@@ -64,16 +64,16 @@ files_from options sources input solution names = record (files_of no_files opti
   explanation = explained_by sources options input solution;
 }
 
--- what the values are warned of, and which are lost
+-- the warnings about values, and the lost values
 abbrev pub value_lines : Options → List (Located Numbered) → UserInput → Solution → List ℕ
 value_lines options lines input solution = lines_text (map (λ line. lead options ++ line) (warnings solution)) ++ lost_text options lines input solution
 
--- the texts are refused, where there was a warning before or these are warnings
+-- the texts are refused, because of an earlier warning or of these warnings
 abbrev pub refuses : Options → UserInput → Solution → Bool → List ℕ → Bool
 refuses options input solution before warned = refuses_input options input solution || (options.strict_tree && (before || is_not_empty warned))
 
--- The warnings of the one solution for the user's values were added, and these are its texts, unless they are refused.
--- The files and the lines are those of the tree.
+-- The warnings of the one solution for the user values were added, and these are its texts, unless they are refused. The files and the lines are
+-- those of the tree.
 pub record Computes (files : Files) (options : Options) (tree : TreeFacts) (lines : List (Located Numbered)) (names : Option (List (List ℕ))) (input : UserInput)
     (before : Bool) (old new : List ℕ) (texts : Option (List NamedText)) : Type 0 where
   pub solution : Solution

@@ -1,4 +1,4 @@
--- For proofs: How a run ends behind its reading.
+-- For proofs: How a run ends after reading.
 use Rattle.std.specs.Prelude.{◌≡◌, ◌≢◌, ◌⊎◌, ℕ, Bool, List, [], ◌++◌, Option, None, Some, Result, Ok, Err, is_ok}
 use Rattle.kc_language.specs.Text.{GoesBeyond}
 use Rattle.kc_io.specs.Delivered.{Delivered}
@@ -21,18 +21,18 @@ use Rattle.kc_language.specs.declared.outcome.Status.TheVariants.{Done, Refused,
 use Rattle.kc_conf.specs.declared.stop.Stop.{Stop}
 use Rattle.kc_conf.specs.declared.stop.Stop.TheVariants.{OutOfMemory, Failed}
 
--- the text was said; or there is some, and the diagnostics failed
+-- the text was reported; or it is not empty, and the diagnostics failed
 abbrev pub SaysAll : List ℕ → Result (Unit {0}) Stop → Log → Log → Type 0
 SaysAll text (Ok _) old new = Leads [] text old new
 SaysAll text (Err stop) old new = IsReportStop stop × (text ≢ []) × Leads (event_of stop) [] old new
 
--- the texts were delivered, or what failed is answered
+-- the texts were delivered, or the failure is returned
 abbrev pub HandsBy : Manner → List NamedText → Log → Log → Result Status Stop → Type 0
 HandsBy manner texts old new (Ok status) = (status ≡ Done) × Delivered manner texts old new (Ok tt)
 HandsBy manner texts old new (Err OutOfMemory) = ⊥
 HandsBy manner texts old new (Err (Failed f)) = Delivered manner texts old new (Err f)
 
--- texts, or none where they are refused
+-- texts, or none if they are refused
 abbrev pub texts_or : Option (List NamedText) → List NamedText
 texts_or None = []
 texts_or (Some texts) = texts
@@ -45,7 +45,8 @@ abbrev pub line_if : Options → Option (List NamedText) → List ℕ
 line_if options None = lead options ++ strict_line
 line_if options (Some texts) = []
 
--- What is left of a run was done: what waits was said and the line of what is refused, the texts were delivered, and the status is the one for them.
+-- The rest of a run was done: the waiting diagnostics and the line of a refusal were reported, the texts were delivered, and the status is the one
+-- for them.
 pub record IsEnded (options : Options) (waits line : List ℕ) (texts : List NamedText) (ended : Status) (old new : Log) (status : Status) : Type 0 where
   pub made : List Event
   pub stale : List NamedText
@@ -54,7 +55,7 @@ pub record IsEnded (options : Options) (waits line : List ℕ) (texts : List Nam
   pub status_is : status ≡ status_with stale ended
   pub only_checked : (stale ≡ []) ⊎ ((options.delivery ≡ Check) × (ended ≡ Done))
 
--- why it was broken off, what was done and what was said
+-- why the run stopped early, what was done and what was reported
 pub data EndStops (options : Options) (waits line : List ℕ) (texts : List NamedText) (told : Log) : Stop → List Event → List ℕ → Type 0 where
   in_diagnostics : (f : Failure) (front : List ℕ) → f.action ≡ Report → f.name.now ≡ [] → AreLines front →
       Tells told (λ journal. GoesBeyond ((waits ++ line) ++ stale_lines options (stale_texts options texts journal)) front) → EndStops options waits line texts told (Failed f) [] front
@@ -68,24 +69,24 @@ pub record BreaksEnd (options : Options) (waits line : List ℕ) (texts : List N
   pub stops : EndStops options waits line texts (still_told old new) stop done front
   pub log : Leads (done ++ event_of stop ++ clearing options stop) front old new
 
--- either of the two
+-- one of the two
 abbrev pub Ends : Options → List ℕ → List ℕ → List NamedText → Status → Result Status Stop → Log → Log → Type 0
 Ends options waits line texts ended (Ok status) old new = IsEnded options waits line texts ended old new status
 Ends options waits line texts ended (Err stop) old new = BreaksEnd options waits line texts stop old new
 
--- these texts were compared with their files, and those that are stale were told
+-- these texts were compared with their files, and the stale ones were reported
 pub record IsChecked (options : Options) (texts : List NamedText) (old new : Log) (status : Status) : Type 0 where
   pub found : List NamedText
   pub of_old : Tells (still_told old new) (λ journal. found ≡ stale texts journal)
   pub log : Leads [] (stale_lines options found) old new
   pub status_is : status ≡ status_with found Done
 
--- it is reported why a run was broken off
+-- the reason why a run stopped early is reported
 abbrev pub Reports : Options → Stop → Bool → Log → Log → Type 0
 Reports options stop is_told old new = (report : Result (Unit {0}) Fault) × IsReport stop report × (is_told ≡ is_ok report)
     × Leads (reported report) (said report (stop_line options stop)) old new
 
--- a run that was not broken off answers its status; else it says why it was, and answers `Faulted`
+-- a complete run returns its status; one that stopped early reports why, and returns `Faulted`
 abbrev pub Answers : Options → Result Status Stop → Status → Log → Log → Type 0
 Answers options (Ok ended) status old new = (status ≡ ended) × (new ≡ old)
 Answers options (Err stop) status old new = (status ≡ Faulted) × (is_told : Bool) × Reports options stop is_told old new

@@ -1,4 +1,4 @@
--- Trusted: Why a run breaks off, and how it ends.
+-- Trusted: Why a run stops early, and how it ends.
 -- Our own. It ends in `Runs` and, for the tree of a folder, `FolderRuns`. Claims about files are for devices that record what files hold (kc_io).
 use Rattle.std.specs.Prelude.{◌≡◌, ◌⊎◌, ℕ, if◌then◌else◌, List, [], ◌++◌, ◌||◌, take, filter, slice_get, slice_index_or, string_bytes, Option, None, Some, Result, Ok, Err, ⊤}
 use Rattle.std.specs.Option.{option_or}
@@ -8,11 +8,11 @@ use Rattle.kc_load.specs.{Folder.{AreFilesOf, IsLoadFault, failed_load, FolderSt
 use Rattle.kc_conf.specs.declared.stop.Stop.{Stop}
 
 -- ---- Names and lines
--- The first name that is refused: one in the dependency file that make cannot read, or one that is asked for and that no symbol has.
+-- The first refused name: one in the dependency file that make cannot read, or one to be explained that no symbol has.
 abbrev pub refused_name_of : Options → List (List ℕ) → TreeFacts → Option (List ℕ)
 refused_name_of options opened tree = option_or (unreadable_name options opened) (unknown_name options tree)
 
--- No name is refused. Or the tree is accepted, and this is the first name that is.
+-- No name is refused. Or the tree is accepted, and this is the first refused name.
 abbrev pub NamesAreTaken : Files → Options → Type 0
 NamesAreTaken files options = (tree : TreeFacts) (opened : List (List ℕ)) → IsAcceptedTree files (root_file options) tree →
     AreOpened files (root_file options) opened → refused_name_of options opened tree ≡ None
@@ -32,13 +32,13 @@ abbrev pub AreLines : List ℕ → Type 0
 AreLines text = (lines : List (List ℕ)) × (text ≡ lines_text lines)
 
 -- ---- An input file that cannot be read
--- The warnings of the files before file i, and of the lines that a line feed ends in these first bytes of it.
+-- The warnings of the files before file i, and of the complete lines in these first bytes of file i.
 abbrev pub warned_by : Options → TreeFacts → List InputFile → ℕ → List ℕ → List ℕ
 warned_by options tree files i bytes = (reading tree options.prefix (fresh_input options tree) (lines_of (streams (input_names options)
     (bytes_of (take i files))) ++ filter (λ l. l.ended) (lines_from (slice_index_or (input_names options) i []) 1 bytes))).warned
 
--- This was done when a file could not be opened or read on. The files before it were there and were read, its turn had come, and these of its bytes
--- were read, in which no line is too long. The warnings up to there were reported, unless --strict or --strict-tree holds them back.
+-- This was done when a file could not be opened or read on. The files before it exist and were read, it was next, and these of its bytes were read,
+-- in which no line is too long. The warnings up to there were reported, unless --strict or --strict-tree holds them back.
 pub record ReadsUpTo (told : Log) (options : Options) (tree : TreeFacts) (files : List InputFile) (action : Action) (file : InputFile)
     (done : List Event) (said : List ℕ) : Type 0 where
   pub i : ℕ
@@ -52,15 +52,15 @@ pub record ReadsUpTo (told : Log) (options : Options) (tree : TreeFacts) (files 
   pub done_is : done ≡ reads (take i files) ++ begun action file.name bytes
   pub said_is : said ≡ (if options.strict || options.strict_tree then [] else warned_by options tree files i bytes)
 
--- ---- Why a run is broken off
--- the event of what failed, and the removal of the temporary files after a failure to write with --replace
+-- ---- Why a run stops early
+-- the event of the failure, and the removal of the temporary files after a failure to write with --replace
 abbrev pub event_of : Stop → List Event
 event_of stop = elim stop [ Stop.OutOfMemory ↦ [] | Stop.Failed f ↦ failed f.action f.name.now f.fault ]
 
 abbrev pub clearing : Options → Stop → List Event
 clearing options stop = elim stop [ Stop.OutOfMemory ↦ [] | Stop.Failed f ↦ cleared_by options.delivery f.action ]
 
--- the error line of a run that was broken off; a failure of the diagnostics has none
+-- the error line of a run that stopped early; a failure of the diagnostics has none
 abbrev pub stop_line : Options → Stop → List ℕ
 stop_line options Stop.OutOfMemory = lead options ++ out_of_memory_line
 stop_line options (Stop.Failed f) = elim f.action [
@@ -71,21 +71,21 @@ stop_line options (Stop.Failed f) = elim f.action [
   ]
 ]
 
--- The run reports why it was broken off, unless the diagnostics fail. Diagnostics that failed already are asked for nothing more.
+-- The run reports why it stopped early, unless the diagnostics fail. After a failure of the diagnostics they are not used again.
 abbrev pub IsReport : Stop → Result (Unit {0}) Fault → Type 0
 IsReport Stop.OutOfMemory report = ⊤
 IsReport (Stop.Failed f) report = elim f.action [ Report ↦ report ≡ Ok tt | _ ↦ ⊤ ]
 
 -- ---- How a run ends
--- What a run that is not broken off reads: nothing for a tree or a name that is refused; else its input files, up to a line that is too long. Each
--- of them is there, unless it is found to be missing. (`told` is what the device recorded at first.)
+-- What a complete run reads: nothing if the tree or a name is refused; otherwise its input files, up to a line that is too long. Each file exists, or
+-- was found to be missing. (`told` is what the device recorded at first.)
 pub data AreReads (files : Files) (options : Options) (inputs : List InputFile) (told : Log) : List Event → Type 0 where
   refused_tree : (r : Refused) → IsRefusedTree files (root_file options) r → AreReads files options inputs told []
   refused_name : (name : List ℕ) → IsRefusedName files options name → AreReads files options inputs told []
   of_tree : (tree : TreeFacts) (events : List Event) → IsAcceptedTree files (root_file options) tree → NamesAreTaken files options →
       AreThere told inputs → ReadsTo inputs (read_of options tree (bytes_of inputs)).stopped events → AreReads files options inputs told events
 
--- It reads, reports the outcome's diagnostics and the files that are not up to date, and delivers the outcome's texts.
+-- It reads, reports the outcome's diagnostics and the stale files, and delivers the outcome's texts.
 pub record Completes (files : Files) (options : Options) (inputs : List InputFile) (outcome : Outcome) (old new : Log) (status : Status) : Type 0 where
   pub events : List Event
   pub are_reads : AreReads files options inputs (still_told old new) events
@@ -97,18 +97,18 @@ pub record Completes (files : Files) (options : Options) (inputs : List InputFil
   pub status_is : status ≡ status_with stale outcome.status
   pub only_checked : (stale ≡ []) ⊎ ((options.delivery ≡ Delivery.Check) × (outcome.status ≡ Status.Done))
 
--- What was read when memory ran out or the diagnostics failed: nothing for a tree or a name that is refused; else the first reads of the input files,
--- or nothing.
+-- What was read when memory ran out or the diagnostics failed: nothing if the tree or a name is refused; otherwise the first reads of the input
+-- files, or nothing.
 pub data AreFirstReads (files : Files) (options : Options) (inputs : List InputFile) : List Event → Type 0 where
   nothing : AreFirstReads files options inputs []
   of_accepted : (tree : TreeFacts) (done left : List Event) → IsAcceptedTree files (root_file options) tree → NamesAreTaken files options →
       done ++ left ≡ reads inputs → AreFirstReads files options inputs done
 
--- Why a run with this outcome was broken off, what was done until then and what was reported. (`before` is what is reported of the tree before
+-- Why a run with this outcome stopped early, what was done until then and what was reported. (`before` is what is reported of the tree before
 -- anything is read, and `told` what the device recorded at first.)
 pub data Breaks (files : Files) (options : Options) (before : TreeFacts → List ℕ) (inputs : List InputFile) (outcome : Outcome) (told : Log) :
     Stop → List Event → List ℕ → Type 0 where
-  -- It ran out of memory before any text was delivered. Whole lines were reported.
+  -- There was not enough memory, before any text was delivered. Whole lines were reported.
   no_memory : (done : List Event) (front : List ℕ) → AreFirstReads files options inputs done → AreLines front → BeginsWith outcome.warned front →
       Breaks files options before inputs outcome told Stop.OutOfMemory done front
   -- The diagnostics failed. Whole lines were reported, and more were to come.
@@ -121,12 +121,12 @@ pub data Breaks (files : Files) (options : Options) (before : TreeFacts → List
       IsAcceptedTree files (root_file options) tree → NamesAreTaken files options → (f.action ≡ Open) ⊎ (f.action ≡ Read) → f.name.now ≡ file.name →
       ReadsUpTo told options tree inputs f.action file done said_of_inputs →
       Breaks files options before inputs outcome told (Stop.Failed f) done (before tree ++ said_of_inputs)
-  -- A text could not be delivered. All was reported, and what was to be done before was done.
+  -- A text could not be delivered. All diagnostics were reported, and all earlier steps were done.
   in_delivery : (f : Failure) (events done : List Event) → AreReads files options inputs told events →
       Tells told (λ journal. (left : List Event) × (done ++ left ≡ delivers options (texts_of options outcome) journal) × StopsBefore left (Err f)) →
       Breaks files options before inputs outcome told (Stop.Failed f) (events ++ done) (diagnostics_of outcome)
 
--- After that come the event that failed, the removal of the temporary files, and the error line or its failure. The status is `Faulted`.
+-- Then come the event of the failure, the removal of the temporary files, and the error line or its failure. The status is `Faulted`.
 pub record Broken (files : Files) (options : Options) (before : TreeFacts → List ℕ) (inputs : List InputFile) (outcome : Outcome) (old new : Log)
     (status : Status) : Type 0 where
   pub stop : Stop
@@ -138,7 +138,7 @@ pub record Broken (files : Files) (options : Options) (before : TreeFacts → Li
   pub log : Leads (done ++ event_of stop ++ clearing options stop ++ reported report) (front ++ said report (stop_line options stop)) old new
   pub status_is : status ≡ Status.Faulted
 
--- A run over these files and over what the device gives: there is an outcome of them, and the run leaves it whole or was broken off.
+-- A run over these files and a device: they have an outcome, and the run completes it or stops early.
 pub record Runs (files : Files) (options : Options) (old new : Log) (status : Status) : Type 0 where
   pub inputs : List InputFile
   pub are_inputs : AreInputs (still_told old new) options inputs
@@ -146,8 +146,8 @@ pub record Runs (files : Files) (options : Options) (old new : Log) (status : St
   pub is_outcome : IsOutcome files options (bytes_of inputs) outcome
   pub ends : Completes files options inputs outcome old new status ⊎ Broken files options (λ tree. lines_text tree.warnings) inputs outcome old new status
 
--- A run over the files of a folder; or these could not be loaded, which is reported, and nothing more is done. The file that could not be read is
--- one whose turn it was, and the folder failed at its path and nowhere else.
+-- A run over the files of a folder; or a run that could not load them: this is reported, and nothing else is done. The file that could not be read
+-- was next, and the folder failed at its path and nowhere else.
 abbrev pub load_line : LoadFault → List ℕ
 load_line fault = elim fault [ LoadFault.CannotRead name ↦ cannot_read_line name.items | LoadFault.Memory ↦ out_of_memory_line ]
 

@@ -1,4 +1,4 @@
--- For proofs: Laws that the laws of `Laws` follow from.
+-- For proofs: Laws from which the laws of `Laws` follow.
 use Rattle.std.specs.Prelude.{◌≡◌, ◌⊎◌, ℕ, List, Ok}
 use Rattle.kc_language.specs.Expansion.{Expands, Files, ReadSoFar, Refused}
 use Rattle.kc_language.specs.Symbols.{TreeFacts}
@@ -7,26 +7,26 @@ use Rattle.kc_language.specs.Needs.{IsAccepted}
 use Rattle.kc_language.specs.Texts.{Solution}
 use Rattle.kc_language.specs.Outcome.{IsAcceptedTree, IsOutcome, IsRefusedTree, IsSolutionFor, Options, Outcome, root_file}
 
--- An accepted tree has a solution under any user values of it.
+-- An accepted tree has a solution for any user values.
 abbrev pub SolutionExists : Type 0
 SolutionExists =
     (tree : TreeFacts) (places : Places) → IsAccepted tree → ArePlacesOf tree places → (solution : Solution) × IsSolutionFor tree places solution
 
--- Over any files a root file has an accepted tree or a refusal.
+-- For any files a root file has an accepted tree or a refusal.
 abbrev pub AnswerExists : Type 0
 AnswerExists = (files : Files) (root : List ℕ) → ((tree : TreeFacts) × IsAcceptedTree files root tree) ⊎ ((r : Refused) × IsRefusedTree files root r)
 
--- An accepted tree has an outcome, whatever the streams hold.
+-- An accepted tree has an outcome, for any bytes of the input files.
 abbrev pub AcceptedHaveAnOutcome : Type 0
 AcceptedHaveAnOutcome =
     (files : Files) (options : Options) (all : List (List ℕ)) (tree : TreeFacts) → IsAcceptedTree files (root_file options) tree →
     (outcome : Outcome) × IsOutcome files options all outcome
 
--- And so has each root file.
+-- Each root file has an outcome.
 abbrev pub OutcomeExists : Type 0
 OutcomeExists = (files : Files) (options : Options) (all : List (List ℕ)) → (outcome : Outcome) × IsOutcome files options all outcome
 
--- there is at most one
+-- there is at most one outcome
 abbrev pub OneOutcome : Type 0
 OneOutcome =
     (files : Files) (options : Options) (all : List (List ℕ)) (a b : Outcome) → IsOutcome files options all a → IsOutcome files options all b → a ≡ b

@@ -1,11 +1,11 @@
--- Trusted: The laws of outcomes: there is exactly one, its texts give the values back, no line is lost, and --strict passes only lines taken as written.
+-- Trusted: Laws of outcomes: there is exactly one, its texts restore the values, no line is lost, --strict passes only lines taken as written.
 -- Our own. Each law is the contract of a function that does nothing (src/laws.rt).
 use Rattle.kc_language.specs.{ConfigFile.{Assigns, Effect, Line, Notation, Nothing, Silent, StreamLocation, Warns, effect, is_prefix, is_reported, lines_of, line_meaning, plain_location, stream_location, value_text, located_warning_line}, Expansion.{AreOpened, Expands, Files, ReadSoFar, Refused, numbered_lines}, Outcome.{IsAcceptedTree, IsOutcome, IsRefusedTree, IsSolutionFor, Options, Outcome, is_outside, lead, lines_text, input_names, read_of, refuses_input, reported, root_file, streams, warned_files, with_rule}, Symbols.{SymbolFacts, TreeFacts}, Texts.{ConfigGivesBack, HasShortLines, MinimalGivesBack, MinimalNeedsEach, Solution, config_text, has_prompt, header_text, known, lost_warning, minimal_text, solution_view, value_of, value_warnings}, Values.{GivenValue, facts, given_of, name, same_given}, declared.{diagnostics.{Warning.{TheVariants.{Changed, SetAgain}}}, expressions.{SymId.{SymId}, SymbolType.{SymbolType}}, outcome.{Status.{Status}}}}
 use Rattle.std.specs.{List.{list_any}, Prelude.{All, Bool, Contains, List, None, Ok, Some, [], false, option_map, true, ℕ, ◌++◌, ◌∷◌, ◌≡◌, ◌⊎◌}}
 use Rattle.kc_conf.specs.Faults.{AreLines, NamesAreTaken, diagnostics_of}
 
 -- ---- There is exactly one outcome
--- Over any files a root file has one accepted tree and no refusal, or one refusal and no accepted tree.
+-- For any files a root file has one accepted tree and no refusal, or one refusal and no accepted tree.
 abbrev pub ExactlyOneAnswer : Type 0
 ExactlyOneAnswer = (files : Files) (root : List ℕ) →
     ((tree : TreeFacts) × IsAcceptedTree files root tree × ((other : TreeFacts) → IsAcceptedTree files root other → tree ≡ other)
@@ -13,7 +13,7 @@ ExactlyOneAnswer = (files : Files) (root : List ℕ) →
     ⊎ ((r : Refused) × IsRefusedTree files root r × ((other : Refused) → IsRefusedTree files root other → r ≡ other)
     × ((tree : TreeFacts) → IsAcceptedTree files root tree → ⊥))
 
--- For all files, options and input files there is an outcome, and no other. Its diagnostics are whole lines.
+-- For all files, options and input files there is exactly one outcome. Its diagnostics are whole lines.
 abbrev pub ExactlyOneOutcome : Type 0
 ExactlyOneOutcome = (files : Files) (options : Options) (all : List (List ℕ)) →
     (outcome : Outcome) × IsOutcome files options all outcome × ((other : Outcome) → IsOutcome files options all other → outcome ≡ other)
@@ -35,7 +35,7 @@ pub record HasItsTexts (options : Options) (tree : TreeFacts) (solution : Soluti
   pub header : outcome.header ≡ option_map (λ file. header_text tree options.prefix (solution_view solution)) options.header
   pub minimal : outcome.minimal ≡ option_map (λ file. minimal_text tree options.prefix (solution_view solution)) options.minimal
 
--- An outcome of status Done is that of a run that refuses nothing, and all its texts are those of the values.
+-- An outcome of status Done belongs to a run that refuses nothing, and all its texts are those of the values.
 abbrev pub DoneAreWhole : Type 0
 DoneAreWhole = (files : Files) (options : Options) (all : List (List ℕ)) (outcome : Outcome) →
     IsOutcome files options all outcome → outcome.status ≡ Status.Done →
@@ -45,8 +45,8 @@ DoneAreWhole = (files : Files) (options : Options) (all : List (List ℕ)) (outc
     (reported (read_of options tree all).warned (warned_files files options tree (numbered_lines log.lines) (read_of options tree all).input solution)))))
     × (refuses_input options (read_of options tree all).input solution ≡ false)
 
--- Each text of such a run is read alone and starting from no user values. The minimal file gives the values back; with any nonempty set of its lines
--- left out it does not. The .config gives them back exactly where `ConfigGivesBack` says. No line of them is too long to be read again.
+-- Each text of such a run is read alone, from no user values. The minimal file restores the values; with any nonempty set of its lines left out it
+-- does not. The .config restores them if and only if `ConfigGivesBack` holds. No line of them is too long to be read again.
 abbrev pub TextsAreReadAgain : Type 0
 TextsAreReadAgain = (files : Files) (options : Options) (all : List (List ℕ)) (tree : TreeFacts) (solution : Solution) →
     is_prefix options.prefix.prefix ≡ true → RefusesNothing files options all tree solution →
@@ -54,7 +54,7 @@ TextsAreReadAgain = (files : Files) (options : Options) (all : List (List ℕ)) 
     × ConfigGivesBack tree options.prefix solution.places (value_of solution)
     × HasShortLines (config_text tree options.prefix (solution_view solution)) × HasShortLines (minimal_text tree options.prefix (solution_view solution))
 
--- The texts of an outcome of status Done are those of one solution, and all this holds of its texts, whichever of them are wanted.
+-- The texts of an outcome of status Done are those of one solution, and the laws above hold for each of them that is wanted.
 abbrev pub OutcomesAreReadAgain : Type 0
 OutcomesAreReadAgain = (files : Files) (options : Options) (all : List (List ℕ)) (outcome : Outcome) →
     is_prefix options.prefix.prefix ≡ true → IsOutcome files options all outcome → outcome.status ≡ Status.Done →
@@ -69,7 +69,7 @@ pub record AreAlone (options alone : Options) : Type 0 where
   pub prefix : alone.prefix ≡ options.prefix
   pub no_fragments : alone.fragments.items ≡ []
 
--- The later run is done with the values of this solution. It writes the `.config` and the header of this solution, if it is asked for them.
+-- The later run ends Done with the values of this solution. It writes the `.config` and the header of this solution, if they are wanted.
 pub record HasSameValues (files : Files) (alone : Options) (all : List (List ℕ)) (tree : TreeFacts) (solution : Solution) (later : Outcome) : Type 0 where
   pub done : later.status ≡ Status.Done
   pub again : Solution
@@ -78,8 +78,8 @@ pub record HasSameValues (files : Files) (alone : Options) (all : List (List ℕ
   pub config : later.config ≡ option_map (λ file. config_text tree alone.prefix (solution_view solution)) alone.out
   pub header : later.header ≡ option_map (λ file. header_text tree alone.prefix (solution_view solution)) alone.header
 
--- A run on the minimal file alone, which lets warnings pass and refuses no name, has the values of the outcome that the file is of. (One that
--- refuses warnings may write nothing: what that file assigns may be warned of where the input files were not.)
+-- A run on the minimal file alone, which allows warnings and refuses no name, has the values of the outcome to which the file belongs. (A run that
+-- refuses warnings may write nothing: the file's lines may have warnings that the input files did not have.)
 abbrev pub MinimalIsRunAgain : Type 0
 MinimalIsRunAgain = (files : Files) (options alone : Options) (all : List (List ℕ)) (outcome : Outcome) →
     is_prefix options.prefix.prefix ≡ true → AreAlone options alone → alone.strict ≡ false → alone.strict_tree ≡ false → NamesAreTaken files alone →
@@ -89,12 +89,12 @@ MinimalIsRunAgain = (files : Files) (options alone : Options) (all : List (List 
     (later : Outcome) → IsOutcome files alone (text ∷ []) later → HasSameValues files alone (text ∷ []) tree solution later)
 
 -- ---- With warn_lost, no line of the input files is lost
--- The line stands in the text, after whole lines.
+-- The line is in the text, after whole lines.
 abbrev pub HoldsLine : List ℕ → List ℕ → Type 0
 HoldsLine text line = (before after : List ℕ) × (text ≡ before ++ line ++ after) × AreLines before
 
--- The next line that gives the symbol a value is reported to set it again and, if the value is another one, to change it from the value of this line,
--- which stands there without the configuration.
+-- The next line that gives the symbol a value is reported to set it again. If its value is different, it is reported to change it from the value of
+-- this line. The location of this line there has no configuration name.
 abbrev pub IsSetAgain : TreeFacts → Notation → List ℕ → StreamLocation → SymId → SymbolType → GivenValue → List Line → Type 0
 IsSetAgain tree prefix warned from s symbol_type given later = (front back : List Line) × (next : Line) × (other : GivenValue)
     × (later ≡ front ++ next ∷ back) × All (λ m. (value : GivenValue) → effect tree prefix m ≡ Assigns s value → ⊥) front
@@ -103,7 +103,7 @@ IsSetAgain tree prefix warned from s symbol_type given later = (front back : Lis
     HoldsLine warned (located_warning_line next.stream next.number
     (Changed (name tree s) (value_text prefix.is_raw symbol_type given) from.stream from.number (value_text prefix.is_raw symbol_type other))))
 
--- A line of this effect, before these lines, is accounted for: it says nothing, it is warned of, or what it gives is replaced, kept or reported.
+-- A line of this effect, before these lines, is accounted for: it has no meaning, it has a warning, or its value is replaced, kept or reported.
 module _ (tree : TreeFacts) (prefix : Notation) (lead : List ℕ) (solution : Solution) (warned : List ℕ) where
   abbrev pub IsAccountedFor : Line → List Line → Effect → Type 0
   IsAccountedFor l later Silent = line_meaning tree prefix l ≡ Nothing
@@ -122,8 +122,8 @@ NothingIsLost = (files : Files) (options : Options) (all : List (List ℕ)) (out
     IsAccountedFor tree options.prefix (lead options) solution outcome.warned l later (effect tree options.prefix l))
 
 -- ---- With --strict, no line passes that was not taken as written
--- A line of this effect, before these lines: it says nothing; or its warning is not reported (K16, only without warn_lost); or no later line gives its
--- symbol another value, and with warn_lost the value that it gives is the symbol's.
+-- A line of this effect, before these lines: it has no meaning; or its warning is not reported (K16, only without warn_lost); or no later line gives
+-- its symbol another value, and with warn_lost its value is the symbol's.
 module _ (tree : TreeFacts) (prefix : Notation) (warn_lost : Bool) (solution : Solution) where
   abbrev pub IsTakenAsWritten : Line → List Line → Effect → Type 0
   IsTakenAsWritten l later Silent = line_meaning tree prefix l ≡ Nothing
@@ -132,7 +132,7 @@ module _ (tree : TreeFacts) (prefix : Notation) (warn_lost : Bool) (solution : S
       ((m : Line) (other : GivenValue) → Contains later m → effect tree prefix m ≡ Assigns s other → other ≡ given)
       × (warn_lost ≡ true → given ≡ given_of (known solution s))
 
--- If the status is Done, each line of the input files was taken as written, and no user value is warned of.
+-- If the status is Done, each line of the input files was taken as written, and no user value has a warning.
 abbrev pub StrictTakesAll : Type 0
 StrictTakesAll = (files : Files) (options : Options) (all : List (List ℕ)) (outcome : Outcome) →
     IsOutcome files options all outcome → outcome.status ≡ Status.Done → options.strict ≡ true →

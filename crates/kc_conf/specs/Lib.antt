@@ -1,4 +1,4 @@
--- The definitions that the contracts speak in.
+-- The definitions that the contracts cite.
 pub mod Accepted
 pub mod Computed
 pub mod Endings

@@ -1,4 +1,4 @@
--- For proofs: What a run leaves until it is said why it was broken off, whole or behind the tree's warnings.
+-- For proofs: What a run leaves before it reports why it stopped early, alone or after the tree's warnings.
 use Rattle.std.specs.Prelude.{◌≢◌, ℕ, Bool, ◌&&◌, ◌||◌, List, [], ◌++◌, Result, Ok, Err}
 use Rattle.kc_language.specs.Expansion.{Files}
 use Rattle.kc_language.specs.Symbols.{TreeFacts}
@@ -13,29 +13,29 @@ use Rattle.kc_language.specs.declared.outcome.Status.{Status}
 use Rattle.kc_conf.specs.declared.stop.Stop.{Stop}
 use Rattle.kc_conf.specs.declared.stop.Stop.TheVariants.{OutOfMemory, Failed}
 
--- there was no memory, or the diagnostics failed
+-- there was not enough memory, or the diagnostics failed
 abbrev pub StopsLines : List ℕ → Stop → Log → Log → Type 0
 StopsLines text OutOfMemory old new = Leads [] [] old new
 StopsLines text (Failed f) old new = IsReportStop (Failed f) × (text ≢ []) × Leads (event_of (Failed f)) [] old new
 
--- the text was said, or saying it was broken off
+-- the text was reported, or the run stopped early while reporting it
 abbrev pub SaysLines : List ℕ → Result (Unit {0}) Stop → Log → Log → Type 0
 SaysLines text (Ok _) old new = Leads [] text old new
 SaysLines text (Err stop) old new = StopsLines text stop old new
 
--- `strictly`, where a part of the run is left to come, and whether anything was told before it
+-- `strictly`, if a part of the run is still to come; and whether anything was reported before it
 abbrev pub strictly_after : Options → Bool → Outcome → Outcome
 strictly_after options before part = refused_if options (is_done part.status && (options.strict_tree && (before || is_not_empty part.warned))) part
 
 module _ (files : Files) (options : Options) where
-  -- A run with this outcome was broken off: it was not yet said why.
+  -- A run with this outcome stopped early, and has not yet reported why.
   pub record IsBrokenOff (before : TreeFacts → List ℕ) (inputs : List InputFile) (outcome : Outcome) (stop : Stop) (old new : Log) : Type 0 where
     pub done : List Event
     pub front : List ℕ
     pub breaks : Breaks files options before inputs outcome (still_told old new) stop done front
     pub log : Leads (done ++ event_of stop ++ clearing options stop) front old new
 
-  -- it ended whole, or was broken off
+  -- it completed, or stopped early
   abbrev pub EndsSo : (TreeFacts → List ℕ) → List InputFile → Outcome → Result Status Stop → Log → Log → Type 0
   EndsSo before inputs outcome (Ok status) old new = Completes files options inputs outcome old new status
   EndsSo before inputs outcome (Err stop) old new = IsBrokenOff before inputs outcome stop old new
@@ -48,7 +48,7 @@ module _ (files : Files) (options : Options) where
     pub is_outcome : IsOutcome files options (bytes_of inputs) outcome
     pub ends : EndsSo said_of_tree inputs outcome result old new
 
-  -- The same behind the tree's warnings: with them before its part, that is the outcome of the run.
+  -- The same after the tree's warnings: these and its part are the outcome of the run.
   pub record LeavesPart (tree : TreeFacts) (result : Result Status Stop) (old new : Log) : Type 0 where
     pub inputs : List InputFile
     pub are_inputs : AreInputs (still_told old new) options inputs
@@ -56,7 +56,7 @@ module _ (files : Files) (options : Options) where
     pub is_part : IsOutcome files options (bytes_of inputs) (reported (lines_text tree.warnings) part)
     pub ends : EndsSo nothing_said inputs part result old new
 
-  -- The same of one of many configurations, which refuses a name for itself.
+  -- The same for one of many configurations, which checks its own names.
   pub record LeavesTurn (tree : TreeFacts) (result : Result Status Stop) (old new : Log) : Type 0 where
     pub inputs : List InputFile
     pub are_inputs : AreInputs (still_told old new) options inputs

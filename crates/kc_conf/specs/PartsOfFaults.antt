@@ -1,4 +1,4 @@
--- For proofs: Parts of the definitions of Faults, by names of their own.
+-- For proofs: Names for parts of the definitions of Faults.
 use Rattle.std.specs.Prelude.{List, [], ℕ, filter}
 use Rattle.kc_language.specs.ConfigFile.{Line, lines_from}
 use Rattle.kc_language.specs.Symbols.{TreeFacts}
@@ -14,18 +14,18 @@ delivered_by Delivery.Write texts journal = delivery InPlace texts
 delivered_by Delivery.Replace texts journal = delivery Replacing (chosen Replacing texts journal)
 delivered_by Delivery.Check texts journal = []
 
--- which of them are compared, and are not what their files hold
+-- those that are compared, and differ from what their files hold
 abbrev pub stale_by : Delivery → List NamedText → Journal → List NamedText
 stale_by Delivery.Check texts journal = stale texts journal
 stale_by _ texts journal = []
 
--- what is reported of the tree before anything is read: its warnings; or nothing, if they were reported before other configurations
+-- the warnings of the tree, reported before anything is read; or nothing, if they were reported before other configurations
 abbrev pub said_of_tree : TreeFacts → List ℕ
 said_of_tree tree = lines_text tree.warnings
 
 abbrev pub nothing_said : TreeFacts → List ℕ
 nothing_said tree = []
 
--- the lines that a line feed ends in these first bytes of an input file
+-- the complete lines in these first bytes of an input file
 abbrev pub ended_lines : List ℕ → List ℕ → List Line
 ended_lines name bytes = filter (λ l. l.ended) (lines_from name 1 bytes)

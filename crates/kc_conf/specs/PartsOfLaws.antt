@@ -1,4 +1,4 @@
--- For proofs: Parts of the definitions of Laws, by names of their own.
+-- For proofs: Names for parts of the definitions of Laws.
 use Rattle.std.specs.Prelude.{◌≡◌, ◌⊎◌, Bool, ℕ, List, ◌++◌, codes}
 use Rattle.kc_language.specs.ConfigFile.{Assigns, Line, Notation, effect, stream_location}
 use Rattle.kc_language.specs.Symbols.{SymbolFacts, TreeFacts}
@@ -12,7 +12,7 @@ use Rattle.kc_conf.specs.Laws.{HoldsLine}
 abbrev pub LeavesAlone : TreeFacts → Notation → SymId → Line → Type 0
 LeavesAlone tree prefix s l = (given : GivenValue) → effect tree prefix l ≡ Assigns s given → ⊥
 
--- What this line gave is the symbol's value, or it is reported that it is not.
+-- The value of this line is the symbol's value, or it is reported that it is not.
 abbrev pub IsKeptOrWarned : Bool → TreeFacts → Solution → List ℕ → Line → SymId → SymbolFacts → GivenValue → Type 0
 IsKeptOrWarned is_raw tree solution warned l s f given = (given ≡ given_of (known solution s))
     ⊎ HoldsLine warned (lost_line is_raw (has_prompt f.prompts) (stream_location l) (name tree s) f.symbol_type given (given_of (known solution s)) ++ codes "\n")

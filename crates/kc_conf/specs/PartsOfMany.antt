@@ -1,4 +1,4 @@
--- For proofs: Parts of the definitions of Many, by names of their own.
+-- For proofs: Names for parts of the definitions of Many.
 use Rattle.std.specs.Prelude.{◌≡◌, ◌⊎◌, ℕ, List, [], Option, None}
 use Rattle.kc_language.specs.Expansion.{Files}
 use Rattle.kc_language.specs.Outcome.{Options, Outcome, lines_text, reported}
@@ -10,7 +10,7 @@ use Rattle.kc_language.specs.declared.outcome.Delivery.{Delivery}
 abbrev pub warned_before : TreeFacts → Option (List ℕ) → List ℕ
 warned_before tree refused = elim refused [ None ↦ lines_text tree.warnings | _ ↦ [] ]
 
--- the outcome of a run is the tree's warnings and its part, or its part
+-- the outcome of a run is the tree's warnings and its part, or only its part
 abbrev pub IsWholeOf : Files → TreeFacts → Options → Outcome → Outcome → Type 0
 IsWholeOf files tree options part outcome = (outcome ≡ reported (lines_text tree.warnings) part)
     ⊎ ((name : List ℕ) × IsRefusedName files options name × (outcome ≡ part))

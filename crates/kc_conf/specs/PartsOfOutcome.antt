@@ -1,4 +1,4 @@
--- For proofs: Parts of the definitions of Outcome, by names of their own.
+-- For proofs: Names for parts of the definitions of Outcome.
 use Rattle.std.specs.Option.{option_map_or}
 use Rattle.std.specs.List.{list_any}
 use Rattle.std.specs.Prelude.{Bool, List, None, Option, Some, [], if◌then◌else◌, option_map, ℕ, ◌&&◌, ◌++◌, ◌==◌, length, not}
@@ -28,7 +28,7 @@ unreadable_line name = error_line (run_error_text (run.UnreadableName (first_lin
 abbrev pub unknown_line : TreeFacts → List ℕ → List ℕ
 unknown_line tree asked = error_line (run_error_text (run.UnknownName (first_line asked) (near_text tree asked)))
 
--- the line of the first name that is refused, if there is one: that make cannot read it, or that no symbol has it
+-- the line of the first refused name, if there is one: make cannot read it, or no symbol has it
 abbrev pub refusal_by : TreeFacts → Option (List ℕ) → Option (List ℕ) → Option (List ℕ)
 refusal_by tree (Some name) unknown = Some (unreadable_line name)
 refusal_by tree None unknown = option_map (unknown_line tree) unknown
@@ -36,7 +36,7 @@ refusal_by tree None unknown = option_map (unknown_line tree) unknown
 abbrev pub name_refusal : Options → List (List ℕ) → TreeFacts → Option (List ℕ)
 name_refusal options opened tree = refusal_by tree (unreadable_name options opened) (unknown_name options tree)
 
--- the error line behind the warnings that are refused
+-- the error line after the refused warnings
 abbrev pub strict_line : List ℕ
 strict_line = error_line (run_error_text run.WarningsRefused)
 
@@ -45,8 +45,8 @@ abbrev pub error_if_at : Option (List ℕ × ℕ) → List ℕ → List ℕ
 error_if_at location text = elim location [ None ↦ error_line text | Some place ↦ error_at place.0 place.1 text ]
 
 -- ---- What reading and solving give
--- The user's lines were all taken as written: none was warned of (K7 to K9 and K16) or changed what another gave, no user value that counts lies outside
--- its range, and none is reported as lost.
+-- All the user's lines were taken as written: none had a warning (K7 to K9 and K16) or changed the value of another, no user value that counts is
+-- outside its range, and none is reported as lost.
 abbrev pub is_taken : Options → UserInput → Solution → Bool
 is_taken options input solution =
     input.all_taken && (not (list_any is_outside (value_warnings solution)) && (length (lost_warnings options input solution) == 0))
@@ -55,7 +55,7 @@ is_taken options input solution =
 abbrev pub text_if : {T : Type 0} → Option T → List ℕ → Option (List ℕ)
 text_if name text = option_map (λ file. text) name
 
--- the files of a solution for the user's input
+-- the text of the list of new symbols; the texts of a solution for the user's input
 abbrev pub list_text : Files → List (Located Numbered) → TreeFacts → Notation → SolutionView → Bool → List ℕ
 list_text files lines tree prefix view with_help = if with_help then new_text_with_help files lines tree prefix view else new_text tree prefix view
 
@@ -73,10 +73,10 @@ files_of files options tree lines input solution = record {
   status = Done;
 }
 
--- Under --strict they are refused where a line was not taken as written.
+-- Under --strict they are refused if a line was not taken as written.
 abbrev pub outcome_of : Files → Options → TreeFacts → List (Located Numbered) → UserInput → Solution → Outcome
 outcome_of files options tree lines input solution = refused_if options (refuses_input options input solution) (warned_files files options tree lines input solution)
 
--- the rule: what the file of --out is made of, where the tree opens these files
+-- the dependency file: the prerequisites of the file of --out, if the tree opens these files
 abbrev pub depfile_text : Options → List (List ℕ) → Option (List ℕ)
 depfile_text options opened = option_map (rule_text (target options)) (names_listed options opened)

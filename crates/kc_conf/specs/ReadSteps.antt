@@ -1,4 +1,4 @@
--- For proofs: What the steps of reading the input files do.
+-- For proofs: The steps of reading the input files.
 use Rattle.std.specs.Prelude.{◌≡◌, ◌⊎◌, ℕ, Bool, true, false, not, if◌then◌else◌, List, [], ◌∷◌, ◌++◌, All, Option, None, Some, Result, OnOk, IfErr, length, map, take, ⊤, option_map}
 use Rattle.kc_text.specs.PartsOfLines.{HoldsNoLineFeed}
 use Rattle.kc_language.specs.Symbols.{TreeFacts}
@@ -22,9 +22,9 @@ use Rattle.kc_conf.specs.declared.reading.Waiting.{Waiting}
 use Rattle.kc_conf.specs.declared.stop.Stop.{Stop}
 use Rattle.kc_conf.specs.declared.stop.Stop.TheVariants.{OutOfMemory, Failed}
 
--- ---- what is said, and what waits
+-- ---- what is reported, and what waits
 
--- What there is while files are read: what the user gave so far, what waits, the open file and the log.
+-- The state while files are read: the user's input so far, the waiting diagnostics, the open file and the log.
 pub record Stand : Type 0 where
   pub input : UserInput
   pub waiting : Waiting
@@ -34,26 +34,26 @@ pub record Stand : Type 0 where
 abbrev pub stand : {D : Type 0} → (D → OpenFile) → (D → Log) → UserInput → Waiting → D → Stand
 stand file log input waiting device = record { input = input; waiting = waiting; file = file device; log = log device }
 
--- what is said of warnings at once
+-- the warnings that are reported at once
 abbrev pub said_now : Bool → List ℕ → List ℕ
 said_now holds warned = if holds then [] else warned
 
--- what is held back of them
+-- the warnings that are held back
 abbrev pub held_back : Bool → List ℕ → List ℕ
 held_back holds warned = if holds then warned else []
 
--- nothing waits that is not held back
+-- only held back warnings wait
 abbrev pub OnlyHeldWaits : Waiting → Type 0
 OnlyHeldWaits waiting = waiting.text.items ≡ held_back waiting.holds waiting.text.items
 
--- These events were done, and these warnings, which are whole lines, were said or wait.
+-- These events were done, and these warnings, which are whole lines, were reported or wait.
 pub record Warns (warned : List ℕ) (events : List Event) (old new : Stand) : Type 0 where
   pub lines : AreLines warned
   pub log : Leads events (said_now old.waiting.holds warned) old.log new.log
   pub waits : new.waiting.text.items ≡ old.waiting.text.items ++ held_back old.waiting.holds warned
   pub holds : new.waiting.holds ≡ old.waiting.holds
 
--- The warnings broke off with this much of them said: whole lines. Where they are held back, nothing was.
+-- Reporting the warnings stopped after this much of them: whole lines. If they are held back, nothing was reported.
 abbrev pub StopsWarnings : Bool → Stop → List ℕ → List ℕ → Type 0
 StopsWarnings true OutOfMemory warned front = front ≡ []
 StopsWarnings true (Failed f) warned front = ⊥
@@ -62,62 +62,62 @@ StopsWarnings false (Failed f) warned front = IsReportStop (Failed f) × AreLine
 
 -- ---- the device
 
--- the device failed at this
+-- the device failed at this action
 abbrev pub FailsAt : Action → List ℕ → Stop → Log → Log → Type 0
 FailsAt action name OutOfMemory old new = ⊥
 FailsAt action name (Failed f) old new = (f.action ≡ action) × (f.name.now ≡ name) × Leads (event_of (Failed f)) [] old new
 
--- the file of a name was opened, or there is none
+-- the file of a name was opened, or does not exist
 pub record Opens (name : List ℕ) (may_be_missing there : Bool) (old new : Log) (file : OpenFile) : Type 0 where
   pub log : Leads (if there then did Open name else did Miss name) [] old new
   pub found : IsFound old name may_be_missing there
   pub opened : there ≡ true → IsOpened old name file
 
--- What waits was said, unless it is held back; or the diagnostics failed, and something was to be said.
+-- The waiting diagnostics were reported, unless they are held back; or the diagnostics failed, and there was something to report.
 pub record SaysWaiting (result : Result (Unit {0}) Stop) (waiting after : Waiting) (old new : Log) : Type 0 where
   pub said : OnOk result (Leads [] (said_now waiting.holds waiting.text.items) old new × (after.text.items ≡ held_back waiting.holds waiting.text.items))
   pub failed : IfErr result (λ stop. FailsAt Report [] stop old new × GoesBeyond (said_now waiting.holds waiting.text.items) [])
   pub holds : after.holds ≡ waiting.holds
 
--- the file gives these bytes, where that is told
+-- the file has these bytes, if that is recorded
 abbrev pub Gives : Option (List ℕ) → List ℕ → Type 0
 Gives None bytes = ⊤
 Gives (Some all) bytes = all ≡ bytes
 
--- a file that is there
+-- a file that exists
 abbrev pub there_file : List ℕ → List ℕ → InputFile
 there_file name bytes = record { name = name; is_missing = false; bytes = bytes }
 
--- ---- pieces of a stream
+-- ---- chunks of an input file
 
--- a reader that refused nothing, places for its tree, and nothing that waits but what is held back
+-- a reader without a fault, user values of its tree, and only held back warnings wait
 pub record IsReadyToRead (reader : ReaderState) (input : UserInput) (waiting : Waiting) : Type 0 where
   pub fresh : reader.refusal ≡ None
   pub places : ArePlacesOf reader.tree input.places
   pub only : OnlyHeldWaits waiting
 
 module _ (reader : ReaderState) where
-  -- Whatever follows: these lines are read, with these warnings; or one of them is too long, behind these warnings.
+  -- For any lines that follow: these lines are read, with these warnings; or one of them is too long, after these warnings.
   abbrev pub ReadsLines : Option ℕ → List Line → UserInput → UserInput → List ℕ → Type 0
   ReadsLines None lines before after warned =
       (more : List Line) → reading reader.tree reader.prefix before (lines ++ more) ≡ with_warnings warned (reading reader.tree reader.prefix after more)
   ReadsLines (Some number) lines before after warned =
       (more : List Line) → reading reader.tree reader.prefix before (lines ++ more) ≡ ended_with after warned (Some (record { stream = reader.name; number = number }))
 
-  -- Whatever follows: the piece is taken; or one of its lines is too long.
+  -- For any bytes that follow: the chunk is read; or one of its lines is too long.
   abbrev pub TakesBytes : Option ℕ → List ℕ → StreamPosition → StreamPosition → UserInput → UserInput → List ℕ → Type 0
   TakesBytes None piece old new before after warned = ReadsPiece reader.tree reader.prefix reader.name piece old new before after warned
   TakesBytes (Some number) piece old new before after warned =
       (rest : List ℕ) (more : List Line) → reading reader.tree reader.prefix before (to_come reader.name old (piece ++ rest) more)
       ≡ ended_with after warned (Some (record { stream = reader.name; number = number }))
 
-  -- a reader that refused nothing, of the same stream, of which no line that ended waits
+  -- a reader without a fault, of the same input file, which has read all complete lines
   pub record IsStillFresh (after : ReaderState) : Type 0 where
     pub same : after ≡ record reader { position = after.position }
     pub fresh : after.refusal ≡ None
     pub waits : HoldsNoLineFeed after.position.pending
 
-  -- a piece was taken, up to a line that is too long, if there is one
+  -- a chunk was read, up to a line that is too long, if there is one
   pub record TakesPiece (piece : List ℕ) (long : Option ℕ) (after : ReaderState) (old new : Stand) : Type 0 where
     pub warned : List ℕ
     pub takes : TakesBytes long piece reader.position after.position old.input new.input warned
@@ -125,27 +125,27 @@ module _ (reader : ReaderState) where
     pub still : long ≡ None → IsStillFresh after
     pub same_file : new.file ≡ old.file
 
-  -- taking it was broken off
+  -- reading it stopped early
   pub record BreaksPiece (piece : List ℕ) (stop : Stop) (old new : Stand) : Type 0 where
     pub front : List ℕ
     pub stops : (rest : List ℕ) (more : List Line) →
         StopsWarnings old.waiting.holds stop (reading reader.tree reader.prefix old.input (to_come reader.name reader.position (piece ++ rest) more)).warned front
     pub log : Leads (event_of stop) front old.log new.log
 
-  -- the last line was ended
+  -- the last line was finished
   pub record EndsFile (old new : Stand) : Type 0 where
     pub warned : List ℕ
     pub ends : EndsStream reader.tree reader.prefix reader.name reader.position old.input new.input warned
     pub warns : Warns warned [] old new
 
-  -- ending it was broken off
+  -- finishing it stopped early
   pub record BreaksEnd (stop : Stop) (old new : Stand) : Type 0 where
     pub front : List ℕ
     pub stops : (more : List Line) →
         StopsWarnings old.waiting.holds stop (reading reader.tree reader.prefix old.input (lines_from reader.name reader.position.number reader.position.pending ++ more)).warned front
     pub log : Leads (event_of stop) front old.log new.log
 
-  -- so many bytes of the open file were read from the beginning of the stream, and taken
+  -- this many bytes of the open file were read, and given to the reader
   pub record TakesSoFar (name : List ℕ) (position : StreamPosition) (old new : Stand) : Type 0 where
     pub bytes : List ℕ
     pub given : old.file.to_come ≡ option_map (λ rest. bytes ++ rest) new.file.to_come
@@ -155,12 +155,12 @@ module _ (reader : ReaderState) where
 
   -- ---- a file
 
-  -- it was read to its end; or to some place behind a line that is too long
+  -- it was read to its end; or to some point after a line that is too long
   abbrev pub ReadsFileTo : Option ℕ → InputFile → List Event → Type 0
   ReadsFileTo None file events = events ≡ reads_one file
   ReadsFileTo (Some number) file events = ReadsInto file events
 
-  -- It could not be opened or read on: so many of its bytes were read, in which no line is too long.
+  -- It could not be opened or read on: this many of its bytes were read, in which no line is too long.
   pub record ReadsPart (action : Action) (file : InputFile) (holds : Bool) (before : UserInput) (done : List Event) (front : List ℕ) : Type 0 where
     pub bytes : List ℕ
     pub begins : BeginsWith file.bytes bytes
@@ -169,7 +169,7 @@ module _ (reader : ReaderState) where
     pub done_is : done ≡ begun action file.name bytes
     pub front_is : front ≡ said_now holds (reading reader.tree reader.prefix before (ended_lines reader.name bytes)).warned
 
-  -- why reading it was broken off, what was done of it and what was said
+  -- why reading it stopped early, what was done of it and what was reported
   pub data StopsFile (file : InputFile) (holds : Bool) (before : UserInput) : Stop → List Event → List ℕ → Type 0 where
     in_lines : (stop : Stop) (done left : List Event) (front : List ℕ) → done ++ left ≡ reads_one file →
         ((more : List Line) → StopsWarnings holds stop (reading reader.tree reader.prefix before (lines_from reader.name 1 file.bytes ++ more)).warned front) →
@@ -195,7 +195,7 @@ module _ (reader : ReaderState) where
     pub stops : StopsFile (there_file name bytes) old.waiting.holds old.input stop (did Open name ++ done) front
     pub log : Leads (done ++ event_of stop) front old.log new.log
 
-  -- a file was read, or there is none
+  -- a file was read, or does not exist
   pub record ReadsFile (name : List ℕ) (may_be_missing : Bool) (long : Option ℕ) (old new : Stand) : Type 0 where
     pub file : InputFile
     pub named : file.name ≡ name
@@ -218,12 +218,12 @@ module _ (reader : ReaderState) where
 
 -- ---- the files
 
--- they are what is told of them; only the first may be missing
+-- they agree with the record; only the first may be missing
 abbrev pub AreAsTold : Log → Bool → List InputFile → Type 0
 AreAsTold log may_be_missing [] = ⊤
 AreAsTold log may_be_missing (file ∷ files) = IsAsTold log may_be_missing file × AreAsTold log false files
 
--- So many of the input files were read, each to its end.
+-- This many of the input files were read, each to its end.
 pub record ReadsSoFar (options : Options) (tree : TreeFacts) (count : ℕ) (old new : Stand) : Type 0 where
   pub files : List InputFile
   pub counted : length files ≡ count

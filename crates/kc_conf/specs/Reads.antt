@@ -1,4 +1,4 @@
--- For proofs: What reading the input files does.
+-- For proofs: The effect of reading the input files.
 use Rattle.std.specs.Prelude.{◌≡◌, ◌⊎◌, ℕ, Bool, if◌then◌else◌, List, [], ◌∷◌, ◌++◌, Option, Result, Ok, Err, codes, ⊤}
 use Rattle.std.specs.Borrow.{Bor}
 use Rattle.std.specs.Result.{is_ok}
@@ -20,15 +20,15 @@ use Rattle.kc_conf.specs.declared.reading.Waiting.{Waiting}
 use Rattle.kc_conf.specs.declared.stop.Stop.{Stop}
 use Rattle.kc_conf.specs.declared.stop.Stop.TheVariants.{OutOfMemory, Failed}
 
--- the stream and the number of a line that is too long
+-- the input file and the number of a line that is too long
 abbrev pub stop_of : LongLine → StreamLocation
 stop_of l = record { stream = l.stream.now; number = l.number }
 
--- what a reading is that ended with this input after these warnings
+-- the result of a reading that ended with this input after these warnings
 abbrev pub ended_with : UserInput → List ℕ → Option StreamLocation → ReadResult
 ended_with input warned stopped = record { input = input; warned = warned; stopped = stopped }
 
--- The input files were read, to the end of the last or to a line that is too long; their warnings were said, or wait.
+-- The input files were read, to the end of the last or to a line that is too long. Their warnings were reported, or wait.
 pub record ReadsInputs (options : Options) (tree : TreeFacts) (stopped : Option StreamLocation) (before after : UserInput) (waiting : Waiting) (old new : Log) : Type 0 where
   pub inputs : List InputFile
   pub are_inputs : AreInputs (still_told old new) options inputs
@@ -40,7 +40,7 @@ pub record ReadsInputs (options : Options) (tree : TreeFacts) (stopped : Option 
   pub log : Leads events (if waiting.holds then [] else warned) old new
   pub waits : waiting.text.items ≡ (if waiting.holds then warned else [])
 
--- why reading them was broken off, what was done and what was said (`told` is what the device told at first)
+-- why reading them stopped early, what was done and what was reported (`told` is what the device recorded at first)
 pub data StopsInputs (told : Log) (options : Options) (tree : TreeFacts) (inputs : List InputFile) (warned : List ℕ) : Stop → List Event → List ℕ → Type 0 where
   no_memory : (done left : List Event) (front : List ℕ) → done ++ left ≡ reads inputs → AreLines front → BeginsWith warned front → StopsInputs told options tree inputs warned OutOfMemory done front
   in_diagnostics : (f : Failure) (done left : List Event) (front : List ℕ) → f.action ≡ Report → f.name.now ≡ [] → done ++ left ≡ reads inputs → AreLines front →
@@ -56,12 +56,12 @@ pub record BreaksInputs (options : Options) (tree : TreeFacts) (stop : Stop) (be
   pub stops : StopsInputs (still_told old new) options tree inputs (reading tree options.prefix before (lines_of (streams (input_names options) (bytes_of inputs)))).warned stop done front
   pub log : Leads (done ++ event_of stop) front old new
 
--- the diagnostics are what failed
+-- the diagnostics failed
 abbrev pub IsReportStop : Stop → Type 0
 IsReportStop OutOfMemory = ⊥
 IsReportStop (Failed f) = (f.action ≡ Report) × (f.name.now ≡ [])
 
--- the text was said, or the diagnostics failed
+-- the text was reported, or the diagnostics failed
 abbrev pub Says : List ℕ → Result (Unit {0}) Stop → Log → Log → Type 0
 Says text (Ok _) old new = Leads [] text old new
 Says text (Err stop) old new = IsReportStop stop × Leads (event_of stop) [] old new
@@ -70,22 +70,22 @@ Says text (Err stop) old new = IsReportStop stop × Leads (event_of stop) [] old
 abbrev pub IsWholeEnd : List ℕ → Type 0
 IsWholeEnd bytes = (front : List ℕ) × (bytes ≡ front ++ codes "\n")
 
--- the last of these parts ends a line, where there are any
+-- the last of these parts, if any, ends a line
 abbrev pub LastEndsLine : List (Bor (List ℕ)) → Type 0
 LastEndsLine [] = ⊤
 LastEndsLine (part ∷ []) = IsWholeEnd part.now
 LastEndsLine (part ∷ next ∷ parts) = LastEndsLine (next ∷ parts)
 
--- the diagnostics failed, or there was no memory
+-- the diagnostics failed, or there was not enough memory
 abbrev pub IsReportOrMemory : Stop → Type 0
 IsReportOrMemory OutOfMemory = ⊤
 IsReportOrMemory (Failed f) = IsReportStop (Failed f)
 
--- the text was said, if this is so; else the diagnostics failed
+-- if this holds, the text was reported; otherwise the diagnostics failed
 abbrev pub SaysIf : List ℕ → Bool → Log → Log → Type 0
 SaysIf text is_said old new = (report : Result (Unit {0}) Fault) × (is_said ≡ is_ok report) × Leads (reported report) (said report text) old new
 
--- the line of a device that failed: this one, or that there was no memory
+-- the line about a device that failed: this one, or that there was not enough memory
 abbrev pub failure_line : Fault → List ℕ → List ℕ
 failure_line fault.Memory line = out_of_memory_line
 failure_line fault.Refused line = line

@@ -1,4 +1,4 @@
--- For proofs: A name that is refused.
+-- For proofs: A refused name.
 use Rattle.std.specs.Prelude.{ℕ, List}
 use Rattle.kc_language.specs.Outcome.{first_line, run_error_text}
 use Rattle.kc_language.specs.Statements.{error_line}
@@ -7,7 +7,7 @@ use Rattle.kc_conf.specs.PartsOfOutcome.{unreadable_line}
 use Rattle.kc_conf.specs.declared.names.RefusedName.{RefusedName}
 use Rattle.kc_conf.specs.declared.names.RefusedName.TheVariants.{Unreadable, Unknown}
 
--- the line of a name that no symbol has, with what is said of names near it
+-- the line of a name that no symbol has, with similar names
 abbrev pub unknown_near : List ℕ → List ℕ → List ℕ
 unknown_near asked near = error_line (run_error_text (run.UnknownName (first_line asked) near))
 

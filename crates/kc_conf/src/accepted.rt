@@ -1,4 +1,4 @@
-//! A tree that was read, and one that was accepted.
+//! The result of reading a tree, and an accepted tree.
 ghost use Rattle.kc_read.specs.Files.{files_in};
 ghost use Rattle.std.specs.Prelude.{◌≡◌, ℕ, List, true, false, option_map};
 ghost use Rattle.kc_language.specs.Expansion.{AreOpened, Files};
@@ -15,14 +15,14 @@ use kc_tree::laid_tree::LaidTree;
 use kc_tree::tree::Tree;
 use std::alloc::Global;
 
-/// What a tree was made of: its lines, and the files of the run.
+/// The sources of a tree: its lines, and the files of the run.
 #[derive(Drop)]
 pub(crate) struct TreeSources {
     pub entries: Entries,
     pub files: FileMap,
 }
 
-/// A tree that was read, the names of the files that it opens, and its sources, if they were kept.
+/// A tree that was read, the names of the files that it opens, and its sources, if kept.
 #[derive(Drop)]
 pub(crate) struct TreeReading {
     pub tree: Tree,
@@ -30,7 +30,7 @@ pub(crate) struct TreeReading {
     pub sources: Option<TreeSources>,
 }
 
-/// An accepted tree with an order of its symbols, the names of the files that it opens, and its sources, if they were kept.
+/// An accepted tree with an order of its symbols, the names of the files that it opens, and its sources, if kept.
 #[derive(Clone, Copy)]
 pub(crate) struct OrderedTree<'t> {
     pub laid: LaidTree<'t>,
@@ -39,9 +39,9 @@ pub(crate) struct OrderedTree<'t> {
     pub sources: Option<&'t TreeSources>,
 }
 
-/// The tree that a run accepted, with the order that the run used, and its sources, if they were kept (our own).
+/// The tree that a run accepted, with the order that the run used, and its sources, if kept (our own).
 ///
-/// To give back its memory takes a while: a program that ends anyway may forget it.
+/// Freeing it takes time. A program that is about to exit can leak it instead.
 #[derive(Drop)]
 pub struct AcceptedTree {
     pub(crate) tree: Tree,
@@ -58,7 +58,7 @@ impl AcceptedTree {
     }
 }
 
-/// The sources of a tree, if they were kept.
+/// The sources of a tree, if kept.
 pub(crate) fn borrowed(sources: &Option<TreeSources>) -> Option<&TreeSources>
     ensures { option_map (λ s. s.now) result ≡ sources.now }
 {
@@ -103,11 +103,11 @@ fn read_with_sources(
     }
 }
 
-/// Reads the tree of these files. They are let go before it is built, unless the sources are to be kept.
+/// Reads the tree of these files. The files are freed before the tree is built, unless the sources are kept.
 ///
 /// # Errors
 ///
-/// The refusal of the tree, or that there is no memory (E20).
+/// The refusal of the tree, or E20 if there is not enough memory.
 pub(crate) fn read_tree(
     alloc: Global,
     files: FileMap,

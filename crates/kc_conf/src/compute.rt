@@ -1,4 +1,4 @@
-//! What a run is to leave: its warnings and texts, whole in memory.
+//! Computes the result of a run in memory: its warnings and texts.
 ghost use Rattle.std.specs.Prelude.{◌≡◌, ◌++◌, ◌||◌, ◌&&◌, List, [], ◌∷◌, map, IfOk, OnOk, option_map};
 ghost use Rattle.std.specs.List.{flat_map, list_any};
 ghost use Rattle.std.specs.Option.{option_map_or};
@@ -48,7 +48,7 @@ fn add_parts(parts: &[&[u8]], text: &mut Vec<u8>) -> Result<(), AllocError>
     Ok(())
 }
 
-// Adds a line behind these parts.
+// Adds a line after these parts.
 fn add_line(lead: &[&[u8]], line: &[u8], text: &mut Vec<u8>) -> Result<(), AllocError>
     ensures { OnOk result (text.new.items ≡ text.old.items ++ lines_text ((flat_map (λ part. part.now) lead.now ++ line.now) ∷ [])) }
 {
@@ -58,7 +58,7 @@ fn add_line(lead: &[&[u8]], line: &[u8], text: &mut Vec<u8>) -> Result<(), Alloc
     Ok(())
 }
 
-/// Adds these lines, each behind these parts.
+/// Adds these lines, each after these parts.
 pub(crate) fn add_lines(
     lead: &[&[u8]],
     lines: &[Vec<u8>],
@@ -72,7 +72,7 @@ pub(crate) fn add_lines(
     Ok(())
 }
 
-// Adds the line of a warning behind these parts.
+// Adds the line of a warning after these parts.
 fn add_warning_line(
     lead: &[&[u8]],
     warning: &Warning<Vec<u8>>,
@@ -87,7 +87,7 @@ fn add_warning_line(
     Ok(())
 }
 
-// Adds the lines of these warnings, each behind these parts.
+// Adds the lines of these warnings, each after these parts.
 fn add_warnings(
     lead: &[&[u8]],
     warnings: &[Warning<Vec<u8>>],
@@ -102,7 +102,7 @@ fn add_warnings(
     Ok(())
 }
 
-// The sources, where they are wanted.
+// The sources, if they are wanted.
 fn sources_if<'s>(is_wanted: bool, sources: Option<&'s TreeSources>) -> Option<&'s TreeSources>
     ensures { result ≡ sources_if is_wanted sources.entry }
 {
@@ -116,7 +116,7 @@ fn explains_lost(options: &Options) -> bool
     options.explain_lost && options.warn_lost
 }
 
-// Adds the lines of the values that are lost, each with the explanation of its symbol.
+// Adds the lines of lost values, each with the explanation of its symbol.
 fn add_explained(
     alloc: Global,
     options: &Options,
@@ -140,7 +140,7 @@ fn add_explained(
     )
 }
 
-// Adds these lines of the values that are lost, with explanations from these sources, if there are any.
+// Adds these lines of lost values, with explanations from these sources, if there are any.
 fn add_lost_by(
     alloc: Global,
     options: &Options,
@@ -159,7 +159,7 @@ fn add_lost_by(
     }
 }
 
-// Adds the lines of the values that are lost, with explanations if they are wanted.
+// Adds the lines of lost values, with explanations if they are wanted.
 fn add_lost(
     alloc: Global,
     options: &Options,
@@ -176,7 +176,7 @@ fn add_lost(
     add_lost_by(alloc, options, wanted, input, solved, lost, text)
 }
 
-// Adds the warnings of the values, and the lines of the values that are lost.
+// Adds the warnings about values, and the lines of lost values.
 fn add_value_lines(
     alloc: Global,
     options: &Options,
@@ -216,7 +216,7 @@ fn is_any_outside(warnings: &[Warning<Vec<u8>>]) -> bool
     false
 }
 
-// Whether --strict refuses the user's input, given the lines of the values that are lost.
+// Whether --strict refuses the user's input, given the lines of lost values.
 fn refuses_input(
     options: &Options,
     input: &UserInput<'_>,
@@ -230,7 +230,7 @@ fn refuses_input(
         && !(input.all_taken() && !is_any_outside(solved.value_warnings()) && lost.is_empty())
 }
 
-// Whether anything was warned of before, or is by this text.
+// Whether there was an earlier warning, or this text is one.
 #[tactic(auto, using(crate::proofs::OutcomeLemmas::text_some))]
 fn is_warned_by(before: bool, text: &[u8]) -> bool
     ensures { result ≡ (before || is_not_empty text.now) }
@@ -238,7 +238,7 @@ fn is_warned_by(before: bool, text: &[u8]) -> bool
     before || !text.is_empty()
 }
 
-// Whether the texts are refused: for that, or for any warning under --strict-tree.
+// Whether the texts are refused: by --strict, or under --strict-tree because of any warning.
 fn is_refused(
     options: &Options,
     input: &UserInput<'_>,
@@ -254,7 +254,7 @@ fn is_refused(
 
 // ---- the texts
 
-/// The names in the dependency file, where it is wanted.
+/// The names in the dependency file, if it is wanted.
 pub(crate) fn names_listed(
     alloc: Global,
     options: &Options,
@@ -276,7 +276,7 @@ pub(crate) fn names_listed(
     Ok(Some(names))
 }
 
-// Adds the text of the `.config`, where it is wanted.
+// Adds the text of the `.config`, if it is wanted.
 fn add_config<'o>(
     alloc: Global,
     options: &'o Options,
@@ -297,7 +297,7 @@ fn add_config<'o>(
     Ok(())
 }
 
-// Adds that of the header, where it is wanted.
+// Adds the text of the header, if it is wanted.
 fn add_header<'o>(
     alloc: Global,
     options: &'o Options,
@@ -318,7 +318,7 @@ fn add_header<'o>(
     Ok(())
 }
 
-// Adds that of the minimal file, where it is wanted.
+// Adds the text of the minimal file, if it is wanted.
 fn add_minimal<'o>(
     alloc: Global,
     options: &'o Options,
@@ -370,7 +370,7 @@ fn new_symbols(
     new_by(alloc, options, wanted, solved)
 }
 
-// Adds that of the list of new symbols, where it is wanted.
+// Adds the text of the list of new symbols, if it is wanted.
 fn add_new<'o>(
     alloc: Global,
     options: &'o Options,
@@ -392,7 +392,7 @@ fn add_new<'o>(
     Ok(())
 }
 
-// Adds that of the list of the input lines that named no symbol, where it is wanted.
+// Adds the text of the list of input lines that name no symbol, if it is wanted.
 fn add_gone<'o>(
     alloc: Global,
     options: &'o Options,
@@ -413,7 +413,7 @@ fn add_gone<'o>(
     Ok(())
 }
 
-// Adds that of the dependency file that lists these names, where it is wanted.
+// Adds the text of the dependency file that lists these names, if it is wanted.
 fn add_rule<'o>(
     alloc: Global,
     options: &'o Options,
@@ -437,7 +437,7 @@ fn add_rule<'o>(
     Ok(())
 }
 
-// Adds that of the explanations, where they are wanted.
+// Adds the text of the explanations, if they are wanted.
 fn add_explanation<'o>(
     alloc: Global,
     options: &'o Options,
@@ -487,8 +487,8 @@ fn texts_of<'o>(
     Ok(texts)
 }
 
-/// Computes what follows from the user's input: adds the warnings of the values to what waits, and returns the texts, or
-/// nothing if they are refused. The caller owes an order that was made for the tree, and places of the tree.
+/// Computes the results for the user's input: adds the warnings about values to `waiting`, and returns the texts, or
+/// None if they are refused. The caller must pass an order and user values of the tree.
 pub(crate) fn compute<'o>(
     alloc: Global,
     options: &'o Options,

@@ -1,4 +1,4 @@
-//! What a run says on the diagnostics, besides warnings.
+//! The diagnostics of a run, except for warnings.
 
 ghost use Rattle.std.specs.Prelude.{◌≡◌, ◌++◌, [], map, IfErr, OnOk};
 ghost use Rattle.std.specs.List.{flat_map};
@@ -24,7 +24,7 @@ use kc_options::{Options, lead};
 use kc_read::refusal::Refusal;
 use std::alloc::Global;
 
-// Says whole lines, all parts in one piece.
+// Reports whole lines, all parts in one call.
 pub(crate) fn say_parts<D: Device>(device: &mut D, parts: &[&[u8]]) -> Result<(), Stop<'static>>
     requires { LastEndsLine parts.now }
     ensures { Says (flat_map (λ part. part.now) parts.now) result (D.log device.old) (D.log device.new) }
@@ -39,7 +39,7 @@ pub(crate) fn say_parts<D: Device>(device: &mut D, parts: &[&[u8]]) -> Result<()
     }
 }
 
-/// Says lines, all in one piece.
+/// Reports lines, all in one call.
 pub(crate) fn say_lines<D: Device>(
     alloc: Global,
     device: &mut D,
@@ -56,7 +56,7 @@ pub(crate) fn say_lines<D: Device>(
     say_parts(device, &[&text])
 }
 
-// Says an error line at a location.
+// Reports an error line with a location.
 fn say_at<'a, D: Device>(
     device: &mut D,
     file: &'a [u8],
@@ -74,7 +74,7 @@ fn say_at<'a, D: Device>(
     )
 }
 
-// Says an error line without a location, behind what it begins with.
+// Reports an error line without a location, after its lead.
 fn say_behind<'a, D: Device>(
     device: &mut D,
     lead: [&'a [u8]; 2],
@@ -90,7 +90,7 @@ fn say_behind<'a, D: Device>(
     )
 }
 
-/// Says why a tree is refused.
+/// Reports why a tree is refused.
 pub(crate) fn say_refusal<D: Device>(device: &mut D, refusal: &Refusal) -> Result<(), Stop<'static>>
     ensures { Says (refusal_line (refusal_view refusal.now)) result (D.log device.old) (D.log device.new) }
 {
@@ -101,7 +101,7 @@ pub(crate) fn say_refusal<D: Device>(device: &mut D, refusal: &Refusal) -> Resul
     }
 }
 
-/// Says that a line of an input file is too long. Its stream's name has the lead already.
+/// Reports that a line of an input file is too long. The file's name already has the lead.
 pub(crate) fn say_long_line<'a, D: Device>(
     device: &mut D,
     long: &LongLine<'a>,
@@ -112,7 +112,7 @@ pub(crate) fn say_long_line<'a, D: Device>(
     say_at(device, long.stream, long.number, run_error_parts(error))
 }
 
-/// Says an error of a run.
+/// Reports an error of a run.
 pub(crate) fn say_error<'a, D: Device>(
     device: &mut D,
     options: &'a Options,
@@ -135,7 +135,7 @@ pub(crate) fn first_line(name: &[u8]) -> &[u8]
     name
 }
 
-// Says whole lines, all parts in one piece, and answers whether the diagnostics took them.
+// Reports whole lines, all parts in one call. Returns whether the diagnostics took them.
 fn tell<D: Device>(device: &mut D, parts: &[&[u8]]) -> bool
     requires { LastEndsLine parts.now }
     ensures { SaysIf (flat_map (λ part. part.now) parts.now) result (D.log device.old) (D.log device.new) }
@@ -146,7 +146,7 @@ fn tell<D: Device>(device: &mut D, parts: &[&[u8]]) -> bool
     }
 }
 
-/// Says whole lines, all parts in one piece, unless the diagnostics fail.
+/// Reports whole lines, all parts in one call, unless the diagnostics fail.
 pub(crate) fn try_to_say<D: Device>(device: &mut D, parts: &[&[u8]])
     requires { LastEndsLine parts.now }
     ensures { TriesToSay (flat_map (λ part. part.now) parts.now) (D.log device.old) (D.log device.new) }
@@ -154,7 +154,7 @@ pub(crate) fn try_to_say<D: Device>(device: &mut D, parts: &[&[u8]])
     let _ = device.report(parts);
 }
 
-// Says an error line without a location, unless the diagnostics fail.
+// Reports an error line without a location, unless the diagnostics fail.
 fn try_to_say_text<'a, D: Device>(device: &mut D, text: [&'a [u8]; 3])
     ensures { TriesToSay (error_line (flat_map (λ part. part.now) text.entry)) (D.log device.old) (D.log device.new) }
 {
@@ -162,21 +162,21 @@ fn try_to_say_text<'a, D: Device>(device: &mut D, text: [&'a [u8]; 3])
     try_to_say(device, &[b"error ", before, name, after, b"\n"]);
 }
 
-/// Says an error of a run that has no configuration, unless the diagnostics fail.
+/// Reports an error of a run without a configuration, unless the diagnostics fail.
 pub(crate) fn try_to_say_error<D: Device>(device: &mut D, error: RunError<&[u8]>)
     ensures { TriesToSay (error_line (run_error_text (shown_run_error error.entry))) (D.log device.old) (D.log device.new) }
 {
     try_to_say_text(device, run_error_parts(error));
 }
 
-/// Says that there was no memory for what configurations share.
+/// Reports that there was not enough memory for what the configurations share.
 pub(crate) fn say_no_memory<D: Device>(device: &mut D)
     ensures { TriesToSay out_of_memory_line (D.log device.old) (D.log device.new) }
 {
     try_to_say_error(device, RunError::Memory);
 }
 
-// Says an error line without a location, behind what it begins with, and answers whether the diagnostics took it.
+// Reports an error line without a location, after its lead. Returns whether the diagnostics took it.
 fn tell_behind<'a, D: Device>(device: &mut D, lead: [&'a [u8]; 2], text: [&'a [u8]; 3]) -> bool
     ensures { SaysIf (flat_map (λ part. part.now) lead.entry ++ error_line (flat_map (λ part. part.now) text.entry)) result (D.log device.old) (D.log device.new) }
 {
@@ -188,7 +188,7 @@ fn tell_behind<'a, D: Device>(device: &mut D, lead: [&'a [u8]; 2], text: [&'a [u
     )
 }
 
-// Says an error of a run, and answers whether the diagnostics took it.
+// Reports an error of a run. Returns whether the diagnostics took it.
 fn tell_error<'a, D: Device>(
     device: &mut D,
     options: &'a Options,
@@ -199,7 +199,7 @@ fn tell_error<'a, D: Device>(
     tell_behind(device, lead(options), run_error_parts(error))
 }
 
-// Says that a file could not be read or written, or that there was no memory for it.
+// Reports that a file could not be read or written, or that there was not enough memory for it.
 fn tell_failure<'a, D: Device>(
     device: &mut D,
     options: &'a Options,
@@ -214,7 +214,8 @@ fn tell_failure<'a, D: Device>(
     }
 }
 
-/// Says why a run was broken off, unless the diagnostics are what failed. It answers false if the diagnostics do not take the line.
+/// Reports why a run stopped early, unless the diagnostics failed. Returns false if the diagnostics do not take the
+/// line.
 pub(crate) fn report<D: Device>(device: &mut D, options: &Options, stop: Stop<'_>) -> bool
     ensures { Reports options.now stop.entry result (D.log device.old) (D.log device.new) }
 {

@@ -1,4 +1,4 @@
-//! Explanations: of the symbols that are asked for, and of lost values.
+//! Explanations of the symbols to be explained, and of lost values.
 ghost use Rattle.std.specs.Prelude.{◌≡◌, ◌<◌, ◌++◌, [], codes, map, IfOk, OnOk};
 ghost use Rattle.std.specs.List.{flat_map};
 ghost use Rattle.kc_language.specs.Explanations.{asked_symbol, explanation_text};
@@ -46,7 +46,8 @@ fn add_asked(
     }
 }
 
-/// The explanations of the symbols whose names are asked for, one after another. Fails only where it is out of memory.
+/// Returns the explanations of the symbols to be explained, one after another. Fails only if there is not enough
+/// memory.
 pub(crate) fn explained_text(
     alloc: Global,
     options: &Options,
@@ -71,7 +72,7 @@ pub(crate) fn explained_text(
     Ok(text)
 }
 
-// Adds these lines about a symbol, each with the explanation of the symbol behind it.
+// Adds these lines about a symbol, each followed by the explanation of the symbol.
 fn add_with_explanation(
     alloc: Global,
     is_raw: bool,
@@ -114,8 +115,8 @@ fn add_lost_of(
     add_with_explanation(alloc, is_raw, lines, input, solved, front, id, &told, text)
 }
 
-/// Returns what each line of the explanation of a lost value begins with: the name of the configuration, where that is told, and
-/// two blanks. Fails only where it is out of memory.
+/// Returns the start of each line of the explanation of a lost value: the name of the configuration, if it is reported,
+/// and two blanks. Fails only if there is not enough memory.
 pub(crate) fn explanation_lead(alloc: Global, options: &Options) -> Result<Vec<u8>, AllocError>
     ensures { IfOk result (λ front. front.items ≡ explanation_lead options.now) }
 {
@@ -126,8 +127,8 @@ pub(crate) fn explanation_lead(alloc: Global, options: &Options) -> Result<Vec<u
     Ok(front)
 }
 
-/// Adds the lines of all values that are lost, each with the explanation of its symbol, whose lines begin with `front`. Fails
-/// only where it is out of memory. With `is_raw` strings have no escapes.
+/// Adds the lines of all lost values, each with the explanation of its symbol, whose lines start with `front`. Fails
+/// only if there is not enough memory. With `is_raw` strings have no escapes.
 pub(crate) fn add_explained_lost(
     alloc: Global,
     is_raw: bool,

@@ -11,7 +11,7 @@ use kc_load::{Folder, LoadFault, load};
 use kc_options::{Options, Status};
 use std::alloc::Global;
 
-/// Says why the files of a tree could not be loaded. A fault in it changes nothing else.
+/// Reports why the files of a tree could not be loaded. If that fails, nothing else changes.
 pub fn say_load_fault<D: Device>(fault: &LoadFault, device: &mut D)
     ensures { TriesToSay (load_line fault.now) (D.log device.old) (D.log device.new) }
 {
@@ -21,11 +21,12 @@ pub fn say_load_fault<D: Device>(fault: &LoadFault, device: &mut D)
     }
 }
 
-/// Loads the files of a folder, and runs over them as [`run`](crate::run) does (our own).
+/// Loads the files of a folder, and runs over them like [`run`](crate::run) (our own).
 ///
-/// The file of a name is the one at the path `root/NAME`, or at the name itself if that begins with `/`; a name that is not UTF-8 has
-/// none. What was read of the folder is let go when the tree's lines are known. If a file of the tree cannot be read (E18), or there is no
-/// memory for it (E20), that is said, the status is `Faulted`, and nothing else was done; `kept` is as it was then.
+/// The file of a name is the one at the path `root/NAME`, or at the name itself if that begins with `/`. A name that is
+/// not UTF-8 has no file. The bytes of the files are freed when the tree's lines are known. If a file of the tree
+/// cannot be read (E18), or there is not enough memory for it (E20), that is reported, the status is `Faulted`, and
+/// nothing else is done; `kept` is unchanged.
 pub fn run_in_folder<F: Folder, D: Device>(
     alloc: Global,
     folder: &mut F,

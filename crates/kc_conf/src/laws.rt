@@ -1,4 +1,4 @@
-//! What holds of the outcomes of runs, stated as the contracts of functions that do nothing.
+//! Laws of the outcomes of runs, stated as the contracts of functions that do nothing.
 ghost use Rattle.kc_conf.specs.Laws.{ExactlyOneAnswer, ExactlyOneOutcome, NothingIsLost, StrictTakesAll, DiagnosticsAreLines, MinimalIsRunAgain, OutcomesAreReadAgain, TextsAreReadAgain, DoneAreWhole};
 ghost use Rattle.kc_conf.specs.LawSteps.{SolutionExists};
 ghost use Rattle.kc_conf.specs.LawSteps.{AcceptedHaveAnOutcome, AnswerExists, OutcomeExists, OneAnswer, OneOutcome};
@@ -27,30 +27,31 @@ pub(crate) fn one_answer()
     unordered_have_a_loop();
 }
 
-/// The law of the outcome: for files, options and the bytes of the streams there is at most one. It does nothing.
+/// The law of the outcome: for files, options and the bytes of the input files there is at most one. It does nothing.
 pub(crate) fn one_outcome()
     ensures { OneOutcome }
 {
     one_answer();
 }
 
-/// States what an outcome of status `Done` is: that of a run that refuses nothing. Its tree is accepted, no line of its input
-/// files is too long, and its texts are those of the one solution, whichever of them are wanted. (Our own.)
+/// An outcome of status `Done` belongs to a run that refuses nothing. Its tree is accepted, no line of its input files
+/// is too long, and each text that is wanted is that of the one solution. (Our own.)
 pub fn done_are_whole()
     ensures { DoneAreWhole }
 {}
 
-/// What an outcome adds to the notes is whole lines, each with its line feed. (Our own.)
+/// The diagnostics of an outcome are whole lines, each with its line feed. (Our own.)
 pub fn diagnostics_are_lines()
     ensures { DiagnosticsAreLines }
 {}
 
-/// States that with `warn_lost`, if the status is `Done`, no line of the input files is lost silently. Each line is of one of
-/// three kinds. It says nothing: it is a comment or an empty line. Or it has a warning (K7 to K9, K16), which is a line of
-/// the diagnostics. Or it gives a symbol a value, and one of three things holds: the value is the symbol's, one of those
-/// whose text the written `.config` is; a line of the diagnostics says that it is not, with the location of this line, and
-/// says it if the symbol has no prompt (K14); or the next line that gives the symbol a value is reported to set it again
-/// (K10), and if it gives another value, to change it, with the location of both lines and both values (K15). (Our own.)
+/// With `warn_lost`, if the status is `Done`, no line of the input files is lost silently. Each line is of one of three
+/// kinds. It is a comment or an empty line. Or it has a warning (K7 to K9, K16), which is a line of the diagnostics. Or
+/// it gives a symbol a value, and one of three things holds. First: it is the symbol's value, as in the text of the
+/// written `.config`. Second: a line of the diagnostics reports that it is not, with the location of this line, and
+/// says if the symbol has no prompt (K14). Third: the next line that gives the symbol a value is reported to set it
+/// again (K10). If it gives another value, it is reported to change it, with the location of both lines and both values
+/// (K15). (Our own.)
 pub fn nothing_is_lost()
     ensures { NothingIsLost }
 {
@@ -59,11 +60,11 @@ pub fn nothing_is_lost()
     lines_give_in_turn();
 }
 
-/// States what `--strict` promises. If the status with it is `Done`, each line of the input files was taken as written: it says
-/// nothing (a comment or an empty line), or it gives a symbol a value, no later line gives the symbol another one, and no
-/// user value is out of its range (K12). With `warn_lost`, what a line gives a symbol is the symbol's value, one of those
-/// whose text the written `.config` is. Only without `warn_lost` a line may stand that has no effect: `# NAME is not set` of
-/// a string, int or hex (K16). (Our own.)
+/// The promise of `--strict`. If the status with it is `Done`, each line of the input files was taken as written. It is
+/// a comment or an empty line, or it gives a symbol a value, no later line gives the symbol another one, and no user
+/// value is outside its range (K12). With `warn_lost`, the value of a line is the symbol's value, as in the text of the
+/// written `.config`. Only without `warn_lost` may there be a line without effect: `# NAME is not set` of a string, int
+/// or hex (K16). (Our own.)
 pub fn strict_takes_all()
     ensures { StrictTakesAll }
 {
@@ -72,11 +73,12 @@ pub fn strict_takes_all()
     lines_give_in_turn();
 }
 
-/// For every file map, options and streams whose run refuses nothing, the minimal file and the `.config` read again, each
-/// alone and from empty places: the minimal file gives the values back, and with any nonempty set of its lines left out it
-/// does not; the `.config` does exactly where no visible tristate symbol outside a choice stands above both its visibility
-/// and what it is selected to, under the premises of `config_is_idempotent` of kc_config_file. No line of the two is too long to be
-/// read again, whatever the numbers and titles. All this asks that the prefix is one. (Our own.)
+/// For every file map, options and input files whose run refuses nothing, the minimal file and the `.config` are read
+/// again, each alone and from no user values. The minimal file restores the values, and with any nonempty set of its
+/// lines left out it does not. The `.config` restores them if and only if no visible tristate symbol outside a choice
+/// is greater than both its visibility and what it is selected to, under the conditions of `config_is_idempotent` of
+/// kc_config_file. No line of the two is too long to be read again, for any numbers and titles. This requires a valid
+/// prefix. (Our own.)
 pub fn texts_are_read_again()
     ensures { TextsAreReadAgain }
 {
@@ -87,9 +89,10 @@ pub fn texts_are_read_again()
     written_texts_are_short();
 }
 
-/// States the same of the texts of an outcome of status `Done`, each read again alone and from no user values. No line of them
-/// is too long. The minimal file gives the values of the outcome back, and with any nonempty set of its lines left out others.
-/// The `.config` gives them back exactly where the rule above says, under its premises. (Our own.)
+/// The same for the texts of an outcome of status `Done`, each read again alone and from no user values. No line of
+/// them is too long. The minimal file restores the values of the outcome, and with any nonempty set of its lines left
+/// out it gives others. The `.config` restores them if and only if the rule above holds, under its conditions. (Our
+/// own.)
 pub fn outcomes_are_read_again()
     ensures { OutcomesAreReadAgain }
 {
@@ -97,9 +100,9 @@ pub fn outcomes_are_read_again()
     texts_are_read_again();
 }
 
-/// States what a run on the minimal file of an outcome of status `Done` gives, with the same files, root file and prefix, and
-/// letting warnings pass. It is done with the same values, and writes the `.config` and the header of these values, if it is
-/// asked for them. (Our own.)
+/// A run on the minimal file of an outcome of status `Done`, with the same files, root file and prefix, which allows
+/// warnings, ends `Done` with the same values. It writes the `.config` and the header of these values, if they are
+/// wanted. (Our own.)
 pub fn minimal_is_run_again()
     ensures { MinimalIsRunAgain }
 {
@@ -109,8 +112,8 @@ pub fn minimal_is_run_again()
     config_is_of_values();
 }
 
-/// There is an outcome, whatever the files, the options and the streams: a root file has an accepted tree or a refusal, of
-/// which a loop that is named is one, and an accepted tree has a solution. (Our own.)
+/// There is an outcome for any files, options and input files: a root file has an accepted tree or a refusal (such as a
+/// reported dependency loop), and an accepted tree has a solution. (Our own.)
 pub(crate) fn outcome_exists()
     ensures solution { SolutionExists }
     ensures answer { AnswerExists }
@@ -128,8 +131,7 @@ pub(crate) fn outcome_exists()
     reading_leaves_allowed_places();
 }
 
-/// The law of answers: over any files a root file has one accepted tree and no refusal, or one refusal and no accepted tree.
-/// (Our own.)
+/// For any files a root file has one accepted tree and no refusal, or one refusal and no accepted tree. (Our own.)
 pub fn exactly_one_answer()
     ensures { ExactlyOneAnswer }
 {
@@ -137,7 +139,7 @@ pub fn exactly_one_answer()
     one_answer();
 }
 
-/// The law of the outcome: for every file map, options and streams there is exactly one. (Our own.)
+/// For every file map, options and input files there is exactly one outcome. (Our own.)
 pub fn exactly_one_outcome()
     ensures { ExactlyOneOutcome }
 {
@@ -145,8 +147,8 @@ pub fn exactly_one_outcome()
     one_outcome();
 }
 
-/// The law of many configurations of one tree: the run for one leaves exactly one part behind the tree's warnings, by its own
-/// options and input files; and that is what its own run leaves behind them. (Our own.)
+/// The law of many configurations of one tree: the run for one configuration leaves exactly one part after the tree's
+/// warnings, given by its own options and input files. Its own run leaves the same part after them. (Our own.)
 pub fn exactly_one_part()
     ensures one { ExactlyOnePart }
     ensures alone { PartsAreOfRuns }
@@ -156,9 +158,10 @@ pub fn exactly_one_part()
     exactly_one_outcome();
 }
 
-/// The law of many configurations in one run: if no file that one of them writes is an input or an output of another one, each
-/// leaves its part of what its input files held before the run. If its turn was whole, each file that it writes holds its text after
-/// the run. A file that none of them writes holds what it held. This holds over a device that tells what was done. (Our own.)
+/// The law of many configurations in one run: if no file that one of them writes is an input or an output of another
+/// one, each leaves its part for what its input files held before the run. If its turn was complete, each file that it
+/// writes holds its text after the run. A file that none of them writes stays the same. This holds for a device that
+/// records what was done. (Our own.)
 pub fn configurations_stand_apart<C: Configurations>(configurations: &C)
     ensures { EachLeavesItsPart (C.options configurations.now) (C.number configurations.now) }
 {}

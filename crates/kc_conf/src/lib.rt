@@ -1,10 +1,11 @@
 #![tactic(auto)]
-//! The run: from a map of files and a device to the texts delivered.
+//! The run: from a map of files and a device to the delivered texts.
 //!
-//! - [`run`]: one run. [`run_each`]: many [`Configurations`] of one tree. [`run_in_folder`]: one run that loads its files.
+//! - [`run`]: one run. [`run_each`]: many [`Configurations`] of one tree. [`run_in_folder`]: one run that loads its
+//!   files.
 //! - [`AcceptedTree`]: a tree without errors.
-//! - [`Stop`]: why a run was broken off. [`say_load_fault`] prints why files could not be loaded.
-//! - [`laws`]: what holds of the outcomes of runs.
+//! - [`Stop`]: why a run stopped early. [`say_load_fault`] reports why files could not be loaded.
+//! - [`laws`]: laws of the outcomes of runs.
 //!
 //! From the crates below: [`Options`], [`Delivery`], [`Status`], [`FileMap`], [`Refusal`], [`Cause`].
 

@@ -1,4 +1,4 @@
-//! The values that were given and are not the symbols'.
+//! Lost values: user values that are not the values of their symbols.
 ghost use Rattle.std.specs.Prelude.{◌≡◌, ◌++◌, ◌<◌, if◌then◌else◌, length, map, IfOk, OnOk, option_map};
 ghost use Rattle.kc_language.specs.Symbols.{located_warning};
 ghost use Rattle.kc_language.specs.declared.diagnostics.Warning.TheVariants.{Lost, LostWithoutPrompt};
@@ -50,7 +50,7 @@ fn shown_value<'a>(solved: &'a Solved<'_>, id: SymId) -> ShownValue<'a>
     shown_by(solved.symbol_type(id), solved.tri(id), solved.text(id))
 }
 
-// The warning of a value that was given and is not the symbol's, both as texts.
+// The warning about a lost value, given both values as texts.
 fn lost_warning<'a>(
     is_prompted: bool,
     name: &'a [u8],
@@ -75,7 +75,7 @@ fn line_of(alloc: Global, at: InputLine<'_>, warning: Warning<&[u8]>) -> Result<
     Ok(line)
 }
 
-// The line of a value that was given and is not the symbol's.
+// The line of a lost value.
 fn lost_line(
     alloc: Global,
     is_raw: bool,
@@ -96,7 +96,7 @@ fn lost_line(
     line_of(alloc, at, warning)
 }
 
-// The line of a symbol, behind those that are there.
+// Adds the line of a symbol's lost value, if it was lost.
 fn lost_by(
     alloc: Global,
     is_raw: bool,
@@ -160,7 +160,7 @@ fn has_prompt(layout: &Layout, symbol: &Symbol) -> bool
     false
 }
 
-// What stands in the symbol's place.
+// The user value of the symbol.
 fn given_at<'a>(user: &'a User, id: SymId) -> Option<&'a UserValue>
     requires { id.0 < length user.now.symbols }
     ensures { given_in result ≡ place_at user.now (SymbolPlace id.0) }
@@ -168,7 +168,7 @@ fn given_at<'a>(user: &'a User, id: SymId) -> Option<&'a UserValue>
     user.get(id)
 }
 
-/// The line of the symbol of a number, behind those that are there. With `is_raw` strings have no escapes.
+/// Adds the line of the lost value of this symbol, if it was lost. With `is_raw` strings have no escapes.
 pub(crate) fn lost_into(
     alloc: Global,
     is_raw: bool,
@@ -221,9 +221,8 @@ fn lost_lines(
     Ok(lines)
 }
 
-/// The lines of the values that were given and are not the symbols', where they are asked for: whole lines without their
-/// end, in the order of the symbols' first definitions, each with the line that gave the value. Fails only where it is out
-/// of memory.
+/// Returns the lines of lost values, if they are wanted: whole lines without their line end, in the order of first
+/// definitions, each with the location of the line that gave the value. Fails only if there is not enough memory.
 pub(crate) fn lost_warnings(
     alloc: Global,
     options: &Options,

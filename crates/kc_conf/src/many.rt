@@ -1,4 +1,4 @@
-//! A run for many configurations of one tree: the tree is read once, and the configurations take their turns.
+//! A run for many configurations of one tree: it reads the tree once, and the configurations take their turns.
 ghost use Rattle.kc_read.specs.Files.{files_in};
 ghost use Rattle.std.specs.Prelude.{◌≡◌, ◌≢◌, ◌<◌, ℕ, Bool, List, IfOk, not, ◌||◌};
 ghost use Rattle.kc_language.specs.Expansion.{Files};
@@ -26,33 +26,34 @@ use kc_read::refusal::Refusal;
 use kc_solve::evaluation_order::EvaluationOrder;
 use std::alloc::{AllocError, Global};
 
-/// What gives the options of each of many configurations of one tree (our own).
+/// Gives the options of each of many configurations of one tree (our own).
 pub trait Configurations {
-    /// How many configurations there are.
+    /// The number of configurations.
     ghost number: { Self → ℕ };
 
-    /// Which options the configuration of this number may have, counted from 0.
+    /// The possible options of the configuration of this number, counted from 0.
     ghost options: { Self → ℕ → Options → Type 0 };
 
-    /// How many configurations there are.
+    /// Returns the number of configurations.
     fn count(&self) -> usize
         ensures { result ≡ number self.now };
 
-    /// The options of one configuration, counted from 0.
+    /// Returns the options of one configuration, counted from 0.
     ///
     /// # Errors
     ///
-    /// That there is no memory for them.
+    /// Fails if there is not enough memory.
     fn options_of(&self, alloc: Global, i: usize) -> Result<Options, AllocError>
         requires { i < number self.now }
         ensures { IfOk result (options self.now i) };
 
-    /// Whether the sources of the tree are kept. They are, if one of the configurations wants them (`wants_sources` of kc_options).
+    /// Whether the sources of the tree are kept. They are if one of the configurations wants them (`wants_sources` of
+    /// kc_options).
     fn keeps_sources(&self) -> bool
         ensures { KeepsFor (options self.now) result };
 }
 
-// How the turn of one configuration ended, and whether that ends all.
+// How the turn of one configuration ended, and whether that ends all turns.
 #[derive(Clone, Copy)]
 struct Turn {
     status: Status,
@@ -61,7 +62,7 @@ struct Turn {
 
 // ---- one turn
 
-// Runs for one configuration behind the tree's warnings: refuses a name, or goes on to the input files.
+// Runs for one configuration after the tree's warnings: refuses a name, or goes on to the input files.
 fn run_part<'o, D: Device>(
     alloc: Global,
     options: &'o Options,
@@ -83,7 +84,7 @@ fn run_part<'o, D: Device>(
     run_inputs(alloc, options, accepted, &names, is_warned, device)
 }
 
-// Whether a run that was broken off for this ends the runs for all configurations.
+// Whether a run that stopped early for this reason ends the runs for all configurations.
 fn ends_all(stop: &Stop<'_>) -> bool
     ensures { result ≡ ends_all stop.now }
 {
@@ -107,7 +108,7 @@ fn ends_all(stop: &Stop<'_>) -> bool
     }
 }
 
-// Runs for one configuration, and says why if it was broken off.
+// Runs for one configuration, and reports why if it stopped early.
 fn run_turn<D: Device>(
     alloc: Global,
     options: &Options,
@@ -177,7 +178,7 @@ fn greater(a: Status, b: Status) -> Status
     }
 }
 
-// Each configuration takes its turn, up to one that ends all.
+// Lets each configuration take its turn, up to one that ends all turns.
 fn take_turns<C: Configurations, D: Device>(
     alloc: Global,
     configurations: &C,
@@ -203,7 +204,7 @@ fn take_turns<C: Configurations, D: Device>(
 
 // ---- the tree
 
-// Says why no tree is accepted.
+// Reports why no tree is accepted.
 fn refuse_all<D: Device>(refusal: &Refusal, device: &mut D) -> Status
     ensures { (files : Files) (root : List ℕ) → (refusal.now.cause ≢ Memory → IsRefusedTree files root (refusal_view refusal.now)) →
         StopsAtTree files root (D.log device.old) (D.log device.new) result }
@@ -218,7 +219,8 @@ fn refuse_all<D: Device>(refusal: &Refusal, device: &mut D) -> Status
     }
 }
 
-// Ends all where the tree's warnings were not said: for want of memory, which is said, or since the diagnostics failed.
+// Ends all turns if the tree's warnings could not be reported: if there was not enough memory, this is reported; or the
+// diagnostics failed.
 fn end_unsaid<D: Device>(stop: Stop<'_>, device: &mut D) -> Status
     ensures { (files : Files) (root : List ℕ) (tree : TreeFacts) (before : Log) →
         IsAcceptedTree files root tree → StopsLines (lines_text tree.warnings) stop.entry before (D.log device.old) →
@@ -230,7 +232,7 @@ fn end_unsaid<D: Device>(stop: Stop<'_>, device: &mut D) -> Status
     Status::Faulted
 }
 
-// Runs over an accepted tree: says its warnings, and then the configurations take their turns.
+// Runs over an accepted tree: reports its warnings, then lets the configurations take their turns.
 fn run_each_of<C: Configurations, D: Device>(
     alloc: Global,
     configurations: &C,
@@ -295,14 +297,14 @@ fn run_each_over<C: Configurations, D: Device>(
 
 /// Runs for each configuration of one tree, over a map of files and a device (our own).
 ///
-/// The tree is read once, from this Kconfig file, with which all options have to begin. A refused tree is told once, and refuses all;
-/// else its warnings are told once. Behind them each configuration takes its turn, and leaves what [`run`](crate::run) leaves for its
-/// options behind the tree's warnings, whatever the others do. A refused one (E17, E21, E22, E23, E24) and one whose files cannot be read or
-/// written (E18, E19) leave the others their turns. Want of memory (E20) and diagnostics that fail end all. What is answered is the
-/// greatest status.
+/// The tree is read once, from this Kconfig file, which must be the root file of all options. A refused tree is
+/// reported once, and ends all. Otherwise its warnings are reported once. Then each configuration takes its turn, and
+/// leaves what [`run`](crate::run) leaves for its options after the tree's warnings, independent of the others. A
+/// refused configuration (E17, E21, E22, E23, E24), or one whose files cannot be read or written (E18, E19), does not
+/// stop the others. E20 (not enough memory) and a failure of the diagnostics end all. Returns the greatest status.
 ///
-/// The files are let go when they are read, unless the texts are made of them too. The tree goes to `kept`, in place of what that held, if it is accepted: to give back its
-/// memory takes a while, and a program that ends anyway may forget it.
+/// The files are freed when they are read, unless the texts use them. An accepted tree is moved to `kept` and replaces
+/// its content. Freeing it takes time. A program that is about to exit can leak it instead.
 pub fn run_each<C: Configurations, D: Device>(
     alloc: Global,
     files: FileMap,

@@ -1,4 +1,4 @@
-//! Names that are refused: in the dependency file, and among those that are to be explained.
+//! Refused names: names in the dependency file, and names to be explained.
 ghost use Rattle.std.specs.Prelude.{◌≡◌, ◌++◌, ℕ, List, [], option_map, IfOk};
 ghost use Rattle.kc_language.specs.Outcome.{lead, names_listed, unknown_name, unreadable_name};
 ghost use Rattle.kc_language.specs.declared.outcome.Status.TheVariants.{Refused};
@@ -17,12 +17,12 @@ use kc_options::{Options, Status, target};
 use kc_tree::tree::Tree;
 use std::alloc::{AllocError, Global};
 
-/// A name that is refused.
+/// A refused name.
 #[derive(Drop)]
 pub(crate) enum RefusedName<'n> {
     /// make cannot read it.
     Unreadable(&'n [u8]),
-    /// No symbol has it. What is said of names near it stands behind it.
+    /// No symbol has it. The second field is the text about similar names.
     Unknown(&'n [u8], Vec<u8>),
 }
 
@@ -36,7 +36,7 @@ fn unreadable_among<'n>(options: &'n Options, names: &'n Option<Names>) -> Optio
     }
 }
 
-// The first name that is to be explained and that no symbol has.
+// The first name to be explained that no symbol has.
 fn unknown_asked<'n>(options: &'n Options, tree: &Tree) -> Option<&'n [u8]>
     ensures { option_map (λ name. name.now) result ≡ unknown_name options.now tree.now }
 {
@@ -49,7 +49,7 @@ fn unknown_asked<'n>(options: &'n Options, tree: &Tree) -> Option<&'n [u8]>
     None
 }
 
-// The same, with what is said of names near it.
+// The same, with the text about similar names.
 fn unknown_among<'n>(
     alloc: Global,
     options: &'n Options,
@@ -64,7 +64,7 @@ fn unknown_among<'n>(
     Ok(Some(RefusedName::Unknown(name, near)))
 }
 
-/// The first name that is refused, if there is one.
+/// The first refused name, if there is one.
 pub(crate) fn refused_among<'n>(
     alloc: Global,
     options: &'n Options,

@@ -1,4 +1,4 @@
-//! Reads the input files, in whatever pieces they come.
+//! Reads the input files, in chunks of any size.
 
 ghost use Rattle.std.specs.Prelude.{◌≡◌, ◌≤◌, ◌++◌, [], false, true, length, map, None, IfErr, IfOk, OnOk, option_map};
 ghost use Rattle.kc_io.specs.Log.{Leads, ReadsOn, reading, is_whole_lines};
@@ -21,24 +21,24 @@ use kc_options::{Options, input_file, lead, may_be_missing};
 use kc_tree::tree::Tree;
 use std::alloc::{AllocError, Global};
 
-// How many bytes are asked for at once.
+// The number of bytes requested at once.
 const PIECE: usize = 16_384;
 
-/// A line that is too long: its stream's name and its number.
+/// A line that is too long: the name of its input file and its number.
 #[derive(Clone, Copy, Debug)]
 pub(crate) struct LongLine<'a> {
     pub stream: &'a [u8],
     pub number: u64,
 }
 
-/// What waits to be said, and whether it waits until all input files are read.
+/// The diagnostics that wait, and whether they wait until all input files are read.
 #[derive(Drop)]
 pub(crate) struct Waiting {
     pub holds: bool,
     pub text: Vec<u8>,
 }
 
-// Opens an input file, and answers whether there is one.
+// Opens an input file. Returns whether it exists.
 fn open<'n, D: Device>(
     device: &mut D,
     name: &'n str,
@@ -74,7 +74,7 @@ fn next<'n, D: Device>(device: &mut D, name: &'n str, buffer: &mut [u8]) -> Resu
     }
 }
 
-// Says what waits, unless it is held back.
+// Reports the waiting diagnostics, unless they are held back.
 fn say<D: Device>(device: &mut D, waiting: &mut Waiting) -> Result<(), Stop<'static>>
     requires { waiting.old.holds ≡ false → is_whole_lines waiting.old.text.items ≡ true }
     ensures says { SaysWaiting result waiting.old waiting.new (D.log device.old) (D.log device.new) }
@@ -96,7 +96,7 @@ fn say<D: Device>(device: &mut D, waiting: &mut Waiting) -> Result<(), Stop<'sta
     }
 }
 
-// Takes the next bytes of a stream, and says what they warn of. The number of a line that is too long is answered.
+// Reads the next chunk of an input file, and reports its warnings. Returns the number of a line that is too long.
 fn take_piece<'a, D: Device>(
     reader: &mut InputReader<'a>,
     piece: &[u8],
@@ -124,7 +124,7 @@ fn take_piece<'a, D: Device>(
     }
 }
 
-// Ends the last line of a file that was read to its end, and says what it warns of.
+// Finishes the last line of a file that was read to its end, and reports its warning.
 fn finish<'a, D: Device>(
     reader: &mut InputReader<'a>,
     device: &mut D,
@@ -145,7 +145,7 @@ fn finish<'a, D: Device>(
     }
 }
 
-// Reads the open file to its end, or to a line that is too long and whose number is answered.
+// Reads the open file to its end, or to a line that is too long, and returns that line's number.
 fn read_opened<'o, 'a, D: Device>(
     reader: &mut InputReader<'a>,
     name: &'o str,
@@ -183,7 +183,7 @@ fn read_opened<'o, 'a, D: Device>(
     }
 }
 
-// Reads an input file to the end of its last line, or to a line that is too long and whose number is answered.
+// Reads an input file to the end of its last line, or to a line that is too long, and returns that line's number.
 fn read_file<'o, 'a, D: Device>(
     reader: &mut InputReader<'a>,
     name: &'o str,
@@ -231,8 +231,8 @@ pub(crate) fn stream_names(alloc: Global, options: &Options) -> Result<Vec<Vec<u
     Ok(names)
 }
 
-/// Reads the input files one after another, each with a reader of its own, to the end of the last or to a line that is too
-/// long. The caller owes the input before all of them.
+/// Reads the input files one after another, each with a reader of its own, to the end of the last or to a line that is
+/// too long. The caller passes the input before all of them.
 pub(crate) fn read_inputs<'o, 'a, D: Device>(
     alloc: Global,
     options: &'o Options,

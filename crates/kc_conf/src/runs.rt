@@ -37,7 +37,7 @@ use std::alloc::{AllocError, Global};
 
 // ---- the texts
 
-// Says which files do not hold their texts.
+// Reports which files do not hold their texts.
 fn check<D: Device>(
     options: &Options,
     texts: &[Text<'_>],
@@ -113,7 +113,7 @@ fn refuse_line<D: Device>(long: LongLine<'_>, device: &mut D) -> Result<Status, 
     }
 }
 
-// Says why no tree is accepted.
+// Reports why no tree is accepted.
 fn refuse<D: Device>(refusal: &Refusal, device: &mut D) -> Result<Status, Stop<'static>>
     ensures memory { refusal.now.cause ≡ Memory → (result ≡ Err Stop.OutOfMemory) × (D.log device.new ≡ D.log device.old) }
     ensures said { refusal.now.cause ≢ Memory → (options : Options) → Ends options [] (refusal_line (refusal_view refusal.now)) [] Status.Refused result (D.log device.old) (D.log device.new) }
@@ -127,7 +127,7 @@ fn refuse<D: Device>(refusal: &Refusal, device: &mut D) -> Result<Status, Stop<'
     }
 }
 
-// Says what waits, if anything does.
+// Reports the waiting diagnostics, if there are any.
 fn say_waiting<D: Device>(waiting: &[u8], device: &mut D) -> Result<(), Stop<'static>>
     requires { AreLines waiting.now }
     ensures { SaysAll waiting.now result (D.log device.old) (D.log device.new) }
@@ -153,7 +153,7 @@ fn hand_or_refuse<'o, D: Device>(
     }
 }
 
-// Says what waits, and then delivers the texts, or refuses them.
+// Reports the waiting diagnostics, then delivers the texts or refuses them.
 fn finish<'o, D: Device>(
     options: &Options,
     waiting: &[u8],
@@ -170,7 +170,7 @@ fn finish<'o, D: Device>(
     }
 }
 
-// Says what waits, and then refuses a line that is too long.
+// Reports the waiting diagnostics, then refuses a line that is too long.
 fn finish_long<D: Device>(
     waiting: &[u8],
     long: LongLine<'_>,
@@ -187,7 +187,7 @@ fn finish_long<D: Device>(
 
 // ---- the run
 
-// What the names of fragments begin with in diagnostics.
+// The start of fragment names in diagnostics.
 fn lead_text(alloc: Global, options: &Options) -> Result<Vec<u8>, AllocError>
     ensures { IfOk result (λ text. text.items ≡ lead options.now) }
 {
@@ -198,7 +198,7 @@ fn lead_text(alloc: Global, options: &Options) -> Result<Vec<u8>, AllocError>
     Ok(text)
 }
 
-// What the user gave before the first input file: nothing.
+// The user's input before the first input file: empty.
 fn fresh_input<'a>(
     alloc: Global,
     options: &Options,
@@ -222,7 +222,8 @@ fn fresh_input<'a>(
     }
 }
 
-/// Runs for one configuration of an accepted tree, behind what was said of the tree: `is_warned` tells whether it has warnings.
+/// Runs for one configuration of an accepted tree, after the tree's diagnostics. `is_warned` is whether the tree has
+/// warnings.
 pub(crate) fn run_inputs<'o, D: Device>(
     alloc: Global,
     options: &'o Options,
@@ -274,7 +275,7 @@ pub(crate) fn run_inputs<'o, D: Device>(
     finish(options, &waiting.text, texts, device)
 }
 
-/// Says the tree's warnings, if there are any.
+/// Reports the tree's warnings, if there are any.
 pub(crate) fn say_tree<D: Device>(
     alloc: Global,
     warnings: &[Vec<u8>],
@@ -288,7 +289,7 @@ pub(crate) fn say_tree<D: Device>(
     say_lines(alloc, device, warnings)
 }
 
-// Runs over an accepted tree: refuses a name, or says the tree's warnings and goes on to the input files.
+// Runs over an accepted tree: refuses a name, or reports the tree's warnings and goes on to the input files.
 fn run_accepted<'o, D: Device>(
     alloc: Global,
     options: &'o Options,
@@ -358,7 +359,7 @@ fn run_tree<'o, D: Device>(
     ended
 }
 
-// From the files to what is said of a run that was broken off.
+// Runs over the files, without reporting why it stopped early.
 fn run_over<'o, D: Device>(
     alloc: Global,
     files: FileMap,
@@ -382,7 +383,7 @@ fn run_over<'o, D: Device>(
     run_tree(alloc, options, read, device, kept)
 }
 
-// What a run answers: its status, or `Faulted` where it was broken off, which it says.
+// Returns the status of a run. If it stopped early, reports why and returns `Faulted`.
 fn answer<D: Device>(options: &Options, ended: Result<Status, Stop<'_>>, device: &mut D) -> Status
     ensures { Answers options.now ended.entry result (D.log device.old) (D.log device.new) }
 {
@@ -395,18 +396,19 @@ fn answer<D: Device>(options: &Options, ended: Result<Status, Stop<'_>>, device:
     }
 }
 
-/// Runs over a map of files and a device: it reads the input files, says warnings, and writes, replaces or compares the files that
-/// the options name (our own).
+/// Runs over a map of files and a device: reads the input files, reports warnings, and writes, replaces or compares the
+/// files that the options name (our own).
 ///
-/// For these files, the options and the bytes that the device gives there is exactly one outcome: the tree's refusal (E1 to E16), a
-/// line's (E17), that of warnings (E21), that of a name (E23, E24), or the texts and diagnostics of the tree's one solution. `Done` and
-/// `Refused` are answered only if the run was whole: what was said and done is the outcome's, and nothing else. With `Delivery::Check`
-/// a file that does not hold its text is reported (E22), and the status is `Refused`. `Faulted` is answered if the run was broken off: by
-/// a file that could not be read (E18) or written (E19), by want of memory (E20) or by the diagnostics. What comes before that is
-/// whole: the diagnostics said whole lines, and no text was begun before all was said.
+/// For these files, the options and the bytes from the device there is exactly one outcome: the refusal of the tree (E1
+/// to E16), of a line (E17), of warnings (E21) or of a name (E23, E24), or the texts and diagnostics of the tree's one
+/// solution. `Done` and `Refused` are returned only if the run is complete: it reports and does exactly what the
+/// outcome specifies. With `Delivery::Check` a file that does not hold its text is reported (E22), and the status is
+/// `Refused`. `Faulted` is returned if the run stopped early: a file could not be read (E18) or written (E19), there
+/// was not enough memory (E20), or the diagnostics failed. Everything before that is complete: the diagnostics are
+/// whole lines, and no file was created before all diagnostics.
 ///
-/// The files are let go when they are read, unless the texts are made of them too. The tree goes to `kept`, in place of what that held, if it is accepted: to give back its
-/// memory takes a while, and a program that ends anyway may forget it.
+/// The files are freed when they are read, unless the texts use them. An accepted tree is moved to `kept` and replaces
+/// its content. Freeing it takes time. A program that is about to exit can leak it instead.
 pub fn run<D: Device>(
     alloc: Global,
     files: FileMap,

@@ -1,14 +1,14 @@
-//! Why a run was broken off.
+//! Why a run stopped early.
 ghost use Rattle.std.specs.Prelude.{◌≡◌};
 ghost use Rattle.kc_conf.specs.declared.stop.Stop.TheVariants.{OutOfMemory};
 
 use kc_io::Failure;
 use std::alloc::AllocError;
 
-/// Why a run was broken off.
+/// Why a run stopped early.
 #[derive(Clone, Copy, Debug)]
 pub enum Stop<'a> {
-    /// There was no memory.
+    /// There was not enough memory.
     OutOfMemory,
     /// The device failed.
     Failed(Failure<'a>),

@@ -1,4 +1,4 @@
--- Trusted: What one line of a .config says under a prefix, whatever the tree.
+-- Trusted: The meaning of one line of a .config under a prefix, for any tree.
 use Rattle.kc_config_file.specs.declared.line.ConfigFileLine.{ConfigFileLine}
 use Rattle.kc_language.specs.ConfigFile.{LineMeaning, Nothing, Unset, Set, Malformed}
 use Rattle.kc_config_file.specs.declared.line.ConfigFileLine.TheVariants as line

@@ -1,4 +1,4 @@
--- Trusted: What a reader does with the bytes that it is fed, whatever follows them.
+-- Trusted: What a reader does with the bytes that it is fed, for any bytes after them.
 use Rattle.std.specs.Prelude.{◌≡◌, ℕ, ◌+◌, ◌<◌, ◌≤◌, ◌++◌, List, [], ◌∷◌, length, min, count_by, Some, false, if◌then◌else◌, ◌==◌}
 use Rattle.std.specs.List.{after_last}
 use Rattle.kc_text.specs.PartsOfText.{last_count}
@@ -12,16 +12,16 @@ use Rattle.kc_config_file.specs.declared.fault.InputFault.TheVariants.{InputLine
 use Rattle.kc_language.specs.ConfigFile.{Notation, Line, UserInput, lines_from, reading}
 use Rattle.kc_config_file.specs.Reading.{with_warnings}
 
--- where a reader stands in its stream: the number of the line not yet ended, and its bytes so far
+-- the position of a reader in its input file: the number of the unfinished line, and its bytes so far
 pub record StreamPosition : Type 0 where
   pub number : ℕ
   pub pending : List ℕ
 
--- the beginning of a stream
+-- the start of an input file
 abbrev pub stream_start : StreamPosition
 stream_start = record { number = 1; pending = [] }
 
--- the pending bytes are those of one line that is not too long
+-- the pending bytes are part of one line that is not too long
 pub record IsWithinLine (position : StreamPosition) : Type 0 where
   pub numbered : position.number ≤ last_count
   pub within : length position.pending ≤ longest_input_line
@@ -31,54 +31,54 @@ pub record IsWithinLine (position : StreamPosition) : Type 0 where
 abbrev pub number_after : ℕ → List ℕ → ℕ
 number_after n bytes = min (n + count_by is_line_feed bytes) last_count
 
--- where the reader stands after a piece: the bytes after its last LF are pending, or all where it has none
+-- the position after a chunk: the bytes after its last LF are pending, or all bytes if there is no LF
 abbrev pub fed : List ℕ → StreamPosition → StreamPosition
 fed piece position = record { number = number_after position.number piece; pending = after_last is_line_feed (position.pending ++ piece) }
 
--- from wherever a reader came to a position, these bytes bring it on to the next
+-- from every way to reach the old position, these bytes lead on to the new one
 abbrev pub GoesOnBy : List ℕ → StreamPosition → StreamPosition → Type 0
 GoesOnBy bytes old new = (before : List ℕ) (first : StreamPosition) → old ≡ fed before first → new ≡ fed (before ++ bytes) first
 
--- where it stands once the last line is ended
+-- the position after the last line is finished
 abbrev pub ended : StreamPosition → StreamPosition
 ended position = record { number = if length position.pending == 0 then position.number else one_more position.number; pending = [] }
 
--- another byte than an LF comes next
+-- the next byte is not an LF
 abbrev pub GoesOn : List ℕ → Type 0
 GoesOn bytes = (b : ℕ) × (rest : List ℕ) × (bytes ≡ b ∷ rest) × (is_line_feed b ≡ false)
 
--- the lines of a stream that are still to come: those of the pending bytes and the rest, and more of other streams
+-- the remaining lines: those of the pending bytes and of the rest of the input file, then those of other input files
 abbrev pub to_come : List ℕ → StreamPosition → List ℕ → List Line → List Line
 to_come name position rest more = lines_from name position.number (position.pending ++ rest) ++ more
 
--- For a tree, a prefix and the name of the stream.
+-- For a tree, a prefix and the name of the input file.
 module _ (tree : TreeFacts) (prefix : Notation) (name : List ℕ) where
-  -- Whatever follows: reading the piece and it from the old position and input is these warnings, and then reading it
-  -- from the new position and input.
+  -- For any bytes that follow: reading the chunk and these bytes from the old position and input gives these warnings, then what reading these bytes
+  -- from the new position and input gives.
   abbrev pub ReadsPiece : List ℕ → StreamPosition → StreamPosition → UserInput → UserInput → List ℕ → Type 0
   ReadsPiece piece old new before after warned =
       (rest : List ℕ) (more : List Line) →
       reading tree prefix before (to_come name old (piece ++ rest) more) ≡ with_warnings warned (reading tree prefix after (to_come name new rest more))
 
-  -- the piece was read, and its warnings were told
+  -- the chunk was read, and its warnings were added
   abbrev pub Feeds : List ℕ → StreamPosition → StreamPosition → UserInput → UserInput → List ℕ → List ℕ → Type 0
   Feeds piece old new before after told told_after =
       (warned : List ℕ) × (told_after ≡ told ++ warned) × ReadsPiece piece old new before after warned
 
-  -- Whatever follows: the line at this position is too long.
+  -- For any bytes that follow: the line at this position is too long.
   abbrev pub MeetsLongLine : List ℕ → StreamPosition → UserInput → Type 0
   MeetsLongLine left position input =
       (rest : List ℕ) (more : List Line) →
       reading tree prefix input (to_come name position (left ++ rest) more)
       ≡ record { input = input; warned = []; stopped = Some (record { stream = name; number = position.number }) }
 
-  -- Why a reader stops before what is left. Memory it wants only where something is left.
+  -- Why a reader stops before the bytes that are left. It runs out of memory only if bytes are left.
   abbrev pub StopsBecause : InputFault → List ℕ → StreamPosition → UserInput → Type 0
   StopsBecause (InputLineTooLong n) left position input =
       (n ≡ position.number) × (length position.pending ≡ longest_input_line) × GoesOn left × MeetsLongLine left position input
   StopsBecause Memory left position input = 0 < length left
 
-  -- The lines before the refused one are read, and their warnings told, and no more; there the reader stands.
+  -- The reader has read exactly the lines before the one that failed, added their warnings, and stays there.
   pub record Refuses (fault : InputFault) (piece : List ℕ) (old new : StreamPosition) (before after : UserInput) (told told_after : List ℕ) : Type 0 where
     pub done : List ℕ
     pub left : List ℕ
@@ -89,7 +89,7 @@ module _ (tree : TreeFacts) (prefix : Notation) (name : List ℕ) where
     pub tells : told_after ≡ told ++ warned
     pub because : StopsBecause fault left new after
 
-  -- Whatever lines follow: the last line is ended, with its warning.
+  -- For any lines that follow: the last line is finished, and its warning added.
   abbrev pub EndsStream : StreamPosition → UserInput → UserInput → List ℕ → Type 0
   EndsStream old before after warned =
       (more : List Line) →
@@ -99,7 +99,7 @@ module _ (tree : TreeFacts) (prefix : Notation) (name : List ℕ) where
   FinishesStream old before after told told_after =
       (warned : List ℕ) × (told_after ≡ told ++ warned) × EndsStream old before after warned
 
--- The last line could not be ended, and nothing of its warning was told: there was no memory, and bytes are pending.
+-- The last line could not be finished, and no warning was added: there was not enough memory, and bytes are pending.
 abbrev pub FailsToEnd : InputFault → StreamPosition → List ℕ → List ℕ → Type 0
 FailsToEnd (InputLineTooLong n) position told told_after = ⊥
 FailsToEnd Memory position told told_after = (told_after ≡ told) × (0 < length position.pending)

@@ -1,4 +1,4 @@
--- For proofs: What the names of the defined symbols are.
+-- For proofs: The names of the defined symbols.
 use Rattle.std.specs.Prelude.{◌≤◌, length, Contains}
 use Rattle.kc_language.specs.Text.{longest_name}
 use Rattle.kc_language.specs.declared.expressions.SymId.{SymId}
@@ -6,6 +6,6 @@ use Rattle.kc_language.specs.Symbols.{TreeFacts}
 use Rattle.kc_language.specs.Values.{name as name_of}
 use Rattle.kc_config_file.specs.RoundTrip.{IsName}
 
--- the name of a defined symbol has one byte or more, not too many, each of which may stand in a name
+-- the name of a defined symbol has at least one byte, is not too long, and has only bytes allowed in a name
 abbrev pub HasNames : TreeFacts → Type 0
 HasNames tree = (s : SymId) → Contains tree.defined s → IsName (name_of tree s) × (length (name_of tree s) ≤ longest_name)

@@ -1,4 +1,4 @@
--- Trusted: What the fields of a user's input say.
+-- Trusted: The meaning of the fields of a user's input.
 use Rattle.std.specs.Prelude.{List, map, option_map, ℕ}
 use Rattle.kc_language.specs.ConfigFile.{UserInput}
 use Rattle.kc_config_file.specs.ShownView.{location_of}

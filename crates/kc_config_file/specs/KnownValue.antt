@@ -1,4 +1,4 @@
--- For proofs: What is known of a symbol by its value.
+-- For proofs: The known value of a symbol.
 use Rattle.kc_language.specs.Expressions.{SymbolValue}
 use Rattle.kc_language.specs.Expressions as known
 use Rattle.kc_config_file.specs.declared.symbol_line.WrittenValue.{WrittenValue}

@@ -1,15 +1,15 @@
--- For proofs: What the lines and pieces of a stream with a name, a tree and a prefix give.
+-- For proofs: What the lines and chunks of an input file give, for its name, a tree and a prefix.
 use Rattle.std.specs.Prelude.{ℕ, List, [], ◌∷◌, Bool}
 use Rattle.kc_config_file.specs.Feeding.{StreamPosition, Feeds}
 use Rattle.kc_language.specs.ConfigFile.{Line, UserInput, input_after, warning}
 use Rattle.kc_config_file.specs.PartsOfConfigFile.{line}
 use Rattle.kc_config_file.specs.declared.step.NamedStream.{NamedStream}
 
--- the line at a position, with a line feed behind it or at the end of the stream
+-- the line at a position, finished by a line feed or by the end of the input file
 abbrev pub line_at : NamedStream → StreamPosition → Bool → Line
 line_at stream position ended = line stream.name.now position.number position.pending ended
 
--- what the user gave, once this line is read too
+-- the user's input after this line is read as well
 abbrev pub after_line : NamedStream → UserInput → Line → UserInput
 after_line stream before l = input_after stream.tree.now stream.prefix.now before (l ∷ [])
 
@@ -17,7 +17,7 @@ after_line stream before l = input_after stream.tree.now stream.prefix.now befor
 abbrev pub warning_of : NamedStream → UserInput → Line → List ℕ
 warning_of stream before l = warning stream.tree.now stream.prefix.now before l
 
--- the piece was read, and its warnings were told
+-- the chunk was read, and its warnings were added
 abbrev pub TakesPiece : NamedStream → List ℕ → StreamPosition → StreamPosition → UserInput → UserInput → List ℕ → List ℕ → Type 0
 TakesPiece stream piece old new before after told told_after =
     Feeds stream.tree.now stream.prefix.now stream.name.now piece old new before after told told_after

@@ -1,4 +1,4 @@
--- For proofs: That an entry's symbol has a name.
+-- For proofs: The symbol of an entry has a name.
 use Rattle.std.specs.Prelude.{◌<◌, length}
 use Rattle.kc_language.specs.Symbols.{TreeFacts, Shown, SymbolShown, MenuShown, EndShown, CommentShown}
 

@@ -1,4 +1,4 @@
--- Trusted: Parts of the definitions of ConfigFile, by names of their own.
+-- Trusted: Names for parts of the definitions of ConfigFile.
 use Rattle.std.specs.Char.{is_ascii_digit}
 use Rattle.std.specs.List.{after_first, before_first, filter_map, list_any, position_or_len, suffix_len}
 use Rattle.std.specs.Option.{option_and_then, option_map_or}
@@ -16,18 +16,18 @@ use Rattle.kc_language.specs.declared.expressions.SymbolType.{SymbolType}
 use Rattle.kc_language.specs.declared.expressions.Tri.{Tri}
 use Rattle.kc_language.specs.declared.expressions.Tri.TheVariants.{M}
 
--- what is left of a text, if anything, with these bytes put before it
+-- these bytes followed by the rest of the text, if there is a rest
 abbrev pub preceded : List ℕ → Option (List ℕ) → Option (List ℕ)
 preceded bytes = option_map (λ rest. bytes ++ rest)
 
 abbrev pub begins_with_digit : List ℕ → Bool
 begins_with_digit text = is_ascii_digit (slice_index text 0)
 
--- the line without the blanks at its end
+-- the line without its trailing blanks
 abbrev pub trimmed : List ℕ → List ℕ
 trimmed bytes = take (length bytes - suffix_len is_blank bytes) bytes
 
--- one byte or more, and no blank
+-- at least one byte, and no blank
 abbrev pub is_plain : List ℕ → Bool
 is_plain name = nat_lt 0 (length name) && not (list_any is_blank name)
 
@@ -40,13 +40,13 @@ is_equals b = b == byte "="
 abbrev pub is_hash : ℕ → Bool
 is_hash b = b == byte "#"
 
--- the bytes up to the first `=`, of which there is one or more, and those after it
+-- the bytes before the first `=`, at least one, and the bytes after it
 abbrev pub split_at_equals : List ℕ → Option (List ℕ × List ℕ)
 split_at_equals text =
     if nat_lt 0 (position_or_len is_equals text) && nat_lt (position_or_len is_equals text) (length text)
     then Some (before_first is_equals text, after_first is_equals text) else None
 
--- the first byte that is no blank is `#`
+-- the first byte that is not a blank is `#`
 abbrev pub is_comment : List ℕ → Bool
 is_comment text = option_map_or is_hash (find (λ b. not (is_blank b)) text) false
 
@@ -61,23 +61,23 @@ abbrev pub unset_or : Option (List ℕ) → LineMeaning → LineMeaning
 unset_or None other = other
 unset_or (Some name) other = Unset name
 
--- the meaning of a line that ends in no blank
+-- the meaning of a line without trailing blanks
 abbrev pub meaning_of_text : List ℕ → List ℕ → LineMeaning
 meaning_of_text prefix text = if length text == 0 then Nothing else unset_or (unset_name prefix text) (not_unset prefix text)
 
--- the meaning of a line that has these bytes before its line feed: a carriage return directly before that belongs to the end
+-- the meaning of a line with these bytes before its line feed; a carriage return directly before the line feed belongs to the line's end
 abbrev pub ended_meaning : List ℕ → List ℕ → LineMeaning
 ended_meaning prefix bytes = meaning_of prefix (strip_carriage_return bytes)
 
--- y, m and n
+-- `y`, `m` and `n`
 abbrev pub yes_m_or_no : ℕ → Option Tri
 yes_m_or_no b = if b == byte "m" then Some M else yes_or_no b
 
--- what stands between the `"` that the text begins with and the one that closes it
+-- the text between the `"` at the start and the closing `"`
 abbrev pub quoted : List ℕ → Option (List ℕ)
 quoted text = if slice_index text 0 == byte "\"" then until_quote (drop 1 text) else None
 
--- what stands between the first byte and the last, which are a `"` each
+-- the text between the first byte and the last one, each of which is a `"`
 abbrev pub between_ends : List ℕ → Option (List ℕ)
 between_ends text = option_and_then (without_suffix (codes "\"")) (without_prefix (codes "\"") text)
 
@@ -91,7 +91,7 @@ number_value text is_number = if is_number then Some (GivenText text) else None
 abbrev pub line_value : Bool → SymbolType → List ℕ → Option GivenValue
 line_value is_raw symbol_type text = if nat_le (length text) longest_value then value_by is_raw symbol_type text else None
 
--- the type of a symbol; a name that is not defined has none
+-- the type of a symbol; an undefined name has none
 abbrev pub type_of : TreeFacts → SymId → SymbolType
 type_of tree s = type_in (facts tree s)
 
@@ -110,7 +110,7 @@ unset_effect tree name (Some s) = unset_by_type name s (type_of tree s)
 abbrev pub line : List ℕ → ℕ → List ℕ → Bool → Line
 line stream number bytes ended = record { stream = stream; number = number; bytes = bytes; ended = ended }
 
--- a last part without LF is a line where it is not empty
+-- bytes after the last LF are a line, unless there are none
 abbrev pub last_line : List ℕ → ℕ → List ℕ → List Line
 last_line stream n bytes = if length bytes == 0 then [] else line stream n bytes false ∷ []
 
@@ -131,7 +131,7 @@ is_this_choice c (Some d) = d == c
 abbrev pub choice_of : TreeFacts → SymId → Option ℕ
 choice_of tree s = option_and_then (λ f. f.choice) (facts tree s)
 
--- a member of choice c that gets y is chosen in c
+-- a member of choice c that is set to y is chosen in c
 abbrev pub chosen_in : TreeFacts → ℕ → Assignment → Option SymId
 chosen_in tree c a =
     if is_yes a.given && elim (option_and_then (λ f. f.choice) (facts tree a.symbol)) [ None ↦ false | Some d ↦ d == c ]
@@ -150,18 +150,18 @@ abbrev pub change_line : Bool → StreamLocation → List ℕ → SymbolType →
 change_line is_raw at called kind old from given =
     located_warning_line at.stream at.number (Changed called (value_text is_raw kind old) from.stream from.number (value_text is_raw kind given))
 
--- what a line changes, where the lines of the user's values are kept
+-- what a line changes, if the lines of the user values are kept
 abbrev pub effect_change : Bool → TreeFacts → UserInput → StreamLocation → Effect → List ℕ
 effect_change is_raw tree input at Silent = []
 effect_change is_raw tree input at (Warns line_warning) = []
 effect_change is_raw tree input at (Assigns s given) =
     change_text is_raw at (name_of tree s) (type_of tree s) (place_at input.places (SymbolPlace s.0)) (plain_line input input.lines s) given
 
--- what a line of this effect warns of, given the input before it
+-- the warnings of a line of this effect, after the given input
 abbrev pub effect_text : Bool → TreeFacts → UserInput → StreamLocation → Effect → List ℕ
 effect_text is_raw tree input at effect = warning_line_if at.stream at.number (effect_warning input.asks_unset tree input.places effect) ++ effect_change is_raw tree input at effect
 
--- the line that gives symbol i a value
+-- the line that gives a value to symbol i
 abbrev pub line_for : ℕ → StreamLocation → Effect → Option StreamLocation
 line_for i at Silent = None
 line_for i at (Warns line_warning) = None
@@ -172,7 +172,7 @@ abbrev pub refused_for : ℕ → StreamLocation → Option SymId → Option Stre
 refused_for i at None = None
 refused_for i at (Some s) = if s.0 == i then Some at else None
 
--- the lines before the first that is too long count
+-- only the lines before the first line that is too long count
 abbrev pub before_too_long : List Line → List Line
 before_too_long lines = take_while is_within lines
 

@@ -1,4 +1,4 @@
--- For proofs: Parts of the definitions of Texts, by names of their own.
+-- For proofs: Names for parts of the definitions of Texts.
 use Rattle.std.specs.List.{enumerate_from, flat_map}
 use Rattle.std.specs.Prelude.{Bool, List, None, Option, Some, [], codes, false, if◌then◌else◌, take, true, ℕ, ◌++◌, ◌<◌, ◌==◌, ◌||◌, ◌≡◌}
 use Rattle.kc_language.specs.ConfigFile.{Notation, Places, place_at}
@@ -11,7 +11,7 @@ use Rattle.kc_language.specs.Values.{Solves, equations, name as name_of, name_co
 use Rattle.kc_language.specs.declared.expressions.SymId.{SymId}
 use Rattle.kc_language.specs.declared.expressions.SymbolType.TheVariants.{Hex, Int}
 
--- a hex begins with `0x` in a header
+-- a hex starts with `0x` in a header
 abbrev pub hex_text : List ℕ → List ℕ
 hex_text text = if has_hex_prefix text then text else codes "0x" ++ text
 
@@ -35,7 +35,7 @@ abbrev pub end_if : Option (List ℕ) → List ℕ
 end_if None = []
 end_if (Some text) = end_line text
 
--- an empty line stands between an end line and a symbol's line that follows it directly
+-- an empty line separates an end line from a symbol's line directly after it
 abbrev pub gap : Bool → List ℕ
 gap after_end = if after_end then codes "\n" else []
 
@@ -49,7 +49,7 @@ module _ (tree : TreeFacts) (prefix : Notation) (solution : SolutionView) where
   abbrev pub symbol_header : SymId → List ℕ
   symbol_header s = header_line prefix.is_raw (prefix.prefix ++ name_of tree s) (solution.value s)
 
-  -- what all give, in order: each after the entries before it
+  -- the text of all entries, in order: each one depends on the entries before it
   abbrev pub entries_text : List Shown → List ℕ
   entries_text entries = flat_map (λ (i, entry). entry_text tree prefix solution (end_is_last tree solution (take i entries)) entry) (enumerate_from 0 entries)
 
@@ -73,7 +73,7 @@ IsPlainNumber v = elim v [ TextValue Int text ↦ EndsPlainly text | TextValue H
 abbrev pub IsOneLine : List ℕ → Type 0
 IsOneLine text = (body : List ℕ) × (text ≡ body ++ codes "\n") × HoldsNoLineFeed body
 
--- no solution for these user values is V
+-- V is not a solution for these user values
 abbrev pub HasOtherSolution : TreeFacts → Places → (ℕ → SymbolValue) → Type 0
 HasOtherSolution tree places V =
     (W : ℕ → SymbolValue) → Solves (name_count tree) (equations tree (place_at places)) W → ((i : ℕ) → i < name_count tree → W i ≡ V i) → ⊥
@@ -82,6 +82,6 @@ HasOtherSolution tree places V =
 abbrev pub title_line : List ℕ → List ℕ
 title_line text = codes "# " ++ text
 
--- the minimal file's lines of the symbols that pass the test
+-- the lines of the minimal file for the symbols that pass the test
 abbrev pub kept_lines : TreeFacts → Notation → SolutionView → (SymId → Bool) → List ℕ
 kept_lines tree prefix solution keep = flat_map (λ s. if keep s then minimal_if tree prefix solution s else []) tree.defined

@@ -1,4 +1,4 @@
--- Trusted: What one call of a reader leaves, whatever its answer.
+-- Trusted: What one call of a reader leaves, for any result.
 use Rattle.std.specs.Prelude.{◌≡◌, ℕ, List, Some, None, Result, Err, OnOk, IfErr}
 use Rattle.kc_language.specs.ConfigFile.{ArePlacesOf, UserInput}
 use Rattle.kc_config_file.specs.declared.fault.InputFault.{InputFault}
@@ -6,12 +6,12 @@ use Rattle.kc_config_file.specs.Feeding.{Feeds, Refuses, FinishesStream, FailsTo
 use Rattle.kc_config_file.specs.ReaderState.{ReaderState}
 use Rattle.kc_config_file.specs.WholeLines.{AddsWholeLines}
 
--- A reader that keeps a refusal answers it again, and changes nothing.
+-- A reader that stores a fault returns it again and changes nothing.
 abbrev pub RefusesAgain : Result (Unit {0}) InputFault → ReaderState → ReaderState → UserInput → UserInput → List ℕ → List ℕ → Type 0
 RefusesAgain result old new before after told told_after =
     (fault : InputFault) → old.refusal ≡ Some fault → (result ≡ Err fault) × (new ≡ old) × (after ≡ before) × (told_after ≡ told)
 
--- What feeding a piece leaves. It was taken, and its warnings were told; or it was refused, and so is all from then on.
+-- The result of feeding a chunk: it was read and its warnings were added, or the call failed, and so does every later call.
 pub record AnswersFeed (piece : List ℕ) (result : Result (Unit {0}) InputFault) (old new : ReaderState) (before after : UserInput) (told told_after : List ℕ) : Type 0 where
   pub ok : OnOk result (Feeds old.tree old.prefix old.name piece old.position new.position before after told told_after)
   pub stands : OnOk result ((old.refusal ≡ None) × (new ≡ record old { position = fed piece old.position }))
@@ -21,8 +21,8 @@ pub record AnswersFeed (piece : List ℕ) (result : Result (Unit {0}) InputFault
   pub lines : AddsWholeLines told told_after
   pub user : ArePlacesOf new.tree after.places
 
--- What ending a stream leaves. Its last line was ended, with its warning told, and the reader is the next one; or that failed, and
--- so does all from then on.
+-- The result of finishing an input file: the last line was finished and its warning added, and the reader is in the next state; or the call failed,
+-- and so does every later call.
 pub record AnswersEnd (next : ReaderState) (result : Result (Unit {0}) InputFault) (old new : ReaderState) (before after : UserInput) (told told_after : List ℕ) : Type 0 where
   pub ok : OnOk result (FinishesStream old.tree old.prefix old.name old.position before after told told_after)
   pub stands : OnOk result ((old.refusal ≡ None) × (new ≡ next))

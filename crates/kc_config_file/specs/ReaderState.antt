@@ -1,4 +1,4 @@
--- Trusted: What a reader of .config text stands for.
+-- Trusted: The state of a reader of .config text.
 use Rattle.std.specs.Prelude.{Bool, ℕ, List, Option, refl}
 use Rattle.std.specs.Coded.{Coded, code_by, coded×, coded_bool, coded_ℕ, coded_option}
 use Rattle.kc_expr.specs.FormCode.{bytes_code}
@@ -9,7 +9,7 @@ use Rattle.kc_config_file.specs.declared.fault.InputFault.{InputFault}
 use Rattle.kc_config_file.specs.contracts.fault.InputFault as input_fault
 use Rattle.kc_config_file.specs.Feeding.{StreamPosition}
 
--- the tree and prefix that it reads for, its stream's name, where it stands in it, and the refusal that it keeps
+-- the tree and prefix that it reads for, the name of its input file, its position, and the stored fault
 pub record ReaderState : Type 0 where
   pub tree : TreeFacts
   pub prefix : Notation

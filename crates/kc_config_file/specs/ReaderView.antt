@@ -1,4 +1,4 @@
--- Trusted: What the fields of a reader say.
+-- Trusted: The meaning of the fields of a reader.
 use Rattle.kc_config_file.specs.Feeding.{StreamPosition}
 use Rattle.kc_config_file.specs.declared.line_buffer.LineBuffer.{LineBuffer}
 

@@ -1,4 +1,4 @@
--- Trusted: What reading named streams of .config text gives: the user's values, the lines that gave them and the warnings.
+-- Trusted: What reading named input files of .config text gives: the user values, the lines that gave them and the warnings.
 use Rattle.std.specs.Prelude.{ℕ, ◌++◌, List}
 use Rattle.kc_language.specs.ConfigFile.{ReadResult}
 

@@ -1,4 +1,4 @@
--- Trusted: What holds of reading lines, for every tree, every prefix and every input before them.
+-- Trusted: Laws of reading lines, for every tree, every prefix and every earlier input.
 use Rattle.std.specs.Prelude.{◌≡◌, ℕ, ◌++◌, Bool, List, [], ◌∷◌, if◌then◌else◌, length, true, false, Some, None, slice_set}
 use Rattle.std.specs.List.{after_last}
 use Rattle.kc_language.specs.declared.expressions.SymId.{SymId}
@@ -11,8 +11,8 @@ use Rattle.kc_language.specs.{ConfigFile.{ArePlacesOf, Assigns, Line, Notation, 
 use Rattle.kc_config_file.specs.PartsOfConfigFile.{last_line, line}
 use Rattle.kc_config_file.specs.Reading.{with_warnings}
 
--- The lines of a stream's bytes: a line feed ends a line, and the next line follows; bytes without one are the last line,
--- where there are any; and behind the last line feed none is left.
+-- The lines of a file's bytes: a line feed ends a line, and the next line follows. Bytes without a line feed are the last line, if there are any.
+-- Nothing follows the last line feed.
 pub record LinesAreCut : Type 0 where
   pub ended :
       (stream : List ℕ) (n : ℕ) (bytes rest : List ℕ) (b : ℕ) → HoldsNoLineFeed bytes → is_line_feed b ≡ true →
@@ -22,8 +22,8 @@ pub record LinesAreCut : Type 0 where
 
 -- For a tree and a prefix.
 module _ (tree : TreeFacts) (prefix : Notation) where
-  -- Reading goes line by line: a line that is not too long is read, and then the others from the input that it leaves; one
-  -- that is too long stops it, with nothing read of it.
+  -- Reading works line by line: a line that is not too long is read, then the other lines from the input after it. A line that is too long stops the
+  -- reading, and nothing of it is read.
   pub record GoesLineByLine : Type 0 where
     pub nothing : (input : UserInput) → reading tree prefix input [] ≡ record { input = input; warned = []; stopped = None }
     pub short :
@@ -33,8 +33,8 @@ module _ (tree : TreeFacts) (prefix : Notation) where
         (input : UserInput) (l : Line) (lines : List Line) → is_within l ≡ false →
         reading tree prefix input (l ∷ lines) ≡ record { input = input; warned = []; stopped = Some (stream_location l) }
 
-  -- Lines add up: what some lines leave, warn of and do not take as written is that of the first of them, and then that of
-  -- the others from the input that the first leave.
+  -- Lines add up: the input, the warnings and the lines not taken as written are those of the first lines, followed by those of the other lines from
+  -- the input that the first leave.
   pub record LinesAddUp : Type 0 where
     pub none_leave : (input : UserInput) → input_after tree prefix input [] ≡ input
     pub leave : (input : UserInput) (a b : List Line) → input_after tree prefix input (a ++ b) ≡ input_after tree prefix (input_after tree prefix input a) b
@@ -47,9 +47,8 @@ module _ (tree : TreeFacts) (prefix : Notation) where
         (asked : Bool) (places : Places) (a b : List Line) →
         untaken tree prefix asked places (a ++ b) ≡ untaken tree prefix asked places a ++ untaken tree prefix asked (places_after tree prefix places a) b
 
-  -- A line does what it says: one that is silent or has a warning gives no symbol a value; one that gives a symbol a value
-  -- puts it in the symbol's place, and itself as the line that gave it; and one whose value for a symbol is not allowed puts
-  -- itself as the line of that.
+  -- A silent line, or one with a warning, gives no value to a symbol. A line that gives a value to a symbol is stored in the symbol's place, with its
+  -- value. A line whose value for a symbol is not allowed is stored as that.
   pub record LinesDoWhatTheySay : Type 0 where
     pub silent : (input : UserInput) (l : Line) → effect tree prefix l ≡ Silent → input_after tree prefix input (l ∷ []) ≡ input
     pub warned :
@@ -69,7 +68,7 @@ module _ (tree : TreeFacts) (prefix : Notation) where
         (input : UserInput) (l : Line) (s : SymId) → not_allowed tree (effect tree prefix l) ≡ Some s →
         (input_after tree prefix input (l ∷ [])).refused ≡ slice_set input.refused s.0 (Some (stream_location l))
 
-  -- Lines make no place, and take none away.
+  -- Lines do not change the number of places.
   pub record LinesKeepCounts : Type 0 where
     pub places : (input : UserInput) (lines : List Line) → ArePlacesOf tree input.places → ArePlacesOf tree (input_after tree prefix input lines).places
     pub lines : (input : UserInput) (lines : List Line) → length (input_after tree prefix input lines).lines ≡ length input.lines
@@ -78,7 +77,7 @@ module _ (tree : TreeFacts) (prefix : Notation) where
 abbrev pub ReadingGoesLineByLine : Type 0
 ReadingGoesLineByLine = (tree : TreeFacts) (prefix : Notation) → GoesLineByLine tree prefix
 
--- What lines give, one after another.
+-- What lines give, in turn.
 pub record LinesInTurn (tree : TreeFacts) (prefix : Notation) : Type 0 where
   pub add_up : LinesAddUp tree prefix
   pub says : LinesDoWhatTheySay tree prefix

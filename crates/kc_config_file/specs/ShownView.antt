@@ -1,4 +1,4 @@
--- Trusted: A value that is shown, as what was given, and a line of an input file.
+-- Trusted: A printed value as a user value, and a line of an input file.
 use Rattle.kc_language.specs.Values.{GivenValue, GivenTruth, GivenText}
 use Rattle.kc_language.specs.ConfigFile.{StreamLocation}
 use Rattle.kc_config_file.specs.declared.shown.InputLine.{InputLine}

@@ -1,4 +1,4 @@
--- Trusted: Streams that are handed to a reader in pieces of any size.
+-- Trusted: Input files that a reader gets in chunks of any size.
 use Rattle.std.specs.Prelude.{◌≡◌, ℕ, List, [], ◌∷◌, ◌++◌, map, Bool, None, Option}
 use Rattle.std.specs.List.{concat}
 use Rattle.kc_user.specs.Places.{ArePlaces}
@@ -10,7 +10,7 @@ use Rattle.kc_config_file.specs.Feeding.{StreamPosition, Refuses, stream_start}
 use Rattle.kc_config_file.specs.ReaderState.{ReaderState}
 use Rattle.kc_language.specs.ConfigFile.{Notation, Stream, UserInput, no_input, reading_of}
 
--- a stream's name, and its bytes as they are handed in
+-- the name of an input file, and its bytes in chunks
 pub record Pieces : Type 0 where
   pub name : List ℕ
   pub pieces : List (List ℕ)
@@ -21,11 +21,11 @@ stream_of s = record { name = s.name; bytes = concat s.pieces }
 abbrev pub feeds : List (List ℕ) → List Call
 feeds pieces = map Feed pieces
 
--- a new reader of a stream
+-- a new reader of an input file
 abbrev pub reader_of : TreeFacts → Notation → List ℕ → ReaderState
 reader_of tree prefix name = record { tree = tree; prefix = prefix; name = name; position = stream_start; refusal = None }
 
--- Streams, one after another: a new reader of each was handed its pieces, and then ended its last line.
+-- Input files, one after another: a new reader got the chunks of each, and then finished its last line.
 abbrev pub AreHandedIn : TreeFacts → Notation → List Pieces → UserInput → UserInput → List ℕ → Type 0
 AreHandedIn tree prefix [] before after warned = (after ≡ before) × (warned ≡ [])
 AreHandedIn tree prefix (s ∷ streams) before after warned =
@@ -33,26 +33,26 @@ AreHandedIn tree prefix (s ∷ streams) before after warned =
     × AllAnswered (feeds s.pieces ++ Finish ∷ []) (reader_of tree prefix s.name) end before middle first
     × AreHandedIn tree prefix streams middle after later × (warned ≡ first ++ later)
 
--- Streams that are handed in so give what reading them at once gives.
+-- Reading input files in chunks gives the same as reading them at once.
 abbrev pub StreamsAreRead : Type 0
 StreamsAreRead =
     (tree : TreeFacts) (prefix : Notation) (streams : List Pieces) (before after : UserInput) (warned : List ℕ) →
     AreHandedIn tree prefix streams before after warned →
     reading_of tree prefix before (map stream_of streams) ≡ record { input = after; warned = warned; stopped = None }
 
--- Places that hold what is allowed still do after any calls.
+-- Allowed user values stay allowed after any calls.
 abbrev pub ReadingKeepsPlaces : Type 0
 ReadingKeepsPlaces =
     (calls : List Call) (old new : ReaderState) (before after : UserInput) (warned : List ℕ) → IsWellFormed old.tree →
     AllAnswered calls old new before after warned → ArePlaces old.tree before.places → ArePlaces old.tree after.places
 
--- What reading any streams leaves, from empty places, holds what is allowed.
+-- Reading any input files from no user values leaves allowed user values.
 abbrev pub StreamsLeavePlaces : Type 0
 StreamsLeavePlaces =
     (tree : TreeFacts) (prefix : Notation) (keeps_lines : Bool) (gone : Option (List ℕ × List ℕ)) (asks_unset : Bool) (lead : List ℕ) (streams : List Stream) → IsWellFormed tree →
     ArePlaces tree (reading_of tree prefix (record (no_input keeps_lines tree) { gone = gone; asks_unset = asks_unset; lead = lead }) streams).input.places
 
--- Places that hold what is allowed still do after a call that was refused.
+-- Allowed user values stay allowed after a call that failed.
 abbrev pub RefusalsKeepPlaces : Type 0
 RefusalsKeepPlaces =
     (tree : TreeFacts) (prefix : Notation) (name : List ℕ) (fault : InputFault) (piece : List ℕ) (old new : StreamPosition) (before after : UserInput) (told told_after : List ℕ) →

@@ -1,4 +1,4 @@
--- Trusted: What holds of reading, and of the texts that are written, for every tree, every prefix and every solution.
+-- Trusted: Laws of reading, and of the written texts, for every tree, every prefix and every solution.
 use Rattle.std.specs.Prelude.{◌≡◌, ℕ, List, Option, true}
 use Rattle.kc_text.specs.PartsOfLines.{HoldsNoLineFeed}
 use Rattle.kc_language.specs.declared.expressions.SymId.{SymId}
@@ -11,26 +11,26 @@ use Rattle.kc_language.specs.{ConfigFile.{Assigns, Line, Notation, Places, UserI
 use Rattle.kc_language.specs.Needs.{IsAccepted}
 use Rattle.kc_language.specs.Texts.{ConfigGivesBack, HasShortLines, MinimalGivesBack, MinimalNeedsEach, NewGivesBack, valuation_view, config_text, minimal_text}
 
--- What a line assigns to a symbol is allowed for it.
+-- A value that a line assigns to a symbol is allowed for it.
 abbrev pub AssignedAreAllowed : Type 0
 AssignedAreAllowed =
     (tree : TreeFacts) (prefix : Notation) (bytes : List ℕ) (s : SymId) (given : GivenValue) → HoldsNoLineFeed bytes →
     effect_of prefix.is_raw tree (meaning_of prefix.prefix bytes) ≡ Assigns s given → allowed tree s given ≡ true
 
--- Every value that is allowed for a symbol is assigned by some line, which is not too long.
+-- Every allowed value of a symbol is assigned by some line that is not too long.
 abbrev pub AllowedAreAssigned : Type 0
 AllowedAreAssigned =
     (tree : TreeFacts) (prefix : Notation) (s : SymId) (given : GivenValue) → IsWellFormed tree → is_prefix prefix.prefix ≡ true → allowed tree s given ≡ true →
     (l : Line) × (l.ended ≡ true) × HoldsNoLineFeed l.bytes × (is_within l ≡ true) × (effect tree prefix l ≡ Assigns s given)
 
--- the values of an accepted tree solve its equations under places that hold what is allowed
+-- the values of an accepted tree solve its equations for allowed user values
 pub record IsSolutionOf (tree : TreeFacts) (places : Places) (V : ℕ → SymbolValue) : Type 0 where
   pub formed : IsWellFormed tree
   pub accepted : IsAccepted tree
   pub held : ArePlaces tree places
   pub solves : Solves (name_count tree) (equations tree (place_at places)) V
 
--- No line of the .config or of the minimal file is too long to be read again, whatever the numbers and titles.
+-- No line of the .config or of the minimal file is too long to be read again, for any numbers and titles.
 abbrev pub WrittenTextsAreShort : Type 0
 WrittenTextsAreShort =
     (tree : TreeFacts) (prefix : Notation) (places : Places) (V : ℕ → SymbolValue) → is_prefix prefix.prefix ≡ true → IsSolutionOf tree places V →
@@ -51,13 +51,13 @@ ConfigIsIdempotent =
     (tree : TreeFacts) (prefix : Notation) (places : Places) (V : ℕ → SymbolValue) → is_prefix prefix.prefix ≡ true →
     IsSolutionOf tree places V → ConfigGivesBack tree prefix places V
 
--- Reading the list of new symbols after the input files gives the values back.
+-- Reading the list of new symbols after the input files restores the values.
 abbrev pub NewListGivesBack : Type 0
 NewListGivesBack =
     (tree : TreeFacts) (prefix : Notation) (input : UserInput) (V : ℕ → SymbolValue) → is_prefix prefix.prefix ≡ true →
     IsSolutionOf tree input.places V → NewGivesBack tree prefix input V
 
--- The .config is that of the values alone: under any other places, the same values have the same text.
+-- The .config depends only on the values: with any other user values, the same values have the same text.
 abbrev pub ConfigIsOfValues : Type 0
 ConfigIsOfValues =
     (tree : TreeFacts) (prefix : Notation) (user other : UserPlace → Option GivenValue) (V : ℕ → SymbolValue) →

@@ -27,7 +27,7 @@ fn is_shown(tri: Tri) -> bool
     }
 }
 
-// Adds an empty line, the title and the lines around it, where it is shown.
+// Adds an empty line, the title and the `#` lines around it, if it is shown.
 fn add_title_if(shown: bool, text: &[u8], file: &mut Vec<u8>) -> Result<(), AllocError>
     ensures { OnOk result (file.new.items ≡ file.old.items ++ title_if shown text.now) }
 {
@@ -37,7 +37,7 @@ fn add_title_if(shown: bool, text: &[u8], file: &mut Vec<u8>) -> Result<(), Allo
     add_parts(&[b"\n#\n# ", text, b"\n#\n"], file)
 }
 
-// Adds the end line of a menu, where its title is shown.
+// Adds the end line of a menu, if its title is shown.
 fn add_end_if(title: Option<&[u8]>, file: &mut Vec<u8>) -> Result<(), AllocError>
     ensures { OnOk result (file.new.items ≡ file.old.items ++ end_if (option_copied title.entry)) }
 {
@@ -67,7 +67,7 @@ fn text_of(layout: &Layout, title: TitleId) -> &[u8]
     }
 }
 
-// The title of the menu of this number among the entries, where it is shown.
+// The title of the menu of this entry number, if it is shown.
 fn shown_title<'a>(solved: &Solved<'a>, menu: usize) -> Option<&'a [u8]>
     ensures { option_copied result ≡ shown_title (solution_view solved.now) (slice_get solved.now.tree.entries menu) }
 {
@@ -84,8 +84,8 @@ fn shown_title<'a>(solved: &Solved<'a>, menu: usize) -> Option<&'a [u8]>
     }
 }
 
-// Adds the symbol's line where it is written, after an empty line where an end line stands before it. Answers whether
-// the last line is an end line now.
+// Adds the symbol's line if it is written, with an empty line before it if the last line is an end line. Returns
+// whether the last line is an end line now.
 fn add_symbol_if(
     solved: &Solved<'_>,
     prefix: &Prefix,
@@ -110,7 +110,7 @@ fn add_symbol_if(
     Ok(false)
 }
 
-// Adds the title where it is shown. Answers whether the last line is an end line now.
+// Adds the title if it is shown. Returns whether the last line is an end line now.
 fn add_title(
     shown: bool,
     text: &[u8],
@@ -124,7 +124,7 @@ fn add_title(
     Ok(!shown && after_end)
 }
 
-// Adds the end line where there is a title. Answers whether the last line is an end line now.
+// Adds the end line if there is a title. Returns whether the last line is an end line now.
 fn add_end(title: Option<&[u8]>, after_end: bool, file: &mut Vec<u8>) -> Result<bool, AllocError>
     ensures text { OnOk result (file.new.items ≡ file.old.items ++ end_if (option_copied title.entry)) }
     ensures next { IfOk result (λ next. next ≡ (if is_some (option_copied title.entry) then true else after_end)) }
@@ -133,7 +133,7 @@ fn add_end(title: Option<&[u8]>, after_end: bool, file: &mut Vec<u8>) -> Result<
     Ok(title.is_some() || after_end)
 }
 
-// Adds what an entry gives. Answers whether the last line is an end line now.
+// Adds the text of an entry. Returns whether the last line is an end line now.
 fn add_entry(
     layout: &Layout,
     solved: &Solved<'_>,
@@ -158,11 +158,11 @@ fn add_entry(
     }
 }
 
-// Adds what the entries give.
+// Adds the text of the entries.
 fn add_entries(solved: &Solved<'_>, prefix: &Prefix, file: &mut Vec<u8>) -> Result<(), AllocError>
     ensures { OnOk result (file.new.items ≡ file.old.items ++ entries_text solved.now.tree prefix.now (solution_view solved.now) solved.now.tree.entries) }
 {
-    // The entries name symbols of the tree alone: `symbol_count` says so.
+    // The entries name only symbols of the tree: this follows from `symbol_count`.
     let tree = solved.tree();
     let _ = tree.symbol_count();
     let layout = tree.layout();
@@ -188,12 +188,12 @@ fn add_heading(title: &[u8], file: &mut Vec<u8>) -> Result<(), AllocError>
     )
 }
 
-/// The full `.config`: the heading, then in the order of the entries the line of each written symbol at its first
-/// definition, the titles of the menus and comments that are shown, and `# end of` lines of these menus; an empty line
-/// stands where a symbol's line directly follows such an end line. (Our own layout, in the manner of the kernel's conf
-/// and of kconfiglib.)
+/// Returns the text of the full `.config`. It has the heading; then, in the order of the entries, the line of each
+/// written symbol at its first definition, the titles of the menus and comments that are shown, and the `# end of`
+/// lines of these menus. An empty line separates such an end line from a symbol's line directly after it. (Our own
+/// layout, similar to that of the kernel's conf and of kconfiglib.)
 ///
-/// The only error is to be out of memory.
+/// Fails only if there is not enough memory.
 pub fn config_text(
     alloc: Global,
     solved: &Solved<'_>,

@@ -22,8 +22,8 @@ pub enum Effect<'a> {
     Assigns(SymId, UserValue),
 }
 
-/// What the line does: an unset line gives n to a bool or tristate and has no effect on another symbol (K16), a set line
-/// gives the value that its text spells, where it is allowed. Its only error is to be out of memory.
+/// Returns the effect of the line. An unset line gives n to a bool or tristate, and has no effect on another symbol
+/// (K16). A set line gives the value in its text, if it is allowed. Fails only if there is not enough memory.
 pub fn line_effect<'a>(
     alloc: Global,
     tree: &Tree,
@@ -41,7 +41,7 @@ pub fn line_effect<'a>(
     }
 }
 
-// The type of a symbol; a name that is not defined has none.
+// The type of a symbol; an undefined name has none.
 pub(crate) fn type_of(tree: &Tree, id: SymId) -> SymbolType
     ensures { result ≡ spec_parts.type_of tree.now id }
 {
@@ -100,8 +100,8 @@ fn set_by_type<'a>(
     }
 }
 
-/// Adds the warning's whole line: the stream's name, the number of the line, the code and the text. Its only error is to be
-/// out of memory, and then nothing was added.
+/// Adds the warning as a whole line: the name of the input file, the line number, the code and the text. Fails only if
+/// there is not enough memory; then it adds nothing.
 pub fn warn(
     stream: &[u8],
     number: u64,

@@ -4,12 +4,12 @@ ghost use Rattle.kc_config_file.specs.declared.fault.InputFault.TheVariants.{Mem
 
 use std::alloc::{AllocError, AllocFailed};
 
-/// Why a `.config` could not be read on.
+/// Why reading a `.config` stopped.
 #[derive(Clone, Copy, Debug, PartialEq, Eq)]
 pub enum InputFault {
     /// The line of this number has more than 65,535 bytes (E17).
     InputLineTooLong(u64),
-    /// No memory was to be had (E20).
+    /// There was not enough memory (E20).
     Memory,
 }
 

@@ -1,4 +1,4 @@
-//! The lines of input files that named no symbol of the tree.
+//! The lines of input files that name no symbol of the tree.
 ghost use Rattle.std.specs.Prelude.{◌≡◌, ◌++◌, OnOk, OnErr, IfOk, option_map};
 ghost use Rattle.kc_language.specs.ConfigFile.{is_on, said_line};
 ghost use Rattle.kc_config_file.specs.ConfigFileLine.{meaning_view};
@@ -10,14 +10,14 @@ use crate::prefix::Prefix;
 use crate::text::add_parts;
 use std::alloc::{AllocError, Global};
 
-/// The texts of these lines, as they were read: of those that are on, and of the others.
+/// The texts of these lines, as they were read: those that are on, and the others.
 #[derive(Drop)]
 pub(crate) struct GoneLines {
     pub on: Vec<u8>,
     pub off: Vec<u8>,
 }
 
-// Whether the line gives a value, and another than n.
+// Whether the line gives a value other than n.
 fn is_on(line: ConfigFileLine<'_>) -> bool
     ensures { result ≡ is_on (meaning_view line.entry) }
 {
@@ -43,7 +43,7 @@ fn add_said_line(
     }
 }
 
-// Adds the line to those of its kind.
+// Adds the line to the lines of its kind.
 fn add_line(
     alloc: Global,
     prefix: &Prefix,
@@ -62,8 +62,8 @@ fn add_line(
     }
 }
 
-/// Adds the line to those of its kind, where such lines are kept. Its only error is to be out of memory, and then nothing was
-/// added.
+/// Adds the line to the lines of its kind, if such lines are kept. Fails only if there is not enough memory; then it
+/// adds nothing.
 pub(crate) fn keep_line(
     alloc: Global,
     prefix: &Prefix,
@@ -79,7 +79,7 @@ pub(crate) fn keep_line(
     }
 }
 
-/// The texts, one after the other. Its only error is to be out of memory.
+/// Returns both texts, joined. Fails only if there is not enough memory.
 pub(crate) fn joined(alloc: Global, gone: &GoneLines) -> Result<Vec<u8>, AllocError>
     ensures { IfOk result (λ text. text.items ≡ gone.now.on.items ++ gone.now.off.items) }
 {

@@ -11,7 +11,7 @@ use kc_expr::expression::SymId;
 use kc_solve::solved::Solved;
 use std::alloc::{AllocError, Global};
 
-// Adds the symbol's header line where it is written.
+// Adds the symbol's header line if it is written.
 fn add_header_if(
     solved: &Solved<'_>,
     prefix: &Prefix,
@@ -32,7 +32,7 @@ fn add_header_if(
     )
 }
 
-// Adds the symbol's line where it differs.
+// Adds the symbol's line if it differs.
 fn add_minimal_if(
     solved: &Solved<'_>,
     prefix: &Prefix,
@@ -55,7 +55,7 @@ fn add_minimal_if(
     )
 }
 
-/// Adds the symbol's line of the list of new symbols. Its only error is to be out of memory.
+/// Adds the symbol's line of the list of new symbols. Fails only if there is not enough memory.
 pub fn add_new_line(
     solved: &Solved<'_>,
     prefix: &Prefix,
@@ -73,7 +73,7 @@ pub fn add_new_line(
     )
 }
 
-// Adds the symbol's line where it is new.
+// Adds the symbol's line if it is new.
 fn add_new_if(
     solved: &Solved<'_>,
     prefix: &Prefix,
@@ -119,10 +119,10 @@ fn add_heading(title: &[u8], file: &mut Vec<u8>) -> Result<(), AllocError>
     )
 }
 
-/// The header: the heading, and a `#define` line for each written symbol, in the order of their first definition. (The
-/// kernel's conf writes such lines; the heading is our own.)
+/// Returns the text of the header: the heading, and a `#define` line for each written symbol, in the order of first
+/// definitions. (The kernel's conf writes such lines; the heading is our own.)
 ///
-/// The only error is to be out of memory.
+/// Fails only if there is not enough memory.
 pub fn header_text(
     alloc: Global,
     solved: &Solved<'_>,
@@ -136,10 +136,10 @@ pub fn header_text(
     Ok(file)
 }
 
-/// The minimal file: the lines of the symbols that differ, in the order of their first definition. (Our own form.)
+/// Returns the text of the minimal file: the lines of the symbols that differ, in the order of first definitions. (Our
+/// own form.)
 ///
-/// The only error is to be out of memory, for a file with a line: one without
-/// takes no memory.
+/// Fails only if there is not enough memory, and never if the file has no line.
 pub fn minimal_text(
     alloc: Global,
     solved: &Solved<'_>,
@@ -156,10 +156,10 @@ pub fn minimal_text(
     Ok(file)
 }
 
-/// The list of new symbols: their `.config` lines, in the order of their first definition. An int or hex whose value is no
-/// number has a comment. (Our own form.)
+/// Returns the list of new symbols: their `.config` lines, in the order of first definitions. An int or hex whose value
+/// is not a number has a comment. (Our own form.)
 ///
-/// The only error is to be out of memory.
+/// Fails only if there is not enough memory.
 pub fn list_of_new(
     alloc: Global,
     solved: &Solved<'_>,

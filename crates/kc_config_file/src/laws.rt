@@ -1,4 +1,4 @@
-//! What holds of reading, stated as the contracts of functions that do nothing.
+//! Laws of reading, stated as the contracts of functions that do nothing.
 ghost use Rattle.kc_config_file.specs.Calls.{CallsJoin};
 ghost use Rattle.kc_config_file.specs.ReadingLaws.{LinesAreCut, LinesGiveInTurn, ReadingGoesLineByLine};
 ghost use Rattle.kc_config_file.specs.WrittenLaws.{AllowedAreAssigned, AssignedAreAllowed, ConfigIsIdempotent, ConfigIsOfValues, MinimalHasNothingToSpare, MinimalRestores, NewListGivesBack, WrittenTextsAreShort};
@@ -11,47 +11,47 @@ use kc_values::laws::{
     minimal_restores, needs_are_symbols, new_lines_keep,
 };
 
-/// The bytes of a stream are cut into lines at each line feed, and what is left behind the last one is the last line, where
-/// it is not empty. (Our own.)
+/// A file's bytes are cut into lines at each line feed. The bytes after the last line feed are the last line, if there
+/// are any. (Our own.)
 pub fn lines_are_cut()
     ensures { LinesAreCut }
 {}
 
-/// Reading goes line by line, each from the input that those before it leave, and stops at the first that is too long. (Our
-/// own.)
+/// Reading works line by line, each from the input after the earlier lines, and stops at the first line that is too
+/// long. (Our own.)
 pub fn reading_goes_line_by_line()
     ensures { ReadingGoesLineByLine }
 {}
 
-/// What lines give, in turn: what some leave, warn of and do not take as written adds up with what the others do from there
-/// on; each line does what it says, and no more; and there stay as many places as there were. (Our own.)
+/// Lines add up: the input, the warnings and the lines not taken as written are those of the first lines, followed by
+/// those of the others. Each line has exactly its effect. The number of places stays the same. (Our own.)
 pub fn lines_give_in_turn()
     ensures { LinesGiveInTurn }
 {}
 
-/// Any list of calls of a reader, each answered Ok, is one reading: of the lines of all bytes that were fed, each
-/// stretch between two calls of `finish` cut into lines by itself, the warnings are those that the calls handed out,
-/// one after another, and the places those that they left.
+/// Any list of calls of a reader that all return Ok equals one reading of the lines of all fed bytes, where the bytes
+/// between two `finish` calls are cut into lines on their own. The warnings are those that the calls added, in order.
+/// The user values are those that the calls left.
 pub fn calls_join()
     ensures { CallsJoin }
 {}
 
-/// Streams that are handed in pieces of any size, one after another, each to a new reader that then ends its last line, are
-/// read as they are at once.
+/// Reading input files in chunks of any size gives the same as reading them at once. The files are read one after
+/// another, each by a new reader that then finishes its last line.
 pub fn streams_are_read()
     ensures { StreamsAreRead }
 {}
 
-/// Places that hold only what is allowed, and members of their choices, hold only such after any list of calls of a
-/// reader, each answered Ok.
+/// User values that are allowed, and are members of their choices, stay so after any list of calls of a reader that all
+/// return Ok.
 pub fn reading_keeps_places()
     ensures { ReadingKeepsPlaces }
 {
     places_hold_what_is_allowed();
 }
 
-/// What reading any streams leaves, from the empty places of a well-formed tree, holds what is allowed: also where a line is
-/// too long. So does what a refused `feed` leaves of places that did. It does nothing. (Our own.)
+/// Reading any input files, from no user values of a well-formed tree, leaves allowed user values, even if a line is
+/// too long. A failed `feed` keeps allowed user values allowed. (Our own.)
 pub fn reading_leaves_allowed_places()
     ensures streams { StreamsLeavePlaces }
     ensures refusals { RefusalsKeepPlaces }
@@ -59,41 +59,41 @@ pub fn reading_leaves_allowed_places()
     places_hold_what_is_allowed();
 }
 
-/// An unset line that is written is read again as that.
+/// A written unset line is read as an unset line.
 pub fn unset_line_read_again()
     ensures { UnsetLineReadAgain }
 {}
 
-/// A set line that is written is read again as that, where its value ends in no blank and no carriage return, which reading
-/// would take off.
+/// A written set line is read as the same set line, if its value does not end in a blank or a carriage return, which
+/// reading would remove.
 pub fn set_line_read_again()
     ensures { SetLineReadAgain }
 {}
 
-/// A string's text, quoted and escaped, is read as that text, where it then has at most 65,000 bytes with its quotes.
+/// A string, quoted and escaped, is read as the same text, if it has at most 65,000 bytes with its quotes.
 pub fn string_read_again()
     ensures { StringReadAgain }
 {}
 
-/// A written line has at most 65,322 bytes before its LF, so that reading it again never meets a line that is too long: where
-/// its prefix has at most 64 bytes, its name at most 255, and a string, once it is escaped, or a number at most 65,000.
+/// A written line has at most 65,322 bytes before its LF, so it is never too long to be read again. This holds for a
+/// prefix of at most 64 bytes, a name of at most 255, and an escaped string or a number of at most 65,000.
 pub fn written_lines_are_short()
     ensures { WrittenLinesAreShort }
 {}
 
-/// What a line assigns to a symbol is a value that is allowed for it.
+/// A value that a line assigns to a symbol is allowed for it.
 pub fn assigned_are_allowed()
     ensures { AssignedAreAllowed }
 {}
 
-/// And of a well-formed tree every value that is allowed for a symbol is assigned by some line of at most 65,535 bytes,
-/// under every prefix: `allowed` holds exactly what lines assign.
+/// In a well-formed tree, every allowed value of a symbol is assigned by some line of at most 65,535 bytes, under every
+/// prefix. So `allowed` holds for exactly the values that lines assign.
 pub fn allowed_are_assigned()
     ensures { AllowedAreAssigned }
 {}
 
-/// No line of the written `.config` or of the minimal file has more than 65,535 bytes before its LF, so that reading
-/// either again never meets a line that is too long (E17). This asks nothing of numbers and titles. (Our own.)
+/// No line of the written `.config` or of the minimal file has more than 65,535 bytes before its LF, so both can be
+/// read again without E17. This holds for any numbers and titles. (Our own.)
 pub fn written_texts_are_short()
     ensures { WrittenTextsAreShort }
 {
@@ -101,9 +101,9 @@ pub fn written_texts_are_short()
     needs_are_symbols();
 }
 
-/// The minimal file gives the values back: with the places that reading it leaves, from empty places, they are the one
-/// solution. What it has of each symbol that differs is one line, and with any nonempty set of these left out they are not.
-/// (Our own.)
+/// Reading the minimal file, from no user values, restores the values: they are the one solution. The file has one line
+/// for each symbol that differs. If any nonempty set of these lines is left out, the values are not the solution. (Our
+/// own.)
 pub fn minimal_gives_back()
     ensures restores { MinimalRestores }
     ensures nothing_to_spare { MinimalHasNothingToSpare }
@@ -112,10 +112,10 @@ pub fn minimal_gives_back()
     differing_are_allowed();
 }
 
-/// With the places that reading the written `.config` leaves, from empty places, the values are the one solution exactly
-/// where no visible tristate symbol outside a choice stands above both its visibility and what it is selected to. This
-/// asks that no int or hex value that is written ends in a blank or a carriage return, and that neither the main menu's
-/// text nor that of a menu or comment that is shown is written as a line that reads as an unset line. (Our own.)
+/// Reading the written `.config`, from no user values, restores the values if and only if no visible tristate symbol
+/// outside a choice is greater than both its visibility and what it is selected to. This requires that no written int
+/// or hex value ends in a blank or a carriage return. The main menu's title and each shown title of a menu or comment
+/// must not be written as a line that reads as an unset line. (Our own.)
 pub fn config_is_idempotent()
     ensures { ConfigIsIdempotent }
 {
@@ -125,9 +125,10 @@ pub fn config_is_idempotent()
     idempotent_where();
 }
 
-/// States what reading the list of new symbols after the input files gives, if no new string is too long for a line. No line of it
-/// is warned of. The values stay exactly where no new tristate symbol outside a choice stands above both its visibility and what
-/// it is selected to. And a symbol is still new only if it has a comment: an int or hex whose value is no number. (Our own.)
+/// The list of new symbols is read after the input files; no new string is too long for a line. Then its lines have no
+/// warnings. The values stay if and only if no new tristate symbol outside a choice is greater than both its visibility
+/// and what it is selected to. A symbol is still new only if it has a comment: an int or hex whose value is not a
+/// number. (Our own.)
 pub fn new_list_gives_back()
     ensures { NewListGivesBack }
 {
@@ -137,7 +138,7 @@ pub fn new_list_gives_back()
     new_lines_keep();
 }
 
-/// The written `.config` is that of the values alone: what the user gave, and which symbols differ by it, has no part in it.
+/// The written `.config` depends only on the values, not on the user values or on which symbols differ because of them.
 /// (Our own.)
 pub fn config_is_of_values()
     ensures { ConfigIsOfValues }

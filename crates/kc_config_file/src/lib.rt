@@ -4,7 +4,7 @@
 //! Reading:
 //!
 //! - [`reader`]: takes the input files in chunks of any size and gives the user values and the warnings.
-//! - [`line`] and [`value`]: what one line says, and the value on the right of its `=`.
+//! - [`line`] and [`value`]: the meaning of one line, and the value on the right of its `=`.
 //! - [`effect`]: what a line does for a tree: nothing, a warning, or an assignment.
 //! - [`user_input`]: all that the input files gave.
 //! - [`shown`]: values and locations, as warnings print them.
@@ -14,9 +14,9 @@
 //!
 //! - [`config`]: the text of the `.config`.
 //! - [`header`]: the texts of the C header, of the minimal file and of the list of new symbols.
-//! - [`prefix`]: what stands before each name, `CONFIG_` by default.
+//! - [`prefix`]: the prefix of each name, `CONFIG_` by default.
 //!
-//! [`laws`]: what is written is read again as it was, and what holds of reading.
+//! [`laws`]: laws of reading, and of reading written files again.
 
 pub mod config;
 pub mod effect;

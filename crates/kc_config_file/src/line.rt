@@ -1,4 +1,4 @@
-//! What one line of a `.config` says.
+//! The meaning of one line of a `.config`.
 ghost use Rattle.std.specs.Prelude.{◌≡◌, find, not, option_map};
 ghost use Rattle.std.specs.Option.{option_copied};
 ghost use Rattle.std.specs.List.{list_any};
@@ -10,7 +10,7 @@ ghost use Rattle.kc_config_file.specs.ConfigFileLine.{meaning_view};
 use bstr::ByteSlice;
 use kc_text::is_blank;
 
-/// What one line says under a prefix, whatever the tree.
+/// The meaning of one line under a prefix, for any tree.
 #[derive(Clone, Copy, Debug, PartialEq, Eq)]
 pub enum ConfigFileLine<'a> {
     /// Nothing: the line is empty or a comment.
@@ -19,14 +19,14 @@ pub enum ConfigFileLine<'a> {
     Unset(&'a [u8]),
     /// `CONFIG_NAME=value`, with the text right of the first `=`.
     Set(&'a [u8], &'a [u8]),
-    /// None of these.
+    /// Any other line.
     Malformed,
 }
 
-/// Parses a line, given without its end: blanks (space and tab) at its end are dropped; then an empty line says
-/// nothing; `# CONFIG_NAME is not set` unsets NAME, one byte or more and no blank; another line whose first byte that
-/// is no blank is `#` says nothing; `CONFIG_NAME=value` sets NAME, one byte or more up to the first `=`; any other
-/// line is malformed. The prefix stands in place of `CONFIG_`. (Our own rules in detail.)
+/// Parses a line without its line end. Drops blanks (space and tab) at its end. Then an empty line means nothing. `#
+/// CONFIG_NAME is not set` unsets NAME, which has at least one byte and no blank. Any other line whose first byte that
+/// is not a blank is `#` means nothing. `CONFIG_NAME=value` sets NAME, at least one byte up to the first `=`. Any other
+/// line is malformed. The prefix takes the place of `CONFIG_`. (The details are our own.)
 pub fn parse_config_file_line<'a>(prefix: &[u8], bytes: &'a [u8]) -> ConfigFileLine<'a>
     ensures { meaning_view result ≡ spec.meaning_of prefix.now bytes.now }
 {
@@ -46,7 +46,7 @@ pub fn parse_config_file_line<'a>(prefix: &[u8], bytes: &'a [u8]) -> ConfigFileL
     }
 }
 
-// The line without the blanks at its end.
+// The line without its trailing blanks.
 #[tactic(auto, using(crate::proofs::BlankLemmas::trimmed_to))]
 fn trimmed(bytes: &[u8]) -> &[u8]
     ensures { result.now ≡ spec_parts.trimmed bytes.now }
@@ -58,14 +58,14 @@ fn trimmed(bytes: &[u8]) -> &[u8]
     &bytes[..end]
 }
 
-// Whether the text holds a blank.
+// Whether the text contains a blank.
 fn has_blank(text: &[u8]) -> bool
     ensures { result ≡ list_any is_blank text.now }
 {
     text.iter().any(|b| is_blank(*b))
 }
 
-// Whether the text has a byte, and no blank.
+// Whether the text has at least one byte, and no blank.
 fn is_plain(name: &[u8]) -> bool
     ensures { result ≡ spec_parts.is_plain name.now }
 {
@@ -83,14 +83,14 @@ fn unset_name<'a>(prefix: &[u8], text: &'a [u8]) -> Option<&'a [u8]>
     if is_plain(name) { Some(name) } else { None }
 }
 
-// The first byte that is no blank.
+// The first byte that is not a blank.
 fn first_nonblank(text: &[u8]) -> Option<u8>
     ensures { result ≡ find (λ b. not (is_blank b)) text.now }
 {
     text.iter().copied().find(|b| !is_blank(*b))
 }
 
-// Whether the first byte that is no blank is `#`.
+// Whether the first byte that is not a blank is `#`.
 fn is_comment(text: &[u8]) -> bool
     ensures { result ≡ spec_parts.is_comment text.now }
 {
@@ -107,7 +107,7 @@ fn name_and_value<'a>(prefix: &[u8], text: &'a [u8]) -> Option<(&'a [u8], &'a [u
     split_at_equals(text.strip_prefix(prefix)?)
 }
 
-// The bytes up to the first `=` and those after it.
+// The bytes before the first `=` and the bytes after it.
 fn split_at_equals(text: &[u8]) -> Option<(&[u8], &[u8])>
     ensures { option_map (λ parts. (parts.0.now, parts.1.now)) result ≡ spec_parts.split_at_equals text.now }
 {

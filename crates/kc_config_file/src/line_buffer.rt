@@ -1,4 +1,4 @@
-//! The line that is not yet ended, and what each byte does to it.
+//! The unfinished line, and what each byte does to it.
 ghost use Rattle.std.specs.Prelude.{◌≡◌, ◌<◌, ◌≤◌, ◌∷◌, ◌++◌, [], true, false, length, take, OnOk, OnErr, IfOk, IfErr, if◌then◌else◌, slice_index};
 ghost use Rattle.std.specs.Str.Lines.{strip_carriage_return};
 ghost use Rattle.kc_language.specs.Lines.{is_line_feed};
@@ -20,14 +20,14 @@ use std::alloc::{AllocError, Global};
 /// The most bytes of a line.
 pub(crate) const LONGEST_DOT_LINE: usize = 65535;
 
-/// The number of the line that is not yet ended, and its bytes so far.
+/// The number of the unfinished line, and its bytes so far.
 #[derive(Drop)]
 pub(crate) struct LineBuffer {
     pub number: u64,
     pub pending: Vec<u8>,
 }
 
-// The line's text, without the carriage return that belongs to its end.
+// The line's text, without a carriage return that belongs to the line end.
 fn text_of(bytes: &[u8], ended: bool) -> &[u8]
     ensures { result.now ≡ (if ended then strip_carriage_return bytes.now else bytes.now) }
 {
@@ -38,8 +38,8 @@ fn text_of(bytes: &[u8], ended: bool) -> &[u8]
     }
 }
 
-// Reads the bytes as the line with this number, and goes on to the next number. Its only error is to be out of memory; then
-// all is as it was.
+// Reads the bytes as the line of this number, and moves on to the next number. Fails only if there is not enough
+// memory; then it changes nothing.
 fn read_numbered<'a>(
     alloc: Global,
     stream: &NamedStream<'a>,
@@ -61,7 +61,8 @@ fn read_numbered<'a>(
     Ok(())
 }
 
-/// Reads the pending bytes as a line, and goes on to the next. Its only error is to be out of memory; then all is as it was.
+/// Reads the pending bytes as a line, and moves on to the next line. Fails only if there is not enough memory; then it
+/// changes nothing.
 pub(crate) fn end_line<'a>(
     alloc: Global,
     stream: &NamedStream<'a>,
@@ -89,7 +90,7 @@ pub(crate) fn end_line<'a>(
     Ok(())
 }
 
-// Takes one byte: an LF ends the line, another byte waits for it, unless it is the 65,536th of its line.
+// Takes one byte: an LF finishes the line, any other byte becomes pending, unless it is the 65,536th of its line.
 fn take_byte<'a>(
     alloc: Global,
     stream: &NamedStream<'a>,
@@ -118,7 +119,7 @@ fn take_byte<'a>(
     Ok(())
 }
 
-// How many bytes stand before the first LF, as far as they have room. No byte is looked at behind that room.
+// Counts the bytes before the first LF, at most `room`. Reads no byte after that.
 fn bytes_before_lf(bytes: &[u8], room: usize) -> usize
     ensures within { result ≤ length bytes.now }
     ensures few { result ≤ room }
@@ -132,9 +133,9 @@ fn bytes_before_lf(bytes: &[u8], room: usize) -> usize
     }
 }
 
-// Takes a beginning of the bytes, and answers how many: a line with its LF, which is read where it stands, where none of its
-// bytes is pending; else those before the next LF, as far as the line does not get too long by them, or where there are none,
-// one.
+// Takes a prefix of the bytes, and returns its length. If nothing is pending and the bytes start with a whole line,
+// takes that with its LF, and reads it without a copy. Otherwise takes the bytes before the next LF, as many as the
+// line has room for, or one byte if there are none.
 fn take_front<'a>(
     alloc: Global,
     stream: &NamedStream<'a>,
@@ -177,7 +178,7 @@ fn take_front<'a>(
     Ok(1)
 }
 
-/// Takes the piece.
+/// Takes the chunk `piece`.
 pub(crate) fn take_piece<'a>(
     alloc: Global,
     stream: &NamedStream<'a>,
@@ -202,7 +203,8 @@ pub(crate) fn take_piece<'a>(
     Ok(())
 }
 
-/// Ends the stream: pending bytes are its last line. Its only error is to be out of memory; then all is as it was.
+/// Ends the input file: pending bytes are its last line. Fails only if there is not enough memory; then it changes
+/// nothing.
 pub(crate) fn end_stream<'a>(
     alloc: Global,
     stream: &NamedStream<'a>,

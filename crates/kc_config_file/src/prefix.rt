@@ -1,4 +1,4 @@
-//! How names and strings stand in the files that are read and written.
+//! The notation of names and strings in input and output files.
 ghost use Rattle.std.specs.Prelude.{◌≡◌, ◌<◌, length, true, IfOk, OnErr};
 ghost use Rattle.kc_language.specs.ConfigFile as spec;
 ghost use Rattle.kc_config_file.specs.PartsOfConfigFile as spec_parts;
@@ -8,12 +8,12 @@ use kc_expr::names::are_name_bytes;
 use std::alloc::{AllocError, Global};
 use std::marker::Model;
 
-/// The most bytes of a prefix.
+/// The maximum length of a prefix.
 const LONGEST_PREFIX: usize = 64;
 
-/// What stands before each name, as `CONFIG_`: 0 to 64 of the bytes `A` to `Z`, `a` to `z`, `0` to `9` and `_`, of
-/// which the first is no digit. (Our own rule; the kernel's tools and kconfiglib take any text.) And whether strings are
-/// raw: they stand between their quotes as they are, without escapes, as U-Boot's `conf` reads and writes them.
+/// The prefix of each name, such as `CONFIG_`: 0 to 64 of the bytes `A` to `Z`, `a` to `z`, `0` to `9` and `_`, not
+/// starting with a digit. (Our own rule; the kernel's tools and kconfiglib take any text.) It also says whether strings
+/// are raw: without escapes between their quotes, as U-Boot's `conf` reads and writes them.
 #[derive(Debug, Drop)]
 pub struct Prefix {
     bytes: Vec<u8>,
@@ -32,10 +32,10 @@ impl Model for Prefix {
 }
 
 impl Prefix {
-    /// The text as a prefix, or None where it is none. With `is_raw` strings have no escapes.
+    /// Returns the text as a prefix, or None if it is not a prefix. With `is_raw` strings have no escapes.
     ///
     /// # Errors
-    /// Out of memory, for a prefix of a byte or more.
+    /// Fails if there is not enough memory, but never for an empty prefix.
     pub fn new(alloc: Global, text: &[u8], is_raw: bool) -> Result<Option<Prefix>, AllocError>
         ensures prefix { IfOk result (λ found. found ≡ prefix_of text.now is_raw) }
         ensures some { OnErr result ((0 < length text.now) × (spec.is_prefix text.now ≡ true)) }

@@ -1,4 +1,4 @@
-//! The reader of `.config` text, fed in pieces of any size.
+//! The reader of `.config` text, which takes chunks of any size.
 ghost use Rattle.std.specs.Prelude.{◌≡◌, ◌≤◌, length, None};
 ghost use Rattle.kc_language.specs.ConfigFile.{ArePlacesOf};
 ghost use Rattle.kc_config_file.specs.Feeding.{IsWithinLine, ended, stream_start};
@@ -14,10 +14,10 @@ use kc_tree::tree::Tree;
 use std::alloc::Global;
 use std::marker::Model;
 
-/// Reads a stream of `.config` text line by line: as a line ends, a valid assignment goes to the user's input, and a warning
-/// is told, as whole lines behind those told before. Besides the tree, the prefix and the stream's name it keeps the number of the line not yet
-/// ended, that line's bytes, of which there are at most 65,535, and the first refusal, which every later call answers
-/// again, changing nothing.
+/// Reads an input file of `.config` text line by line. When a line ends, a valid assignment goes to the user's input,
+/// and a warning is appended to `told` as a whole line. The reader stores the tree, the prefix, the name of the input
+/// file, the number of the unfinished line and its bytes, at most 65,535. It also stores the first fault. Then every
+/// later call returns that fault and changes nothing.
 #[derive(Drop)]
 pub struct InputReader<'a> {
     alloc: Global,
@@ -41,7 +41,7 @@ impl<'a> Model for InputReader<'a> {
 }
 
 impl<'a> InputReader<'a> {
-    /// A reader at line 1 of the stream. It takes no memory.
+    /// Returns a reader at line 1 of the input file. Does not allocate.
     pub fn new(alloc: Global, tree: &'a Tree, prefix: &'a Prefix, name: &'a [u8]) -> InputReader<'a>
         ensures { result ≡ record { tree = tree.now; prefix = prefix.now; name = name.now; position = stream_start; refusal = None } }
     {
@@ -56,7 +56,7 @@ impl<'a> InputReader<'a> {
         }
     }
 
-    /// How many bytes were fed since the last LF or `finish`.
+    /// The number of bytes fed since the last LF or `finish`.
     pub fn pending(&self) -> usize
         ensures count { result ≡ length self.now.position.pending }
         ensures few { result ≤ longest_input_line }
@@ -64,10 +64,10 @@ impl<'a> InputReader<'a> {
         self.line_buffer.pending.len()
     }
 
-    /// Takes the next piece of the stream, and adds the warnings of the lines that it ends behind what was told. After an error
-    /// the places are exactly those after the lines before the refused one, and their warnings were told, no more: a line whose
-    /// warning finds no memory assigns nothing. Memory is wanted only before a byte of the piece: an empty piece never fails,
-    /// and one that was taken whole does not, unless the reader keeps a fault.
+    /// Takes the next chunk of the input file, and appends the warnings of the lines that end in it to `told`. After an
+    /// error the user values are those after the lines before the failed one, and exactly the warnings of these lines
+    /// were added. So a line whose warning cannot be allocated assigns nothing. Memory runs out only before a byte of
+    /// the chunk: an empty chunk never fails, nor does one that was taken whole, unless the reader stores a fault.
     pub fn feed(
         &mut self,
         piece: &[u8],
@@ -96,10 +96,10 @@ impl<'a> InputReader<'a> {
         }
     }
 
-    /// Ends the last line, with its warning added behind what was told; a later `feed` begins the next one. Its only error is to
-    /// be out of memory, unless the reader keeps a fault. After an error nothing was told, the user's places are as they were,
-    /// and so is the reader but that it keeps the fault and answers it to every later call. Where no byte is pending nothing
-    /// fails, unless the reader keeps a fault.
+    /// Finishes the last line, and appends its warning to `told`. A later `feed` starts the next line. Fails only if
+    /// there is not enough memory, or if the reader stores a fault. After an error `told` and the user values are
+    /// unchanged. The reader is unchanged except that it stores the fault and returns it from every later call. If no
+    /// byte is pending it never fails, unless the reader stores a fault.
     pub fn finish(&mut self, user: &mut UserInput<'a>, told: &mut Vec<u8>) -> Result<(), InputFault>
         requires { ArePlacesOf self.old.tree user.old.places }
         ensures { AnswersEnd (record self.old { position = ended self.old.position }) result self.old self.new user.old user.new told.old.items told.new.items }

@@ -1,4 +1,4 @@
-//! Values and lines, as warnings tell them.
+//! Values and lines, as warnings print them.
 ghost use Rattle.std.specs.Prelude.{◌≡◌, ◌++◌, OnOk, unwrap_or};
 ghost use Rattle.kc_language.specs.Values.{same_given};
 ghost use Rattle.kc_user.specs.ValueView.{given_of_value};
@@ -14,14 +14,14 @@ use std::alloc::AllocError;
 /// A line of an input file.
 #[derive(Clone, Copy, Debug, PartialEq, Eq)]
 pub struct InputLine<'a> {
-    /// The file's name, as it was given.
+    /// The file's name, as given.
     pub file: &'a [u8],
-    /// The line's number, from 1 on.
+    /// The line number, starting at 1.
     pub number: u64,
 }
 
 impl<'a> InputLine<'a> {
-    // The line, with the file's name without what the names of fragments begin with.
+    // Removes the lead of fragment names from the file's name.
     pub(crate) fn without(self, lead: &[u8]) -> InputLine<'a>
         ensures { location_of result ≡ plain_location lead.now (location_of self.entry) }
     {
@@ -32,7 +32,7 @@ impl<'a> InputLine<'a> {
     }
 }
 
-// What follows the lead, or the name as it is.
+// The name without the lead, or the whole name if it does not start with it.
 fn without_lead<'a>(lead: &[u8], name: &'a [u8]) -> &'a [u8]
     ensures { result.now ≡ unwrap_or (without_prefix lead.now name.entry.now) name.entry.now }
 {
@@ -42,14 +42,14 @@ fn without_lead<'a>(lead: &[u8], name: &'a [u8]) -> &'a [u8]
     }
 }
 
-/// A symbol's value: of a bool or tristate, or the text of another.
+/// A symbol's value: a truth value for a bool or tristate, otherwise a text.
 #[derive(Clone, Copy, Debug, PartialEq, Eq)]
 pub enum ShownValue<'a> {
     Truth(Tri),
     Text(&'a [u8]),
 }
 
-/// Returns a user value as it is shown.
+/// Returns a user value in printed form.
 pub fn shown_given<'a>(given: &'a UserValue) -> ShownValue<'a>
     ensures { given_by result ≡ given_of_value given.now }
 {
@@ -59,7 +59,7 @@ pub fn shown_given<'a>(given: &'a UserValue) -> ShownValue<'a>
     }
 }
 
-/// Returns whether the two are one value: truths, or texts of the same bytes.
+/// Returns whether both are the same value: equal truth values, or texts of the same bytes.
 pub fn is_same(given: ShownValue<'_>, value: ShownValue<'_>) -> bool
     ensures { result ≡ same_given (given_by given.entry) (given_by value.entry) }
 {
@@ -99,11 +99,11 @@ fn add_text(
     }
 }
 
-/// Adds the value of a symbol of this type as a `.config` writes it: a string in quotes, with a `\` before each `"` and
-/// `\` unless strings are raw.
+/// Adds the value of a symbol of this type as a `.config` writes it. A string is in quotes, with a `\` before each `"`
+/// and `\` unless strings are raw.
 ///
 /// # Errors
-/// Out of memory.
+/// Fails if there is not enough memory.
 pub fn add_value(
     is_raw: bool,
     symbol_type: SymbolType,

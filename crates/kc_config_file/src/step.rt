@@ -1,4 +1,4 @@
-//! What one line of a stream does to the user's input.
+//! What one line of an input file does to the user's input.
 ghost use Rattle.std.specs.Prelude.{◌≡◌, ◌++◌, ◌<◌, true, [], ◌∷◌, length, map, slice_set, Some, None, IfOk, OnOk, OnErr, IfSome, option_map};
 ghost use Rattle.kc_user.specs.ValueView.{given_of_value};
 ghost use Rattle.kc_language.specs.ConfigFile.{change_text, is_change, meaning_of, Assigns, Warns, effect_of, is_gone, is_reported, not_allowed, located_warning_line, ArePlacesOf, place_at, places_given};
@@ -24,7 +24,7 @@ use kc_user::user::User;
 use kc_user::value::UserValue;
 use std::alloc::{AllocError, Global};
 
-/// A stream's name, and the tree and prefix that it is read for.
+/// The name of an input file, and the tree and prefix that it is read for.
 #[derive(Clone, Copy)]
 pub(crate) struct NamedStream<'a> {
     pub tree: &'a Tree,
@@ -37,7 +37,7 @@ fn choice_of(tree: &Tree, id: SymId) -> Option<ChoiceId>
     ensures choice { option_map (λ choice. choice.0) result ≡ choice_of tree.now id }
     ensures there { IfSome result (λ choice. choice.0 < length tree.now.choices) }
 {
-    // The choice of a member is there: `name_count` says so.
+    // The choice of a member exists: this follows from `name_count`.
     let _ = tree.name_count();
     match tree.facts(id) {
         Some(symbol) => symbol.choice.get(),
@@ -66,7 +66,7 @@ fn choose(tree: &Tree, id: SymId, user: &mut User)
     }
 }
 
-// Gives the symbol the value; a member that is made y becomes the user's member of its choice.
+// Gives the symbol the value. A member that is set to y becomes the user's member of its choice.
 fn assign(tree: &Tree, id: SymId, value: UserValue, user: &mut User) -> Result<(), AllocError>
     requires mentioned { id.0 < length tree.now.symbols }
     requires user { ArePlacesOf tree.now user.old }
@@ -81,7 +81,7 @@ fn assign(tree: &Tree, id: SymId, value: UserValue, user: &mut User) -> Result<(
     Ok(())
 }
 
-// Whether a value stands in the place of another.
+// Whether a different value replaces an earlier one.
 fn is_change(user: &User, id: SymId, value: &UserValue) -> bool
     requires { id.0 < length user.now.symbols }
     ensures { result ≡ is_change (place_at user.now (SymbolPlace id.0)) (given_of_value value.now) }
@@ -92,7 +92,7 @@ fn is_change(user: &User, id: SymId, value: &UserValue) -> bool
     }
 }
 
-// Puts the line into the symbol's place, where there is one.
+// Stores the line in the symbol's place, if there is one.
 fn set_line<'a>(lines: &mut Vec<Option<InputLine<'a>>>, id: SymId, at: InputLine<'a>)
     ensures { map (option_map location_of) lines.new.items ≡ slice_set (map (option_map location_of) lines.old.items) id.0 (Some (location_of at.entry)) }
 {
@@ -101,7 +101,7 @@ fn set_line<'a>(lines: &mut Vec<Option<InputLine<'a>>>, id: SymId, at: InputLine
     }
 }
 
-// Gives the symbol the value, by this line.
+// Gives the symbol the value of this line.
 fn give<'a>(
     tree: &Tree,
     at: InputLine<'a>,
@@ -128,7 +128,7 @@ struct Given<'a> {
     at: InputLine<'a>,
 }
 
-// Tells what the symbol was and is now, given the two values as texts.
+// Adds the old and the new value of the symbol, given as texts.
 fn tell_values<'a>(
     name: &'a [u8],
     from: InputLine<'a>,
@@ -150,7 +150,7 @@ fn tell_values<'a>(
     warn(at.file, at.number, warning, told)
 }
 
-// Adds the line that tells what the symbol was and is now.
+// Adds the line with the old and the new value of the symbol.
 fn add_change<'a>(
     alloc: Global,
     is_raw: bool,
@@ -170,7 +170,7 @@ fn add_change<'a>(
     tell_values(name, old.at, &before, new.at, &now, text)
 }
 
-// Tells that the symbol is set again.
+// Adds the warning that the symbol is set again.
 fn tell_again(at: InputLine<'_>, name: &[u8], told: &mut Vec<u8>) -> Result<(), AllocError>
     ensures whole { OnOk result (told.new.items ≡ told.old.items ++ located_warning_line at.entry.file.now at.entry.number (SetAgain name.now)) }
     ensures nothing { OnErr result (told.new.items ≡ told.old.items) }
@@ -178,7 +178,7 @@ fn tell_again(at: InputLine<'_>, name: &[u8], told: &mut Vec<u8>) -> Result<(), 
     warn(at.file, at.number, Warning::SetAgain(name), told)
 }
 
-// Tells that the symbol is set again, and what it was and is now.
+// Adds the warning that the symbol is set again, with its old and new value.
 fn tell_change<'a>(
     alloc: Global,
     is_raw: bool,
@@ -198,7 +198,7 @@ fn tell_change<'a>(
     told.extend_from_slice(&text)
 }
 
-// Tells that the symbol is set again, and the change where there is one and its line is known.
+// Adds the warning that the symbol is set again, and the change if there is one and its line is known.
 fn tell_both(
     alloc: Global,
     is_raw: bool,
@@ -229,7 +229,7 @@ fn tell_both(
     }
 }
 
-// Warns where the symbol has a value already.
+// Warns if the symbol already has a value.
 fn warn_again(
     alloc: Global,
     is_raw: bool,
@@ -270,14 +270,14 @@ fn warn_again(
     }
 }
 
-// Whether the warning is of a line that names no symbol.
+// Whether the warning is about a line that names no symbol.
 fn is_gone(line_warning: &Warning<&[u8]>) -> bool
     ensures { result ≡ is_gone (Warns (shown_warning line_warning.now)) }
 {
     matches!(line_warning, Warning::UnknownSymbol(_))
 }
 
-// The symbol whose value in the line is not allowed, where the warning is of that.
+// The symbol whose value in the line is not allowed, if the warning is about that.
 fn not_allowed(tree: &Tree, line_warning: &Warning<&[u8]>) -> Option<SymId>
     ensures { result ≡ not_allowed tree.now (Warns (shown_warning line_warning.now)) }
 {
@@ -287,7 +287,7 @@ fn not_allowed(tree: &Tree, line_warning: &Warning<&[u8]>) -> Option<SymId>
     }
 }
 
-// Puts the line into the place of the symbol whose value in it is not allowed, where there is one and such lines are kept.
+// Stores the line for the symbol whose value in it is not allowed, if there is one and such lines are kept.
 fn refuse<'a>(refused: Option<SymId>, at: InputLine<'a>, input: &mut UserInput<'a>)
     ensures { input.new ≡ record input.old { refused = refused_by (location_of at.entry) refused input.old.refused } }
 {
@@ -297,7 +297,7 @@ fn refuse<'a>(refused: Option<SymId>, at: InputLine<'a>, input: &mut UserInput<'
     }
 }
 
-// Warns of a line, which is not taken as written.
+// Warns about a line that is not taken as written.
 fn leave_out<'a>(
     alloc: Global,
     stream: &NamedStream<'a>,
@@ -327,8 +327,8 @@ fn leave_out<'a>(
     noted
 }
 
-/// Reads one line, given without its end: tells its warning, and then changes the input. Its only error is to be out of
-/// memory; then the input is as it was, and nothing was told.
+/// Reads one line, given without its line end: adds its warning, and then changes the input. Fails only if there is not
+/// enough memory; then it changes neither the input nor `told`.
 #[tactic(auto, using(crate::proofs::StepLemmas::unreported, crate::proofs::StepLemmas::untold))]
 pub(crate) fn read_line<'a>(
     alloc: Global,

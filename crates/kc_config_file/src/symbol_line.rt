@@ -1,4 +1,4 @@
-//! A symbol's value, and the line that tells it.
+//! A symbol's value, and the line that shows it.
 ghost use Rattle.std.specs.Prelude.{◌≡◌, ◌<◌, ◌++◌, length, OnOk, OnErr, codes, flat_map};
 ghost use Rattle.kc_config_file.specs.{PartsOfTexts.{between_quotes, hex_text}};
 ghost use Rattle.kc_language.specs.{Texts.{config_file_line, has_value, header_line, new_line, solution_view}};
@@ -12,15 +12,14 @@ use kc_solve::solved::Solved;
 use kc_text::{has_hex_prefix, read_hex, read_int};
 use std::alloc::AllocError;
 
-/// The value of a symbol: of a bool or tristate, or the text of another with its type.
+/// The value of a symbol: a truth value for a bool or tristate, otherwise a text with its type.
 #[derive(Clone, Copy, Debug, PartialEq, Eq)]
 pub(crate) enum WrittenValue<'a> {
     Truth(Tri),
     TextValue(SymbolType, &'a [u8]),
 }
 
-/// The value that the solution gives to a symbol, and to a name that is not defined its own text. What its type has not is not
-/// looked at.
+/// The value of a symbol in the solution; for an undefined name, its own text. Reads only what the type has.
 #[inline(always)]
 pub(crate) fn symbol_value<'a>(solved: &'a Solved<'_>, id: SymId) -> WrittenValue<'a>
     ensures { value_view result ≡ (solution_view solved.now).value id }
@@ -36,7 +35,7 @@ pub(crate) fn symbol_value<'a>(solved: &'a Solved<'_>, id: SymId) -> WrittenValu
     }
 }
 
-// Adds the parts before a string, with its first quote, the string, and the end of its line.
+// Adds the parts before a string, with its first quote, then the string and its line end.
 fn add_string_line(
     before: &[&[u8]],
     is_raw: bool,
@@ -50,14 +49,14 @@ fn add_string_line(
     file.extend_from_slice(b"\"\n")
 }
 
-// What a header has before a hex.
+// What a header adds before a hex number.
 fn before_hex<'a>(text: &'a [u8]) -> &'a [u8]
     ensures { result.now ++ text.now ≡ hex_text text.now }
 {
     if has_hex_prefix(text) { b"" } else { b"0x" }
 }
 
-/// Adds the symbol's line of a `.config`. Its only error is to be out of memory, for a line of a byte or more.
+/// Adds the symbol's line of a `.config`. Fails only if there is not enough memory, and never for an empty line.
 pub(crate) fn add_config_file_line<'a>(
     prefix: &'a Prefix,
     name: &'a [u8],
@@ -94,7 +93,7 @@ pub(crate) fn add_config_file_line<'a>(
     }
 }
 
-// Whether the value is one that a line can give: that of an int or hex is a number.
+// Whether a line can give this value: an int or hex must be a number.
 fn has_value(value: WrittenValue<'_>) -> bool
     ensures { result ≡ has_value (value_view value.entry) }
 {
@@ -105,7 +104,7 @@ fn has_value(value: WrittenValue<'_>) -> bool
     }
 }
 
-/// Adds the symbol's line of the list of new symbols: that of a `.config`, or a comment if it has no value.
+/// Adds the symbol's line of the list of new symbols: its `.config` line, or a comment if a line cannot give its value.
 pub(crate) fn add_line_of_new<'a>(
     prefix: &'a Prefix,
     name: &'a [u8],
@@ -121,7 +120,7 @@ pub(crate) fn add_line_of_new<'a>(
     }
 }
 
-/// Adds the symbol's line of a header, where it has one.
+/// Adds the symbol's line of a header, if it has one.
 pub(crate) fn add_header_line<'a>(
     prefix: &'a Prefix,
     name: &'a [u8],

@@ -1,11 +1,11 @@
-//! A file's text in memory, which grows part by part.
+//! The text of a file in memory, which grows part by part.
 ghost use Rattle.std.specs.Prelude.{◌≡◌, ◌++◌, [], OnOk, IfOk, flat_map};
 ghost use Rattle.kc_config_file.specs.PartsOfTexts.{between_quotes};
 
 use kc_text::escape_into;
 use std::alloc::{AllocError, Global};
 
-/// The room of a text at first. Its room doubles where it is longer.
+/// The initial capacity of a text. It doubles when the text needs more.
 const ROOM: usize = 65_536;
 
 /// An empty text.
@@ -26,7 +26,7 @@ pub(crate) fn add_parts(parts: &[&[u8]], text: &mut Vec<u8>) -> Result<(), Alloc
     Ok(())
 }
 
-/// Adds a string's text as it stands between quotes: raw, or with a `\` before each `"` and `\`.
+/// Adds a string as written between quotes: raw, or with a `\` before each `"` and `\`.
 pub(crate) fn add_between_quotes(
     is_raw: bool,
     string: &[u8],

@@ -1,4 +1,4 @@
-//! What the user's input files gave.
+//! What the user's input files give.
 ghost use Rattle.std.specs.Prelude.{◌≡◌, ◌++◌, [], length, map, replicate, slice_index_or, false, None, Some, IfOk, OnOk, OnErr, if◌then◌else◌, option_map};
 ghost use Rattle.std.specs.Option.{option_map_or};
 ghost use Rattle.kc_language.specs.ConfigFile.{is_reported, no_input, plain_line, plain_location};
@@ -18,10 +18,10 @@ use kc_user::user::{User, empty_places};
 use std::alloc::{AllocError, Global};
 use std::marker::Model;
 
-/// What the lines of a user's input files gave: the user's values; where this is wanted, for each symbol the line that gave
-/// its value last, and the last line whose value for it was not allowed; whether every line was taken as written; where
-/// this is wanted, the lines that named no symbol; whether unset lines without effect are reported; and what the names of
-/// fragments begin with. (Our own.)
+/// What the lines of a user's input files give: the user values; and whether every line was taken as written. On
+/// request, for each symbol the line that gave its value last, and the last line whose value was not allowed. On
+/// request, the lines that name no symbol. Also whether unset lines without effect are reported, and the lead of
+/// fragment names. (Our own.)
 #[derive(Drop)]
 pub struct UserInput<'a> {
     pub(crate) user: User,
@@ -42,7 +42,7 @@ impl<'a> Model for UserInput<'a> {
     ghost view = { input_of };
 }
 
-// For each symbol of the tree no line yet, or no list where lines are not kept.
+// No line for each symbol of the tree, or an empty list if lines are not kept.
 fn no_lines<'a>(
     alloc: Global,
     tree: &Tree,
@@ -57,8 +57,8 @@ fn no_lines<'a>(
 }
 
 impl<'a> UserInput<'a> {
-    /// Nothing given yet. With `keeps_lines` it keeps for each symbol the line of its value, and the last line whose value
-    /// for it was not allowed. Its only error is to be out of memory.
+    /// Returns an empty input. With `keeps_lines` it keeps, for each symbol, the line of its value, and the last line
+    /// whose value was not allowed. Fails only if there is not enough memory.
     pub fn new(alloc: Global, tree: &Tree, keeps_lines: bool) -> Result<UserInput<'a>, AllocError>
         ensures { IfOk result (λ input. input ≡ no_input keeps_lines tree.now) }
     {
@@ -83,7 +83,7 @@ impl<'a> UserInput<'a> {
         &self.user
     }
 
-    /// The line that gave the symbol its value last, where such lines are kept.
+    /// The line that gave the symbol its value last, if such lines are kept.
     pub fn line(&self, id: SymId) -> Option<InputLine<'a>>
         ensures { option_map location_of result ≡ slice_index_or self.now.lines id.0 None }
     {
@@ -93,7 +93,7 @@ impl<'a> UserInput<'a> {
         }
     }
 
-    // The last line whose value for the symbol was not allowed (K8), where such lines are kept.
+    // The last line whose value for the symbol was not allowed (K8), if such lines are kept.
     fn refused_line(&self, id: SymId) -> Option<InputLine<'a>>
         ensures { option_map location_of result ≡ slice_index_or self.now.refused id.0 None }
     {
@@ -113,28 +113,28 @@ impl<'a> UserInput<'a> {
         }
     }
 
-    /// The line that gave the symbol its value last, where such lines are kept, without the lead.
+    /// The line that gave the symbol its value last, without the lead, if such lines are kept.
     pub fn plain_line(&self, id: SymId) -> Option<InputLine<'a>>
         ensures { option_map location_of result ≡ plain_line self.now self.now.lines id }
     {
         self.plain(self.line(id))
     }
 
-    /// The last line whose value for the symbol was not allowed (K8), where such lines are kept, without the lead.
+    /// The last line whose value for the symbol was not allowed (K8), without the lead, if such lines are kept.
     pub fn plain_refused_line(&self, id: SymId) -> Option<InputLine<'a>>
         ensures { option_map location_of result ≡ plain_line self.now self.now.refused id }
     {
         self.plain(self.refused_line(id))
     }
 
-    /// Sets what the names of fragments begin with from here on.
+    /// Sets the lead, with which fragment names start, from now on.
     pub fn lead_with(&mut self, lead: Vec<u8>)
         ensures { self.new ≡ record self.old { lead = lead.items } }
     {
         self.lead = lead;
     }
 
-    /// Sets whether each unset line of a string, int or hex symbol is reported (K16) from here on.
+    /// Sets whether each unset line of a string, int or hex symbol is reported (K16) from now on.
     pub fn ask_unset(&mut self, asks_unset: bool)
         ensures { self.new ≡ record self.old { asks_unset = asks_unset } }
     {
@@ -151,15 +151,14 @@ impl<'a> UserInput<'a> {
         }
     }
 
-    /// Whether every line was taken as written: none was warned of (K7 to K9, K16), and none gave a symbol a value where another
-    /// had been given before.
+    /// Whether every line was taken as written: none had a warning (K7 to K9, K16), and none set a symbol again.
     pub fn all_taken(&self) -> bool
         ensures { result ≡ self.now.all_taken }
     {
         self.all_taken
     }
 
-    /// Keeps each line that names no symbol (K7) from here on, and none of those before.
+    /// Keeps each line that names no symbol (K7) from now on, without earlier ones.
     pub fn keep_gone(&mut self, alloc: Global)
         ensures { self.new ≡ record self.old { gone = Some ([], []) } }
     {
@@ -169,8 +168,9 @@ impl<'a> UserInput<'a> {
         });
     }
 
-    /// The lines that named no symbol, where such lines are kept, as they were read, each with a line feed: first those that
-    /// are on, and then the others, which are unset lines or have the value n. Its only error is to be out of memory.
+    /// Returns the lines that name no symbol, if such lines are kept, as they were read, each with a line feed. Lines
+    /// that are on come first, then the others, which are unset lines or have the value n. Fails only if there is not
+    /// enough memory.
     pub fn gone_text(&self, alloc: Global) -> Result<Vec<u8>, AllocError>
         ensures { IfOk result (λ text. text.items ≡ option_map_or (λ told. told.0 ++ told.1) self.now.gone []) }
     {
@@ -180,8 +180,8 @@ impl<'a> UserInput<'a> {
         }
     }
 
-    // Notes that a line was not taken as written, and keeps it where it named no symbol and such lines are kept. Its only error
-    // is to be out of memory, and then nothing was noted.
+    // Notes that a line was not taken as written, and keeps it if it names no symbol and such lines are kept. Fails
+    // only if there is not enough memory; then it changes nothing.
     pub(crate) fn leave_out(
         &mut self,
         alloc: Global,

@@ -1,4 +1,4 @@
-//! The value that the text right of a line's `=` gives.
+//! The value in the text right of a line's `=`.
 ghost use Rattle.std.specs.Prelude.{◌≡◌, slice_index, IfOk, option_map};
 ghost use Rattle.std.specs.Option.{option_copied};
 ghost use Rattle.kc_language.specs.Values.{GivenText, GivenTruth};
@@ -11,14 +11,15 @@ use kc_text::{read_hex, read_int, unescape_into};
 use kc_user::value::{LONGEST_VALUE, UserValue, is_short_quoted};
 use std::alloc::{AllocError, Global};
 
-/// The value that the text gives to a symbol of this type, or None where it is not allowed: for a bool `y` or `n` as
-/// its first byte, for a tristate `y`, `m` or `n`, whatever follows that byte; for a string what stands between the `"` that
-/// it begins with and the next one that no `\` takes away, `\c` being c, or if strings are raw all between the `"` that it
-/// begins with and the `"` that it ends with; for an int or hex the whole text, where it is a number of that type. A text of
-/// more than 65,000 bytes gives none, nor does a raw string that has more with escapes, nor a symbol without a type.
+/// Returns the value that the text gives to a symbol of this type, or None if it is not allowed. A bool takes `y` or
+/// `n` as the first byte, a tristate `y`, `m` or `n`; any bytes may follow. A string takes the text between the `"` at
+/// its start and the next `"` that is not escaped by a `\`, where `\c` means c. If strings are raw, it takes all
+/// between a `"` at the start and a `"` at the end. An int or hex takes the whole text, if it is a number of that type.
+/// A text of more than 65,000 bytes gives None; so does a raw string that is longer than that with escapes, and a
+/// symbol without a type.
 ///
 /// # Errors
-/// Out of memory.
+/// Fails if there is not enough memory.
 pub fn line_value(
     alloc: Global,
     symbol_type: SymbolType,
@@ -40,7 +41,7 @@ pub fn line_value(
     }
 }
 
-// The first byte; 0 where there is none.
+// The first byte; 0 if there is none.
 fn first_byte(text: &[u8]) -> u8
     ensures { result ≡ slice_index text.now 0 }
 {
@@ -78,7 +79,7 @@ fn truth_value(found: Option<Tri>) -> Option<UserValue>
     }
 }
 
-// The text as it is, where it is a number.
+// The unchanged text, if it is a number.
 fn number_value(
     alloc: Global,
     text: &[u8],
@@ -103,14 +104,14 @@ fn string_value(alloc: Global, text: &[u8], is_raw: bool) -> Result<Option<UserV
     }
 }
 
-// What stands between the first byte and the last, which are a `"` each.
+// The text between the first byte and the last one, each of which is a `"`.
 fn between_ends(text: &[u8]) -> Option<&[u8]>
     ensures { option_copied result ≡ spec_parts.between_ends text.now }
 {
     text.strip_prefix(b"\"")?.strip_suffix(b"\"")
 }
 
-// The same, if it is not too long with escapes.
+// The same, if it is not too long with escapes added.
 fn raw_string(text: &[u8]) -> Option<&[u8]>
     ensures { option_copied result ≡ spec.raw_string text.now }
 {
@@ -146,7 +147,7 @@ fn escaped_value(alloc: Global, text: &[u8]) -> Result<Option<UserValue>, AllocE
     }
 }
 
-// What stands between the `"` that the text begins with and the one that closes it.
+// The text between the `"` at the start and the closing `"`.
 fn quoted(text: &[u8]) -> Option<&[u8]>
     ensures { option_map (λ raw. raw.now) result ≡ spec_parts.quoted text.now }
 {
@@ -156,7 +157,7 @@ fn quoted(text: &[u8]) -> Option<&[u8]>
     }
 }
 
-// What stands before the first `"` that no `\` takes away.
+// The text before the first `"` that is not escaped by a `\`.
 fn until_quote(body: &[u8]) -> Option<&[u8]>
     ensures { option_map (λ raw. raw.now) result ≡ spec.until_quote body.now }
 {

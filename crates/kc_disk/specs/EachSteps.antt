@@ -16,19 +16,19 @@ use Rattle.kc_language.specs.declared.outcome.Status.{Status}
 use Rattle.kc_language.specs.declared.outcome.Status.TheVariants as answered
 use Rattle.kc_disk.specs.Program.{AreListed, AreNames, GivesOptions, HasNoList, IsUnloaded, RunsEachIncluding}
 
--- the folder told of this list, or it cannot be read
+-- the folder holds this list, or it cannot be read
 abbrev pub ReadsList : List ℕ → Result (Vec (String Global) Global) LoadFault → Option FolderState → Option FolderState → Type 0
 ReadsList list (Ok names) old new =
     FolderLeads [] old new × ((bytes : List ℕ) × AnswersAs (files_told new) list (Some bytes) × IsUtf8 bytes × (map string_bytes names.items ≡ listed bytes))
 ReadsList list (Err (CannotRead name)) old new = HasNoList list old new × (name.items ≡ list)
 ReadsList list (Err Memory) old new = (failed : List (List ℕ)) × FolderLeads failed old new
 
--- the list of this name cannot be read, or there is no memory to say so
+-- the list of this name cannot be read, or there is not enough memory to report that
 abbrev pub IsUnreadable : List ℕ → LoadFault → Type 0
 IsUnreadable list (CannotRead name) = name.items ≡ list
 IsUnreadable list Memory = Unit {0}
 
--- the same of the list, where there is one
+-- the same for the list, if there is one
 abbrev pub ReadsListIf : Each → Result (Vec (String Global) Global) LoadFault → Option FolderState → Option FolderState → Type 0
 ReadsListIf each (Ok names) old new = FolderLeads [] old new × AreListed new each.list (map string_bytes names.items)
 ReadsListIf each (Err (CannotRead name)) old new = (file : String Global) × (each.list ≡ Some file) × HasNoList (string_bytes file) old new × (name.items ≡ string_bytes file)
@@ -40,7 +40,7 @@ FindsNames each (Ok names) old new = FolderLeads [] old new × AreNames each new
 FindsNames each (Err (CannotRead name)) old new = (file : String Global) × (each.list ≡ Some file) × HasNoList (string_bytes file) old new × (name.items ≡ string_bytes file)
 FindsNames each (Err Memory) old new = (failed : List (List ℕ)) × FolderLeads failed old new
 
--- the configurations of these names were run over the files of the folder, or these could not be loaded
+-- the configurations of these names were run over the files of the folder, or the files could not be loaded
 pub data RunsNamed (each : Each) (names : List (List ℕ)) (folder folder_after : Option FolderState) (old new : Log) (status : Status) : Type 0 where
   not_loaded : (fault : LoadFault) → IsUnloaded each fault folder folder_after → TriesToSay (load_line fault) old new → status ≡ answered.Faulted →
       RunsNamed each names folder folder_after old new status
@@ -49,7 +49,7 @@ pub data RunsNamed (each : Each) (names : List (List ℕ)) (folder folder_after 
   ran : (files : Files) → is_some each.options.include ≡ false → AreFilesOf (files_told folder_after) (string_bytes each.options.root) (string_bytes each.options.kconfig) each.options.is_flat files → FolderLeads [] folder folder_after →
       RunsEach files (string_bytes each.options.kconfig) (GivesOptions each names) (length names) old new status → RunsNamed each names folder folder_after old new status
 
--- the configurations of these names were run over files that were loaded, with the files that their input files include or without
+-- the configurations of these names were run over the loaded files, with or without files that their input files include
 pub data RunsLoaded (files : Files) (each : Each) (names : List (List ℕ)) (old new : Log) (status : Status) : Type 0 where
   with_included : is_some each.options.include ≡ true → RunsEachIncluding files each names status → RunsLoaded files each names old new status
   as_named : is_some each.options.include ≡ false → RunsEach files (string_bytes each.options.kconfig) (GivesOptions each names) (length names) old new status →

@@ -1,4 +1,4 @@
--- Trusted: How many reads of a file on a disk may give bytes.
+-- Trusted: The maximum number of reads of a file on a disk that return bytes.
 use Rattle.std.specs.Prelude.{ℕ, ◌^◌}
 
 abbrev pub most_reads : ℕ

@@ -1,4 +1,4 @@
--- For proofs: Parts of the definitions of Program, by names of their own.
+-- For proofs: Names for parts of the definitions of Program.
 use Rattle.kc_disk.specs.Program.{EndsUsage, SaysUsage}
 use Rattle.kc_io.specs.Log.{Log, is_whole_lines}
 use Rattle.kc_language.specs.declared.outcome.Status.{Status}

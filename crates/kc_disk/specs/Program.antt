@@ -1,5 +1,5 @@
 -- Trusted: What the program does with its arguments: a run, runs for many configurations, or a usage error; and the exit status (our own).
--- `folder` and `folder_after` are what the folder of the Kconfig files records before and after a run; `old` and `new` are the logs of the device.
+-- `folder` and `folder_after` are the records of the folder of the Kconfig files before and after a run; `old` and `new` are the logs of the device.
 use Rattle.std.specs.{Prelude.{◌≡◌, ◌≢◌, ◌⊎◌, ℕ, Bool, List, [], ◌∷◌, ◌++◌, true, if◌then◌else◌, Option, None, Some, option_map, Result, Ok, Err, String, codes, drop, false, is_some, length, map, slice_index_or, string_bytes}, Str.IsUtf8, IoError.error_kind, Vec.Iter.into_iter_items, declared.{alloc.Global.Global, io.{Error.Error, ErrorKind.TheVariants.OutOfMemory}, vec.IntoIter.IntoIter}}
 use Rattle.clap.specs.Words.{fault_of, takes}
 use Rattle.kc_language.specs.{Expansion.Files, Outcome.{Options, cannot_read_line, out_of_memory_line}, declared.outcome.Status.{Status, TheVariants.{Done, Refused, Usage, Faulted}}}
@@ -17,13 +17,14 @@ exit_status Usage = 2
 exit_status Faulted = 3
 
 -- ---- Usage errors
--- The status if the arguments ask for no run. Help and the version go to standard output; the status is a fault if it does not take them.
+-- The status if the arguments request no run. Help and the version go to standard output. If standard output does not take them, the status is
+-- `Faulted`.
 abbrev pub EndsUsage : UsageError → Status → Type 0
 EndsUsage (Bad text) status = status ≡ Usage
 EndsUsage Memory status = status ≡ Faulted
 EndsUsage _ status = (status ≡ Done) ⊎ (status ≡ Faulted)
 
--- A text is written to the diagnostics as whole lines, unless they fail. So an error is reported; help and the version are not diagnostics.
+-- A text is written to the diagnostics as whole lines, unless they fail. Errors are reported in this way; help and the version are not diagnostics.
 abbrev pub SaysText : List ℕ → Log → Log → Type 0
 SaysText text old new = TriesToSay (text ++ (if is_whole_lines text then [] else codes "\n")) old new
 
@@ -33,7 +34,7 @@ SaysUsage Memory old new = SaysText out_of_memory_line old new
 SaysUsage _ old new = new ≡ old
 
 -- ---- Many configurations
--- The configurations that the list names, if there is one. All configurations: those that the arguments name, and then those of the list.
+-- The configurations in the list, if there is one. All configurations: those in the arguments, then those in the list.
 abbrev pub AreListed : Option FolderState → Option (String Global) → List (List ℕ) → Type 0
 AreListed folder None names = names ≡ []
 AreListed folder (Some file) names =
@@ -49,15 +50,15 @@ abbrev pub GivesOptions : Each → List (List ℕ) → ℕ → Options → Type 
 GivesOptions each names i options = AreOptionsFor each (slice_index_or names i []) options
 
 -- ---- Input files that include others
--- With --include, input files are read at once and taken apart into pieces. A run reads these in place of the input files: the first is of the
--- `.config`, and the others stand for the fragments. All else that is asked of the run stays. What the pieces hold is not recorded.
+-- With --include, input files are read at once and split into pieces. A run reads these in place of the input files: the first piece is that of the
+-- `.config`, and the others replace the fragments. All other options stay. The content of the pieces is not recorded.
 abbrev pub IsPieced : Options → Options → Type 0
 IsPieced options pieced = pieced ≡ record options { fragments = pieced.fragments }
 
 abbrev pub GivesPieced : Each → List (List ℕ) → ℕ → Options → Type 0
 GivesPieced each names i pieced = (options : Options) × GivesOptions each names i options × IsPieced options pieced
 
--- There was no memory for the pieces; or it is a run over them.
+-- There was not enough memory for the pieces; or it is a run over them.
 pub data RunsIncluding (options : Options) (folder folder_after : Option FolderState) (status : Status) : Type 0 where
   no_pieces : folder_after ≡ folder → status ≡ Faulted → RunsIncluding options folder folder_after status
   ran_pieces : (pieced : Options) → IsPieced options pieced → FolderRuns pieced folder folder_after None None status →
@@ -68,7 +69,7 @@ pub data RunsEachIncluding (files : Files) (each : Each) (names : List (List ℕ
   ran_each : RunsEach files (string_bytes each.options.kconfig) (GivesPieced each names) (length names) None None status →
       RunsEachIncluding files each names status
 
--- The list cannot be read: the folder failed at its path, or there is no such file, or it is not UTF-8.
+-- The list cannot be read: the folder failed at its path, the file does not exist, or it is not UTF-8.
 pub data HasNoList (list : List ℕ) (folder folder_after : Option FolderState) : Type 0 where
   failing : FolderLeads (list ∷ []) folder folder_after → HasNoList list folder folder_after
   absent : FolderLeads [] folder folder_after → AnswersAs (files_told folder_after) list None → HasNoList list folder folder_after
@@ -86,8 +87,8 @@ pub record IsUnloaded (each : Each) (fault : LoadFault) (folder folder_after : O
   pub cause : IsLoadFault (files_told folder_after) (string_bytes each.options.root) (string_bytes each.options.kconfig) fault
   pub leads : FolderLeads (failed_load {A = Unit {0}} (string_bytes each.options.root) (Err fault)) folder folder_after
 
--- A run for many configurations. If the list cannot be read, the configurations share files, or the tree cannot be loaded, that is reported
--- and nothing else is done.
+-- A run for many configurations. If the list cannot be read, the configurations share files, or the tree cannot be loaded, that is reported and
+-- nothing else is done.
 module _ (each : Each) (folder folder_after : Option FolderState) (old new : Log) (status : Status) where
   pub data FolderRunsEach : Type 0 where
     unlisted : (line : List ℕ) → IsUnlisted each folder folder_after line → TriesToSay line old new → status ≡ Faulted → FolderRunsEach
@@ -102,8 +103,8 @@ module _ (each : Each) (folder folder_after : Option FolderState) (old new : Log
         AreApart each names → AreFilesOf (files_told folder_after) (string_bytes each.options.root) (string_bytes each.options.kconfig) each.options.is_flat files → FolderLeads [] folder folder_after →
         RunsEach files (string_bytes each.options.kconfig) (GivesOptions each names) (length names) old new status → FolderRunsEach
 
--- What such a run leaves in the files. It ends before the first configuration and changes no file; or it leaves what each configuration
--- leaves of the files as they were before the run. (What the pieces hold is not recorded, so nothing is said of a run with --include.)
+-- What such a run leaves in the files. It ends before the first configuration and changes no file; or it leaves what each configuration leaves for
+-- the files as they were before the run. (The content of pieces is not recorded, so nothing is specified for a run with --include.)
 pub data FolderLeavesEach (each : Each) (folder_after : Option FolderState) (before after : Journal) (status : Status) : Type 0 where
   ends_before : ((name : List ℕ) → held after name ≡ held before name) → FolderLeavesEach each folder_after before after status
   includes : is_some each.options.include ≡ true → FolderLeavesEach each folder_after before after status
@@ -112,24 +113,23 @@ pub data FolderLeavesEach (each : Each) (folder_after : Option FolderState) (bef
       LeavesEach files (string_bytes each.options.kconfig) (GivesOptions each names) (length names) before after status →
       FolderLeavesEach each folder_after before after status
 
--- The law that each run for many configurations does so, over a device that records.
+-- The law that each run for many configurations does so, with a device that records.
 abbrev pub NamedStandApart : Type 0
 NamedStandApart = (each : Each) (folder folder_after : Option FolderState) (before after : Journal) (status : Status) →
     FolderRunsEach each folder folder_after (Some before) (Some after) status → FolderLeavesEach each folder_after before after status
 
 -- ---- The program
--- The arguments ask for this: clap finds no fault, they do not exclude each other, and the options are what they give.
+-- The arguments request this: clap accepts them, they do not exclude each other, and the options are theirs.
 pub record GiveRequest (arguments : List (String Global)) (request : Request) : Type 0 where
   pub faultless : fault_of kconf_app (arguments_of arguments) ≡ []
   pub fields : IsRequestOf (rows_for arguments) request
 
--- The arguments ask for no run, for this cause. If clap takes them and there is no error for them, the only cause is to
--- be out of memory.
+-- The arguments request no run, for this reason. If clap accepts them and there is no error of ours, the only reason is out of memory.
 abbrev pub GiveNone : List (String Global) → UsageError → Type 0
 GiveNone arguments usage = IsRefused (fault_of kconf_app (arguments_of arguments)) (rows_for arguments) usage
     × (takes kconf_app (arguments_of arguments) ≡ true → refusal_of (rows_for arguments) ≡ None → usage ≡ Memory)
 
--- A run for one configuration, where files may be included or not.
+-- A run for one configuration, with or without included files.
 abbrev pub EndsOne : Bool → Options → Option FolderState → Option FolderState → Log → Log → Status → Type 0
 EndsOne true options folder folder_after old new status = RunsIncluding options folder folder_after status
 EndsOne false options folder folder_after old new status = FolderRuns options folder folder_after old new status
@@ -139,14 +139,14 @@ abbrev pub EndsAsked : Request → Option FolderState → Option FolderState →
 EndsAsked (One options) folder folder_after old new status = EndsOne (is_some options.include) options folder folder_after old new status
 EndsAsked (Many each) folder folder_after old new status = FolderRunsEach each folder folder_after old new status
 
--- What is done with arguments that were read: the run that they ask for; or the cause is reported, and nothing else is done.
+-- What is done with the arguments: the requested run; or the error is reported, and nothing else is done.
 module _ (arguments : List (String Global)) (folder folder_after : Option FolderState) (old new : Log) (status : Status) where
   pub data AnswersArguments : Type 0 where
     runs : (r : Request) → GiveRequest arguments r → EndsAsked r folder folder_after old new status → AnswersArguments
     none : (usage : UsageError) → GiveNone arguments usage → EndsUsage usage status → SaysUsage usage old new → folder_after ≡ folder →
         AnswersArguments
 
--- The arguments of a process, of which the first is the program's name and is left out. They are unread if one is not UTF-8, or memory ran out.
+-- The arguments of a process, without the first, the program's name. They are unread if one is not UTF-8, or memory ran out.
 abbrev pub AreArgumentsOf : Result (IntoIter (String Global) Global) Error → Arguments → Type 0
 AreArgumentsOf (Ok words) (Given arguments) = arguments.items ≡ drop 1 (into_iter_items words)
 AreArgumentsOf (Ok words) (Unread usage) = usage ≡ Memory
@@ -155,7 +155,7 @@ AreArgumentsOf (Err error) (Unread (Bad text)) =
     (error_kind error ≢ OutOfMemory) × (string_bytes text ≡ with_hint (codes "error: invalid UTF-8 was detected in one or more arguments"))
 AreArgumentsOf (Err error) _ = ⊥
 
--- The arguments again; or they ask to write the full `.config` where it is read, which is a pipe, a terminal or the like.
+-- The arguments again; or they request to write the full `.config` where it is read, and that is a pipe, a terminal or the like.
 abbrev pub needs_out_text : List ℕ
 needs_out_text = with_hint (codes "error: the argument '--config <FILE>' needs '--out <FILE>' where FILE is no regular file")
 

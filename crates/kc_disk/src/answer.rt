@@ -1,4 +1,4 @@
-//! What arguments ask for, done.
+//! Does what arguments request.
 ghost use Rattle.std.specs.Prelude.{◌≡◌};
 ghost use Rattle.kc_disk.specs.Program.{AnswersArguments, EndsAsked, KconfEnds, EndsUsage, SaysUsage};
 ghost use Rattle.kc_words.specs.declared.options.Request.TheVariants.{One};
@@ -12,8 +12,8 @@ use kc_io::Device;
 use kc_load::Folder;
 use kc_words::{Request, UsageError, request_of};
 
-// Prints what the arguments ask for, to standard output, or says what is wrong with them. If standard output does not take all of
-// it, that is a fault.
+// Prints help or the version to standard output, or reports the error. Returns `Faulted` if standard output does not
+// take all of it.
 fn print_usage<D: Device>(rt: &HostRuntime, device: &mut D, usage: &UsageError) -> Status
     ensures status { EndsUsage usage.now result }
     ensures says { SaysUsage usage.now (D.log device.old) (D.log device.new) }
@@ -46,7 +46,7 @@ fn answer_one<F: Folder, D: Device>(
     run_in_folder(rt.alloc(), folder, &options, device, kept)
 }
 
-// Does what arguments that were read ask for.
+// Does what the arguments request.
 fn answer_given<F: Folder, D: Device>(
     rt: &HostRuntime,
     arguments: &[String],
@@ -63,7 +63,7 @@ fn answer_given<F: Folder, D: Device>(
     }
 }
 
-/// Does what the arguments ask for, or says why they could not be read.
+/// Does what the arguments request, or reports why they could not be read.
 pub(crate) fn answer<F: Folder, D: Device>(
     rt: &HostRuntime,
     arguments: &Arguments,

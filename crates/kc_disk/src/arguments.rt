@@ -1,4 +1,4 @@
-//! The arguments that the process was started with.
+//! The arguments of the process.
 ghost use Rattle.std.specs.Prelude.{◌≡◌, drop, option_map, string_bytes, true, IfOk, Some};
 ghost use Rattle.std.specs.Vec.Iter.{into_iter_items};
 ghost use Rattle.kc_disk.specs.Program.{AreArgumentsOf, AreChecked, IsNeedsOut, WritesWhereItReads};
@@ -11,17 +11,17 @@ use std::alloc::{AllocError, Global};
 use std::env::Args;
 use std::io::{self, Error, ErrorKind};
 
-/// The arguments of a process behind the program's name (our own).
+/// The arguments of a process after the program's name (our own).
 #[derive(Drop)]
 pub enum Arguments {
     /// They were read.
     Given(Vec<String>),
-    /// One of them is not UTF-8, which is a bad command line; or there was no memory for them.
+    /// One of them is not UTF-8, which is a usage error; or there was not enough memory for them.
     Unread(UsageError),
 }
 
 impl Arguments {
-    /// Takes the words that a process was started with, as `env::args` gives them. The first of them is the program's name.
+    /// Takes the arguments of a process, as `env::args` gives them. The first of them is the program's name.
     pub fn of(alloc: Global, words: io::Result<Args>) -> Arguments
         ensures { AreArgumentsOf words result }
     {
@@ -34,8 +34,8 @@ impl Arguments {
         }
     }
 
-    /// Returns the arguments, unless they ask to write the full `.config` where it is read, and that is a pipe or a terminal: this is a
-    /// bad command line.
+    /// Returns the arguments. If they request to write the full `.config` where it is read, and that is a pipe or a
+    /// terminal, returns a usage error.
     pub fn checked(self, rt: &HostRuntime) -> Arguments
         ensures { AreChecked self result }
     {
@@ -52,11 +52,11 @@ impl Arguments {
     }
 }
 
-// What is told of a `.config` that is read from a pipe, and of no other file to write it to.
+// The error if the `.config` is read from a pipe, and there is no other file to write it to.
 const NEEDS_OUT: &str =
     "error: the argument '--config <FILE>' needs '--out <FILE>' where FILE is no regular file\n\nFor more information, try '--help'.\n";
 
-// That the `.config` is read from a pipe, and no other file is named to write it to.
+// Returns the error that the `.config` is read from a pipe, and there is no other file to write it to.
 fn needs_out(alloc: Global) -> UsageError
     ensures { IsNeedsOut result }
 {
@@ -66,7 +66,8 @@ fn needs_out(alloc: Global) -> UsageError
     }
 }
 
-// Whether a word may name a `.config` that is a pipe or a terminal: the one behind `--config`, or what stands behind its `=`.
+// Whether an argument may name a `.config` that is a pipe or a terminal: the one after `--config`, or the text after
+// its `=`.
 fn may_have_no_place(rt: &HostRuntime, arguments: &[String]) -> bool {
     let mut is_next = false;
     for argument in arguments {
@@ -85,7 +86,7 @@ fn may_have_no_place(rt: &HostRuntime, arguments: &[String]) -> bool {
     false
 }
 
-// Whether the full `.config` goes to the file that it is read from.
+// Whether the full `.config` is written to the file from which it is read.
 fn is_written_in_place(options: &Options) -> bool
     ensures { result ≡ true → option_map string_bytes options.now.out ≡ Some (string_bytes options.now.config) }
 {
@@ -95,7 +96,7 @@ fn is_written_in_place(options: &Options) -> bool
     }
 }
 
-// Whether the arguments ask to write the full `.config` where it is read, and that is no place for a text.
+// Whether the arguments request to write the full `.config` where it is read, and no text can be stored there.
 fn writes_where_it_reads(rt: &HostRuntime, arguments: &[String]) -> bool
     ensures { result ≡ true → WritesWhereItReads arguments.now }
 {
@@ -113,11 +114,11 @@ fn writes_where_it_reads(rt: &HostRuntime, arguments: &[String]) -> bool
     }
 }
 
-// What is told of words of which one is no text.
+// The error if an argument is not UTF-8.
 const NO_TEXT: &str =
     "error: invalid UTF-8 was detected in one or more arguments\n\nFor more information, try '--help'.\n";
 
-// All words but the first one, the program's name.
+// All arguments except for the first, the program's name.
 fn after_name(alloc: Global, mut words: Args) -> Result<Vec<String>, AllocError>
     ensures { IfOk result (λ arguments. arguments.items ≡ drop 1 (into_iter_items words)) }
 {
@@ -129,7 +130,7 @@ fn after_name(alloc: Global, mut words: Args) -> Result<Vec<String>, AllocError>
     Ok(arguments)
 }
 
-// Why there are no options where the words of the process could not be read: one that is not UTF-8 is a bad command line.
+// Why the arguments could not be read: one that is not UTF-8 is a usage error.
 fn unread(alloc: Global, error: &Error) -> UsageError
     ensures { AreUnread error.now result }
 {

@@ -1,25 +1,25 @@
-//! Where the text of a name goes.
+//! The destination of a text.
 use std::fs::{self, File, Metadata, OpenOptions};
 use std::io::{self, ErrorKind};
 use std::os::unix::fs::{MetadataExt, OpenOptionsExt};
 use std::path::{Path, PathBuf};
 
-// A name that leads over more links than these leads nowhere.
+// The maximum number of links that are followed for a name.
 const MOST_LINKS: usize = 40;
 
-// How often a name is followed that changes meanwhile.
+// How often a name is followed again because it changed.
 const MOST_TRIES: usize = 100;
 
-/// Where the text of a name goes.
+/// The destination of a text.
 #[derive(Drop)]
 pub(crate) enum Destination {
-    /// To a regular file, which is there.
+    /// A regular file, which exists.
     Taken(PathBuf, Metadata),
-    /// To a place where no file is.
+    /// A path without a file.
     Free(PathBuf),
-    /// To a place where no file is, at the end of links.
+    /// A path without a file, at the end of links.
     FreeBehindLinks(PathBuf),
-    /// To what is written as it stands: no regular file, or one that the system shows below `/proc`, as a descriptor.
+    /// A file that is written in place: not a regular file, or one below `/proc`, such as a descriptor.
     AsItStands(Metadata),
 }
 
@@ -28,17 +28,17 @@ pub(crate) fn is_same_file(one: &Metadata, other: &Metadata) -> bool {
     one.dev() == other.dev() && one.ino() == other.ino()
 }
 
-/// Returns the error of a file that is another one than before.
+/// Returns the error that another file is there now.
 pub(crate) fn changed() -> io::Error {
     io::Error::from(ErrorKind::StaleNetworkFileHandle)
 }
 
-// Who may open a file that a run makes only because what it found under the name is gone.
+// The mode of a new file that is created only because the file found under the name is gone.
 const PRIVATE_MODE: u32 = 0o600;
 
-/// Opens what was found under a name to write it anew. It asks the system to make the file if it is gone, as each run does that
-/// replaces nothing: only then the system's rules for files of others in sticky folders count (`protected_regular` and
-/// `protected_fifos`).
+/// Opens the file found under a name to overwrite it. Lets the system create the file if it is gone, as every run
+/// without `--replace` does: only then the system's rules for files of others in sticky folders apply
+/// (`protected_regular` and `protected_fifos`).
 ///
 /// # Errors
 ///
@@ -60,7 +60,7 @@ pub(crate) fn open_found(rt: &HostRuntime, name: &str, found: &Metadata) -> io::
     Ok(file)
 }
 
-// Nothing, if there is no file.
+// None if the file does not exist.
 fn if_there(found: io::Result<Metadata>) -> io::Result<Option<Metadata>> {
     match found {
         Ok(found) => Ok(Some(found)),
@@ -69,19 +69,19 @@ fn if_there(found: io::Result<Metadata>) -> io::Result<Option<Metadata>> {
     }
 }
 
-// What lies at the path: it may be a link.
+// The file at the path, which may be a link.
 #[inline(never)]
 fn looked_at(rt: &HostRuntime, path: &PathBuf) -> io::Result<Option<Metadata>> {
     if_there(fs::symlink_metadata(rt, path.as_path()))
 }
 
-// What the system finds behind the links of a name.
+// The file that the system finds after following the links of a name.
 #[inline(never)]
 fn followed(rt: &HostRuntime, name: &str) -> io::Result<Option<Metadata>> {
     if_there(fs::metadata(rt, name))
 }
 
-// What the link at the path leads to. If that begins with no slash, it is in the link's folder.
+// The target of the link at the path. If it is relative, it is in the link's folder.
 #[inline(never)]
 fn target_of(rt: &HostRuntime, path: &PathBuf) -> io::Result<PathBuf> {
     let target = fs::read_link(rt, path.as_path())?;
@@ -91,7 +91,7 @@ fn target_of(rt: &HostRuntime, path: &PathBuf) -> io::Result<PathBuf> {
     }
 }
 
-// Whether this lies on the file system of `/proc`.
+// Whether the file is on the file system of `/proc`.
 #[inline(never)]
 fn is_below_proc(rt: &HostRuntime, found: &Metadata) -> bool {
     match fs::symlink_metadata(rt, "/proc/self") {
@@ -100,7 +100,7 @@ fn is_below_proc(rt: &HostRuntime, found: &Metadata) -> bool {
     }
 }
 
-// Where a text goes whose place is free: a path that ends in a slash is none of a file.
+// The destination if there is no file: a path that ends in a slash is not a file's path.
 fn free(path: PathBuf, is_linked: bool) -> io::Result<Destination> {
     let text = path.as_path().as_str();
     if text.is_empty() || text.ends_with("/") {
@@ -113,7 +113,7 @@ fn free(path: PathBuf, is_linked: bool) -> io::Result<Destination> {
     }
 }
 
-// Where a text goes at whose place this was found, which is no link.
+// The destination if this file was found there, which is not a link.
 fn taken(rt: &HostRuntime, path: PathBuf, found: Metadata) -> Destination {
     if found.is_file() && !is_below_proc(rt, &found) {
         Destination::Taken(path, found)
@@ -122,8 +122,8 @@ fn taken(rt: &HostRuntime, path: PathBuf, found: Metadata) -> Destination {
     }
 }
 
-// The end of the links from this path on, and what lies there. It ends early at a link below `/proc`: that may lead to a file
-// without a path.
+// The end of the links from this path on, and the file there. It stops at a link below `/proc`, which may lead to a
+// file without a path.
 fn end_of_links(
     rt: &HostRuntime,
     start: PathBuf,
@@ -142,8 +142,8 @@ fn end_of_links(
     Err(io::Error::from(ErrorKind::FilesystemLoop))
 }
 
-// Where a text goes whose name is a link, or nothing where another file came to lie there meanwhile. The system follows the links
-// first, by its own rules (`protected_symlinks`): what it finds is what has to lie at their end.
+// The destination of a name that is a link; None if the file there changed meanwhile. The system follows the links
+// first, by its own rules (`protected_symlinks`): the file that it finds must be the one at their end.
 fn behind_links(
     rt: &HostRuntime,
     name: &str,
@@ -168,11 +168,12 @@ fn behind_links(
     }
 }
 
-/// Returns where a text of this name goes: to the end of its links, if the system follows them.
+/// Returns the destination of a name: the end of its links, if the system follows them.
 ///
 /// # Errors
 ///
-/// Fails if the system refuses to follow a link or to look at a file, if links have no end, and if the name is none of a file.
+/// Fails if the system refuses to follow a link or to look at a file, if links have no end, and if the name cannot be a
+/// file's.
 pub(crate) fn destination_of(rt: &HostRuntime, name: &str) -> io::Result<Destination> {
     for _ in 0..MOST_TRIES {
         let path = Path::new(name).to_path_buf(rt.alloc())?;

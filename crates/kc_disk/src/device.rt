@@ -1,4 +1,4 @@
-//! The calls of the system that read files, make them and write diagnostics.
+//! The system calls that read files, create them and write diagnostics.
 ghost use Rattle.std.specs.Prelude.{◌≡◌, ◌≤◌, ◌-◌, None, length, IfOk};
 ghost use Rattle.kc_disk.specs.Limits.{most_reads};
 
@@ -18,64 +18,64 @@ use std::fs::{File, Metadata};
 use std::io::{self, ErrorKind, IsTerminal, Read, Write};
 use std::mem;
 
-/// How many reads that give bytes there may be: a file that gives more has no end.
+/// The maximum number of reads that return bytes. A file that gives more is endless.
 const MOST_READS: u64 = 1 << 63;
 
-/// The name of standard output: a text of this name goes there.
+/// The name of standard output, to which a text of this name is written.
 const STANDARD_OUTPUT: &str = "/dev/stdout";
 
-/// The only name that may be read and written, though no regular file is there.
+/// The only name that may be both read and written without being a regular file.
 const NULL: &str = "/dev/null";
 
-// Where the text goes that is written.
+// Where the text is written.
 #[derive(Drop)]
 enum Writing {
     // Nowhere.
     Nothing,
-    // To standard output, as it is.
+    // To standard output, if it is a terminal.
     StandardOutput,
     // To standard output, which is a terminal.
     StandardTerminal,
     // To this terminal.
     Terminal(File),
-    // To this file, which stands at its place.
+    // To this file, in place.
     InPlace(File),
-    // To this file, which is to be moved there.
+    // To this temporary file, which is moved to its destination.
     Beside(TemporaryFile),
 }
 
-/// The files of a disk and the diagnostics of the process (our own). It tells nothing.
+/// The files of a disk and the diagnostics of the process (our own). It records nothing.
 ///
-/// The destination of a text that replaces another is the end of the links of its name, if the system follows them. A temporary file
-/// stands in the same folder, as `.kconf-N` with the next N from 0 on that is free. Only its owner may open it until it has the
-/// permissions of the file that it replaces. What is no regular file, or lies below `/proc` as a descriptor does, takes its text at
-/// once and is not moved.
+/// With `--replace` the destination of a text is the end of the links of its name, if the system follows them. The
+/// temporary file is in the same folder, as `.kconf-N` with the next free N, starting at 0. Only its owner may open it
+/// until it gets the permissions of the file that it replaces. A file that is not regular, or is below `/proc` like a
+/// descriptor, is written at once and not replaced.
 ///
-/// A text that replaces nothing and whose name is exactly `/dev/stdout` goes to standard output as the process has it, which is not
-/// opened anew: a file to which the output is appended keeps what it holds.
+/// Without `--replace` a text named exactly `/dev/stdout` goes to the standard output of the process, which is not
+/// opened again: a file to which the output is appended keeps its content.
 #[derive(Drop)]
 pub struct SystemDevice<'a> {
     rt: &'a HostRuntime,
     diagnostics: Diagnostics<'a>,
-    // How the diagnostics are shown.
+    // How diagnostics are printed.
     showing: Showing,
-    // Why the system refused what failed last, for a hint.
+    // The system's reason for the last failure, for a hint.
     reason: &'static str,
-    // The difference of the file that was compared last, which follows the next diagnostic.
+    // The difference of the last file that was compared, printed after the next diagnostic.
     difference: Cell<Option<Vec<u8>>>,
-    // What waits for the facts of its hints, if anything may.
+    // The diagnostics that wait for the facts of their hints, if any may wait.
     held: Option<Held>,
-    // The file that is read.
+    // The file that is being read.
     reading: Option<File>,
-    // The names that were read though no regular file is there. No text goes to such a name.
+    // The names that were read and are not regular files. No text is written to such a name.
     special: Vec<String>,
-    // How many reads gave bytes.
+    // The number of reads that returned bytes.
     reads: u64,
-    // Where the text goes that is written.
+    // Where the text is written.
     writing: Writing,
-    // Those that are whole, in the order in which they take their places.
+    // The complete temporary files, in the order in which they are moved.
     whole: Vec<Option<TemporaryFile>>,
-    // How many names of temporary files were tried since there was none.
+    // The number of tried names of temporary files since there was no temporary file.
     tried: usize,
 }
 
@@ -97,33 +97,33 @@ impl<'a> SystemDevice<'a> {
         }
     }
 
-    /// Makes one that writes diagnostics to standard error. Make it before you open any file: if standard error was closed
-    /// then, each diagnostic fails.
+    /// Returns a device that writes diagnostics to standard error. Call this before you open any file: if standard
+    /// error is closed, each diagnostic fails.
     pub fn new(rt: &'a HostRuntime) -> SystemDevice<'a> {
         SystemDevice::with(rt, Diagnostics::of_process(rt))
     }
 
-    /// Makes one that keeps the diagnostics in memory, for `into_diagnostics`.
+    /// Returns a device that keeps the diagnostics in memory, for `into_diagnostics`.
     pub fn keeping(rt: &'a HostRuntime) -> SystemDevice<'a> {
         SystemDevice::with(rt, Diagnostics::keeping(rt))
     }
 
-    /// Shows the diagnostics from now on in this way.
+    /// Sets how diagnostics are printed from now on.
     pub fn show(&mut self, showing: Showing) {
         self.showing = showing;
     }
 
-    /// Holds diagnostics back from now on: from the first one on whose hint may begin with a fact, until `take_held`.
+    /// Holds diagnostics back from now on: from the first one whose hint may start with a fact, until `take_held`.
     pub(crate) fn hold(&mut self) {
         self.held = Some(Held::new(self.rt.alloc()));
     }
 
-    /// Returns what was held back, if something was to be. Nothing is held back from now on.
+    /// Returns what was held back, if holding back was on, and turns it off.
     pub(crate) fn take_held(&mut self) -> Option<Held> {
         mem::replace(&mut self.held, None)
     }
 
-    // The diagnostics of these parts, with what belongs to them.
+    // The report of these parts, with its reason and difference.
     fn report_of(&self, parts: &[&[u8]]) -> Result<Report, AllocError> {
         let mut text = Vec::new(self.rt.alloc());
         for part in parts {
@@ -136,7 +136,7 @@ impl<'a> SystemDevice<'a> {
         })
     }
 
-    /// Writes reports as they are shown with these facts.
+    /// Writes reports in their printed form, with these facts.
     ///
     /// # Errors
     ///
@@ -149,7 +149,7 @@ impl<'a> SystemDevice<'a> {
         write_all(self.rt, self.showing, &mut self.diagnostics, reports, facts)
     }
 
-    // Writes what is held back, without facts.
+    // Writes the held back reports, without facts.
     fn let_go(&mut self) -> io::Result<()>
         ensures { self.new.reads ≡ self.old.reads }
     {
@@ -168,7 +168,7 @@ impl<'a> SystemDevice<'a> {
         }
     }
 
-    // Holds a report back. Gives it back if it need not wait, or if there is no memory.
+    // Holds a report back. Returns it if it need not wait, or if there is not enough memory.
     fn hold_back(&mut self, report: Report) -> Option<Report>
         ensures { self.new.reads ≡ self.old.reads }
     {
@@ -178,7 +178,7 @@ impl<'a> SystemDevice<'a> {
         }
     }
 
-    // Writes a report without facts, behind what is held back.
+    // Writes a report without facts, after the held back ones.
     fn write_now(&mut self, report: &Report) -> io::Result<()>
         ensures { self.new.reads ≡ self.old.reads }
     {
@@ -192,7 +192,7 @@ impl<'a> SystemDevice<'a> {
         )
     }
 
-    // Writes parts as they are, behind what is held back.
+    // Writes parts unchanged, after the held back reports.
     fn write_plain(&mut self, parts: &[&[u8]]) -> io::Result<()>
         ensures { self.new.reads ≡ self.old.reads }
     {
@@ -200,7 +200,7 @@ impl<'a> SystemDevice<'a> {
         self.diagnostics.write_parts(parts)
     }
 
-    // Writes the diagnostics as they are shown, or holds them back.
+    // Writes the diagnostics in their printed form, or holds them back.
     fn tell(&mut self, parts: &[&[u8]]) -> io::Result<()>
         ensures { self.new.reads ≡ self.old.reads }
     {
@@ -213,14 +213,14 @@ impl<'a> SystemDevice<'a> {
         }
     }
 
-    // Keeps the file of this name, if its lines may be asked for.
+    // Keeps the file of this name, if hints may need its lines.
     fn keep_input(&mut self, name: &str) {
         if let Some(held) = &mut self.held {
             held.begin_input(self.rt.alloc(), name);
         }
     }
 
-    // Keeps bytes of the file that is read.
+    // Keeps bytes of the file that is being read.
     fn keep_bytes(&mut self, bytes: &[u8])
         ensures { self.new.reads ≡ self.old.reads }
     {
@@ -229,7 +229,8 @@ impl<'a> SystemDevice<'a> {
         }
     }
 
-    // Keeps how the file at this path differs from these bytes. Without memory for it, or if the file cannot be read, nothing is kept.
+    // Keeps the difference of the file at this path and these bytes. Keeps nothing if there is not enough memory, or if
+    // the file cannot be read.
     fn keep_difference(&self, name: &str, path: &str, found: &Metadata, bytes: &[u8]) {
         let kept = match bytes_of(self.rt, path, found) {
             Ok(held) => difference(self.rt.alloc(), name, &held, bytes).ok(),
@@ -238,7 +239,7 @@ impl<'a> SystemDevice<'a> {
         self.difference.set(kept);
     }
 
-    // The answer to what the system answered, whose reason is kept for a hint.
+    // The result of a system call as a device's result. Keeps the reason of an error for a hint.
     fn answer(&mut self, done: io::Result<()>) -> Result<(), Fault> {
         match done {
             Ok(()) => Ok(()),
@@ -246,19 +247,19 @@ impl<'a> SystemDevice<'a> {
         }
     }
 
-    // The fault of an error, whose reason is kept for a hint.
+    // The fault of an error. Keeps its reason for a hint.
     fn fault(&mut self, error: &io::Error) -> Fault {
         self.reason = reason_of(error);
         fault_of(error)
     }
 
-    /// Returns the diagnostics that were kept: none, if they went to standard error.
+    /// Returns the diagnostics that were kept; empty if they went to standard error.
     pub fn into_diagnostics(self) -> Vec<u8> {
         let SystemDevice { diagnostics, .. } = self;
         diagnostics.into_kept()
     }
 
-    // Opens an input file, whose name is kept if it is no regular one.
+    // Opens an input file. Keeps its name if it is not a regular file.
     fn open_input(&mut self, name: &str) -> io::Result<()> {
         let (file, opened) = open_to_read(self.rt, name, Devices::NullAndTerminals)?;
         if !opened.is_file() && name != NULL {
@@ -269,7 +270,7 @@ impl<'a> SystemDevice<'a> {
         Ok(())
     }
 
-    // Makes an empty file: at its place, or beside it. Standard output is there and keeps what it holds.
+    // Creates an empty file, in place or as a temporary file. Standard output exists already and keeps its content.
     fn make(&mut self, site: Site, name: &str) -> io::Result<()> {
         if self.special.iter().any(|read| read.as_str() == name) {
             return Err(io::Error::from(ErrorKind::InvalidInput));
@@ -286,7 +287,7 @@ impl<'a> SystemDevice<'a> {
         Ok(())
     }
 
-    // Closes the file that is written. One that is to be moved has its permissions then, and is on the disk.
+    // Closes the file that is written. A temporary file then has its permissions, and is on the disk.
     fn finish(&mut self, site: Site) -> io::Result<()> {
         if let Site::Place = site {
             self.writing = Writing::Nothing;
@@ -304,14 +305,14 @@ impl<'a> SystemDevice<'a> {
         Ok(())
     }
 
-    // If no temporary file is left, all their names are free again.
+    // Tries all names again once no temporary file is left.
     fn try_names_anew(&mut self) {
         if self.whole.is_empty() {
             self.tried = 0;
         }
     }
 
-    // Moves the first of the whole files to its place.
+    // Moves the first of the complete files to its destination.
     fn move_first(&mut self) -> io::Result<()> {
         if let Some(Some(temporary)) = self.whole.first() {
             move_to_place(self.rt, temporary)?;
@@ -324,7 +325,7 @@ impl<'a> SystemDevice<'a> {
     }
 }
 
-// Writes a report as it is shown with these facts, or as it is if there is no memory for that.
+// Writes a report in its printed form with these facts, or unchanged if there is not enough memory.
 fn write_report(
     rt: &HostRuntime,
     showing: Showing,
@@ -352,13 +353,13 @@ fn write_all(
     Ok(())
 }
 
-// Empties the file of this name, or makes it.
+// Empties the file of this name, or creates it.
 #[inline(never)]
 fn create(rt: &HostRuntime, name: &str) -> io::Result<File> {
     File::create(rt, name)
 }
 
-// Where a text for a file goes that is written where it stands.
+// The target of a text that is written in place.
 fn in_place(file: File) -> Writing {
     if file.is_terminal() {
         Writing::Terminal(file)
@@ -367,7 +368,7 @@ fn in_place(file: File) -> Writing {
     }
 }
 
-// Where a text for standard output goes.
+// The target of a text for standard output.
 fn standard_output(rt: &HostRuntime) -> Writing {
     if rt.stdout().is_terminal() {
         Writing::StandardTerminal
@@ -376,7 +377,7 @@ fn standard_output(rt: &HostRuntime) -> Writing {
     }
 }
 
-// Reads on in the open file, which is closed at its end.
+// Reads on in the open file, and closes it at its end.
 fn read_on(reading: &mut Option<File>, buffer: &mut [u8]) -> io::Result<usize>
     ensures { IfOk result (λ count. count ≤ length buffer.old) }
 {
@@ -390,7 +391,7 @@ fn read_on(reading: &mut Option<File>, buffer: &mut [u8]) -> io::Result<usize>
     Ok(count)
 }
 
-// Writes bytes where they go, and answers how many were taken. Standard output takes all.
+// Writes bytes to their target, and returns how many were taken. Standard output takes all.
 fn write_on(rt: &HostRuntime, writing: &mut Writing, bytes: &[u8]) -> io::Result<usize>
     ensures { IfOk result (λ count. count ≤ length bytes.now) }
 {
@@ -422,7 +423,7 @@ fn fault_of(error: &io::Error) -> Fault {
     }
 }
 
-// Why the system refused something, for a hint.
+// The system's reason for an error, for a hint.
 fn reason_of(error: &io::Error) -> &'static str {
     match error.kind() {
         ErrorKind::NotFound => "there is no such file or folder; ",
@@ -435,7 +436,7 @@ fn reason_of(error: &io::Error) -> &'static str {
     }
 }
 
-// The answer of a device to what the system answered.
+// The result of a system call as a device's result.
 fn answer(done: io::Result<()>) -> Result<(), Fault> {
     match done {
         Ok(()) => Ok(()),

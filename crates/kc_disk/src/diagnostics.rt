@@ -1,21 +1,21 @@
-//! Where the diagnostics go.
+//! The target of the diagnostics.
 use crate::terminal::show;
 use std::io::{self, IsTerminal, Write};
 use std::os::fd::AsFd;
 
-// What the system answers if a descriptor is not open.
+// The error number of the system for a descriptor that is not open.
 const NOT_OPEN: i32 = 9;
 
-// How many bytes of lines that come in parts are written at once.
+// How many bytes of lines in parts are written at once.
 const ROOM: usize = 65_536;
 
-// Where the diagnostics go.
+// The target of the diagnostics.
 #[derive(Drop)]
 enum Destination {
     StandardError,
     // Standard error is a terminal.
     Terminal,
-    // Standard error was closed from the start: its descriptor may be that of a file that was opened since.
+    // Standard error was closed at the start: its descriptor may now be that of another file.
     Closed,
     Kept(Vec<u8>),
 }
@@ -25,12 +25,12 @@ enum Destination {
 pub(crate) struct Diagnostics<'a> {
     rt: &'a HostRuntime,
     destination: Destination,
-    // The parts of the lines that are written next, one behind another.
+    // The parts of the next lines, joined.
     joined: Vec<u8>,
 }
 
 impl<'a> Diagnostics<'a> {
-    // Without memory for it there is no room to join parts.
+    // If there is not enough memory, parts are not joined.
     fn new(rt: &'a HostRuntime, destination: Destination) -> Diagnostics<'a> {
         let mut joined = Vec::new(rt.alloc());
         let _ = joined.reserve(ROOM);
@@ -41,7 +41,7 @@ impl<'a> Diagnostics<'a> {
         }
     }
 
-    /// Makes diagnostics that go to standard error. Make it before you open any file.
+    /// Returns diagnostics that go to standard error. Call this before you open any file.
     pub(crate) fn of_process(rt: &'a HostRuntime) -> Diagnostics<'a> {
         let destination = match rt.stderr().as_fd().try_clone_to_owned() {
             Err(error) if error.raw_os_error() == Some(NOT_OPEN) => Destination::Closed,
@@ -51,12 +51,12 @@ impl<'a> Diagnostics<'a> {
         Diagnostics::new(rt, destination)
     }
 
-    /// Makes diagnostics that are kept in memory.
+    /// Returns diagnostics that are kept in memory.
     pub(crate) fn keeping(rt: &'a HostRuntime) -> Diagnostics<'a> {
         Diagnostics::new(rt, Destination::Kept(Vec::new(rt.alloc())))
     }
 
-    /// Returns the diagnostics that were kept: none, if they went to standard error.
+    /// Returns the diagnostics that were kept; empty if they went to standard error.
     pub(crate) fn into_kept(self) -> Vec<u8> {
         let Diagnostics {
             rt,
@@ -71,7 +71,7 @@ impl<'a> Diagnostics<'a> {
         }
     }
 
-    // Writes what was joined.
+    // Writes the joined parts.
     fn flush(&mut self) -> io::Result<()> {
         if self.joined.is_empty() {
             return Ok(());
@@ -81,12 +81,12 @@ impl<'a> Diagnostics<'a> {
         written
     }
 
-    /// Writes the parts, one behind another: in one call of the system, if they have at most 65,536 bytes
-    /// and there was memory to join them.
+    /// Writes the parts, one after another. Uses one system call if they have at most 65,536 bytes and there was memory
+    /// to join them.
     ///
     /// # Errors
     ///
-    /// Fails if they cannot be written. A prefix of them may be out.
+    /// Fails if they cannot be written. A prefix of them may have been written.
     pub(crate) fn write_parts(&mut self, parts: &[&[u8]]) -> io::Result<()> {
         self.joined.clear();
         for part in parts {
@@ -101,7 +101,7 @@ impl<'a> Diagnostics<'a> {
     }
 }
 
-// Writes these bytes to where the diagnostics go.
+// Writes these bytes to the target.
 fn write(rt: &HostRuntime, destination: &mut Destination, bytes: &[u8]) -> io::Result<()> {
     match destination {
         Destination::StandardError => rt.stderr().write_all(bytes),

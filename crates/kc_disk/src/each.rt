@@ -50,7 +50,7 @@ fn unreadable(alloc: Global, list: &str) -> LoadFault
     }
 }
 
-// The names on a list in the folder. It is a fault of this file if it is not there or is no UTF-8.
+// The names on a list in the folder. Fails with a fault of this file if it does not exist or is not UTF-8.
 fn read_list<F: Folder>(alloc: Global, folder: &mut F, list: &str) -> Result<Vec<String>, LoadFault>
     ensures { ReadsList list.now result (F.state folder.old) (F.state folder.new) }
 {
@@ -85,7 +85,7 @@ fn copies_of(alloc: Global, names: &[String]) -> Result<Vec<String>, AllocError>
     Ok(copies)
 }
 
-// The names of all configurations: those that the arguments name, and then those of the list.
+// The names of all configurations: those in the arguments, then those in the list.
 fn names_of<F: Folder>(alloc: Global, folder: &mut F, each: &Each) -> Result<Vec<String>, LoadFault>
     ensures { FindsNames each.now result (F.state folder.old) (F.state folder.new) }
 {
@@ -95,11 +95,12 @@ fn names_of<F: Folder>(alloc: Global, folder: &mut F, each: &Each) -> Result<Vec
     Ok(names)
 }
 
-/// Runs for many configurations over the files of a folder: those that the arguments name, and then those of a list, which is a path of
-/// the folder (our own).
+/// Runs for many configurations over the files of a folder: those in the arguments, then those in a list, which is a
+/// path of the folder (our own).
 ///
-/// If the list cannot be read (E18), or the configurations would write what another one writes or reads (a bad command line), or the
-/// files of the tree cannot be loaded (E18, E20), that is said, and nothing else is done. Else it is what `run_each` of kc_conf does.
+/// If the list cannot be read (E18), the configurations would write what another one writes or reads (a usage error),
+/// or the files of the tree cannot be loaded (E18, E20), that is reported, and nothing else is done. Otherwise it does
+/// the same as `run_each` of kc_conf.
 pub fn run_each_in_folder<F: Folder, D: Device>(
     alloc: Global,
     folder: &mut F,
@@ -122,7 +123,7 @@ pub fn run_each_in_folder<F: Folder, D: Device>(
     }
 }
 
-// Runs for these configurations over files that were loaded.
+// Runs for these configurations over the loaded files.
 fn run_loaded<D: Device>(
     alloc: Global,
     files: FileMap,

@@ -1,4 +1,4 @@
-//! Runs of the program over any folder and device. Nothing else makes an `Ended`.
+//! Runs of the program over any folder and device. Nothing else creates an `Ended`.
 ghost use Rattle.std.specs.Prelude.{◌≡◌};
 ghost use Rattle.kc_disk.specs.Program.{KconfEnds};
 ghost use Rattle.kc_language.specs.declared.outcome.Status.TheVariants.{Faulted};
@@ -12,8 +12,9 @@ use std::marker::PhantomData;
 
 /// A run that ended: with these arguments, over a folder and a device of these types (our own).
 ///
-/// Only `kconf_over` makes one. So an `Ended` over the system's folder and device, which tell nothing, comes from a run over them
-/// that did what `kconf_over` promises of every folder and device: `Status::Done` comes only from a run that was done.
+/// Only `kconf_over` creates one. So an `Ended` over the system's folder and device, which record nothing, comes from a
+/// run that did what `kconf_over` promises for every folder and device: `Status::Done` comes only from a run that
+/// succeeded.
 #[derive(Drop)]
 pub struct Ended<'a, F, D> {
     arguments: &'a Arguments,
@@ -29,14 +30,14 @@ impl<'a, F, D> Ended<'a, F, D> {
         self.status
     }
 
-    /// With which arguments it was run.
+    /// The arguments of the run.
     pub(crate) fn arguments(&self) -> &'a Arguments
         ensures { result.now ≡ self.now.arguments.now }
     {
         self.arguments
     }
 
-    /// The same run, if its diagnostics were not all written: it ended with a fault.
+    /// The same run, with status `Faulted`, since not all of its diagnostics were written.
     pub(crate) fn into_fault(self) -> Self
         ensures of { result.arguments.now ≡ self.entry.arguments.now }
         ensures fault { result.status ≡ Faulted }
@@ -54,11 +55,11 @@ impl<'a, F, D> Ended<'a, F, D> {
     }
 }
 
-/// Runs `kconf` with these arguments over a folder and a device: what they ask for (our own).
+/// Runs `kconf` with these arguments over a folder and a device (our own).
 ///
-/// The help and the version go to standard output; if that does not take all of it, the status is that of a fault. A bad command
-/// line is said on the diagnostics, and so are arguments that could not be read. Nothing is read or written then. `kept` is what
-/// `run_in_folder` keeps.
+/// Help and the version go to standard output; if that does not take all of it, the status is `Faulted`. A usage error
+/// is reported, and so are arguments that could not be read. Then no file is read or written. `kept` is the same as for
+/// `run_in_folder`.
 pub fn kconf_over<'a, F: Folder, D: Device>(
     rt: &HostRuntime,
     arguments: &'a Arguments,

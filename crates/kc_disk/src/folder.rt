@@ -9,17 +9,17 @@ use std::random::RandomSource;
 
 /// Reads the files of a tree from a disk by their paths (our own).
 ///
-/// A path where nothing is has no file. A folder, a device as `/dev/zero`, a path that runs through a file and a file that may
-/// not be read are failures of the device.
+/// A path that does not exist has no file. A folder, a device such as `/dev/zero`, a path through a file, and a file
+/// without read permission are failures of the device.
 #[derive(Drop)]
 pub struct SystemFolder<'a> {
     rt: &'a HostRuntime,
-    // What is read of a file goes through it. It is made once, so that no room is made zero for each file.
+    // The buffer for reading files. It is allocated and zeroed only once.
     buffer: Vec<u8>,
 }
 
 impl<'a> SystemFolder<'a> {
-    /// Makes one. Its buffer of 65,536 bytes is made when the first file is read.
+    /// Returns a folder. Its buffer of 65,536 bytes is allocated when the first file is read.
     pub fn new(rt: &'a HostRuntime) -> SystemFolder<'a> {
         SystemFolder {
             rt,
@@ -34,23 +34,23 @@ impl<'a> SystemFolder<'a> {
     }
 }
 
-// How many bytes are read at once.
+// The number of bytes that are read at once.
 const BUFFER_SIZE: usize = 65_536;
 
-// How many bytes a file may give beyond its length. A pipe has no length.
+// How many bytes a file may have beyond its length. A pipe has no length.
 const MOST_FURTHER_BYTES: usize = 67_108_864;
 
-// How many random bytes are the secret of a key.
+// The number of random bytes in a secret key.
 const SECRET_SIZE: usize = 16;
 
-// Opens a file of the tree, and returns how many bytes it may give. The limit counts for a file that grows, too.
+// Opens a file of the tree, and returns how many bytes it may have. The limit also applies to a file that grows.
 fn open_bounded(rt: &HostRuntime, path: &str) -> io::Result<(File, usize)> {
     let (file, opened) = open_to_read(rt, path, Devices::None)?;
     let length = usize::try_from(opened.len()).unwrap_or(usize::MAX);
     Ok((file, length.saturating_add(MOST_FURTHER_BYTES)))
 }
 
-// The bytes of a file, read through the buffer. A read that was interrupted is tried again.
+// The bytes of a file, read through the buffer. Repeats a read that was interrupted.
 fn read_whole(rt: &HostRuntime, path: &str, buffer: &mut [u8]) -> io::Result<Vec<u8>> {
     let (mut file, most) = open_bounded(rt, path)?;
     let mut bytes = Vec::new(rt.alloc());
@@ -71,7 +71,8 @@ fn read_whole(rt: &HostRuntime, path: &str, buffer: &mut [u8]) -> io::Result<Vec
     Ok(bytes)
 }
 
-// A key that nobody knows beforehand. If the system has no random bytes, it is the known one: names that collide are slow then.
+// A key that nobody can predict. If the system has no random bytes, this is the known key: then colliding names are
+// slow.
 fn secret_key(rt: &HostRuntime) -> HashKey {
     let mut secret = [0u8; SECRET_SIZE];
     match rt.fill_bytes(&mut secret) {

@@ -5,10 +5,10 @@ use kc_hints::{Facts, Input, hinted, waits};
 use std::alloc::{AllocError, Global};
 use std::mem;
 
-/// The most bytes of a file that are kept. Of a longer one none are.
+/// The maximum number of bytes of a file that is kept. A longer file is not kept.
 const MOST_KEPT: usize = 67_108_864;
 
-/// Diagnostics, and what belongs to them: why the system refused what failed last, and the difference of the file that was compared last.
+/// Diagnostics with the system's reason for the last failure, and the difference of the last file that was compared.
 #[derive(Drop)]
 pub(crate) struct Report {
     pub text: Vec<u8>,
@@ -17,7 +17,7 @@ pub(crate) struct Report {
 }
 
 impl Report {
-    // The difference, or nothing.
+    // The difference, or an empty one.
     fn difference(&self) -> &[u8] {
         match &self.difference {
             Some(difference) => difference,
@@ -25,12 +25,12 @@ impl Report {
         }
     }
 
-    /// Returns the report as it is, in parts.
+    /// Returns the report unchanged, in parts.
     pub(crate) fn parts(&self) -> [&[u8]; 2] {
         [&self.text, self.difference()]
     }
 
-    // The report as it is shown with these facts.
+    // The report in its printed form, with these facts.
     fn shown_with(
         &self,
         alloc: Global,
@@ -42,7 +42,8 @@ impl Report {
         Ok(shown)
     }
 
-    /// Returns the report as it is shown with these facts, or without them if there is no memory for that. Its only error is to be out of memory.
+    /// Returns the report in its printed form, with these facts, or without them if there is not enough memory for
+    /// that. Fails only if there is not enough memory.
     pub(crate) fn shown(
         &self,
         alloc: Global,
@@ -56,17 +57,17 @@ impl Report {
     }
 }
 
-/// What is held back: reports in order. And the files that were read so far, each from its start on.
+/// The reports that are held back, in order. And the files that were read so far, each from its start.
 #[derive(Drop)]
 pub(crate) struct Held {
     reports: Vec<Report>,
     inputs: Vec<Input>,
-    // Whether the bytes that are read next are those of the last file.
+    // Whether the next bytes belong to the last file.
     keeps: bool,
 }
 
 impl Held {
-    /// Makes one that holds nothing.
+    /// Returns an empty value.
     pub(crate) fn new(alloc: Global) -> Held {
         Held {
             reports: Vec::new(alloc),
@@ -85,17 +86,17 @@ impl Held {
         &self.inputs
     }
 
-    /// Takes all reports out.
+    /// Removes all reports and returns them.
     pub(crate) fn take_reports(&mut self, alloc: Global) -> Vec<Report> {
         mem::replace(&mut self.reports, Vec::new(alloc))
     }
 
-    // Whether a report has to wait: one before it does, or one of its hints may begin with a fact.
+    // Whether a report must wait: one before it waits, or one of its hints may start with a fact.
     fn has_to_wait(&self, alloc: Global, report: &Report) -> bool {
         !self.reports.is_empty() || matches!(waits(alloc, &report.text), Ok(true))
     }
 
-    /// Holds a report back. Gives it back if it need not wait, or if there is no memory.
+    /// Holds a report back. Returns it if it need not wait, or if there is not enough memory.
     pub(crate) fn take(&mut self, alloc: Global, report: Report) -> Option<Report> {
         if !self.has_to_wait(alloc, &report) || self.reports.reserve(1).is_err() {
             return Some(report);
@@ -108,7 +109,7 @@ impl Held {
     ///
     /// # Errors
     ///
-    /// Fails if there is no memory.
+    /// Fails if there is not enough memory.
     pub(crate) fn add_input(
         &mut self,
         alloc: Global,
@@ -121,12 +122,12 @@ impl Held {
         Ok(())
     }
 
-    /// Begins to keep the file of this name, if there is memory.
+    /// Starts to keep the file of this name, if there is enough memory.
     pub(crate) fn begin_input(&mut self, alloc: Global, name: &str) {
         self.keeps = self.add_input(alloc, name.as_bytes(), b"").is_ok();
     }
 
-    /// Keeps bytes of the file that was begun last. If there is no memory, or it is too long, the file is let go.
+    /// Keeps bytes of the last file. If there is not enough memory, or the file is too long, it is dropped.
     pub(crate) fn add_bytes(&mut self, bytes: &[u8]) {
         if self.keeps && !self.is_added(bytes) {
             let _ = self.inputs.pop();
@@ -134,7 +135,7 @@ impl Held {
         }
     }
 
-    // Adds bytes to the last file, and answers whether that was done.
+    // Adds bytes to the last file. Returns whether that succeeded.
     fn is_added(&mut self, bytes: &[u8]) -> bool {
         match self.inputs.last_mut() {
             Some(input) => {

@@ -18,7 +18,7 @@ use kc_words::Each;
 use std::alloc::{AllocError, Global};
 use std::cell::Cell;
 
-// The folder of the files that are included.
+// The folder of the included files.
 fn folder_of(options: &Options) -> &str {
     match &options.include {
         Some(folder) => folder.as_str(),
@@ -26,7 +26,7 @@ fn folder_of(options: &Options) -> &str {
     }
 }
 
-// Reads the input files of these options: the fragments, and then the configurations of these names.
+// Reads the input files of these options: the fragments, then the configurations of these names.
 fn read_inputs<D: Device>(
     alloc: Global,
     options: &Options,
@@ -53,7 +53,7 @@ fn numbers_of(alloc: Global, own: usize, fragments: usize) -> Result<Vec<usize>,
     Ok(numbers)
 }
 
-// The pieces of so many configurations, which were read behind so many fragments.
+// The pieces of this many configurations, which were read after this many fragments.
 fn turns_of<'t>(
     alloc: Global,
     inputs: &'t Inputs,
@@ -68,7 +68,7 @@ fn turns_of<'t>(
     Ok(turns)
 }
 
-// The options with the pieces of this turn behind the first as fragments.
+// The options with the pieces of this turn, after the first, as fragments.
 fn pieced(
     alloc: Global,
     mut options: Options,
@@ -84,7 +84,7 @@ fn pieced(
     Ok(options)
 }
 
-// Says that there is no memory.
+// Reports that there is not enough memory.
 fn say_no_memory<D: Device>(device: &mut D) -> Status
     ensures { result ≡ status.Faulted }
 {
@@ -92,7 +92,7 @@ fn say_no_memory<D: Device>(device: &mut D) -> Status
     Status::Faulted
 }
 
-// The options for pieces that were read, and these.
+// The options for these pieces, and the pieces.
 fn turn_of<'t>(
     alloc: Global,
     options: Options,
@@ -105,7 +105,7 @@ fn turn_of<'t>(
     Ok((options, turns))
 }
 
-// Runs for pieces with these options.
+// Runs over pieces with these options.
 fn run_pieces<F: Folder, D: Device>(
     alloc: Global,
     folder: &mut F,
@@ -121,7 +121,7 @@ fn run_pieces<F: Folder, D: Device>(
     run_in_folder(alloc, folder, options, &mut pieces, kept)
 }
 
-// Runs over input files that were read.
+// Runs over the input files that were read.
 fn run_inputs<F: Folder, D: Device>(
     alloc: Global,
     folder: &mut F,
@@ -140,8 +140,8 @@ fn run_inputs<F: Folder, D: Device>(
 
 /// Runs over the files of a folder, with the files that lines of the input files include (our own).
 ///
-/// The input files and those that they include are read at once, before the tree. Behind that it is what `run_in_folder` of kc_conf
-/// does for the pieces of these files.
+/// The input files and their included files are read at once, before the tree. Then it does the same as `run_in_folder`
+/// of kc_conf for the pieces of these files.
 pub(crate) fn run_including<F: Folder, D: Device>(
     alloc: Global,
     folder: &mut F,
@@ -163,7 +163,7 @@ struct PiecedConfigurations<'e> {
     each: &'e Each,
     names: &'e [String],
     turns: &'e [Vec<Piece<'e>>],
-    // Whose turn it is.
+    // The current turn.
     turn: &'e Cell<usize>,
 }
 
@@ -208,7 +208,7 @@ fn read_each<D: Device>(
     read_inputs(alloc, &each.options, &texts, device)
 }
 
-// Runs for the pieces of these configurations.
+// Runs over the pieces of these configurations.
 fn run_each_turn<D: Device>(
     alloc: Global,
     files: FileMap,
@@ -232,7 +232,7 @@ fn run_each_turn<D: Device>(
     run_each(alloc, files, kconfig, &configurations, &mut pieces, kept)
 }
 
-// Runs for these configurations over input files that were read.
+// Runs for these configurations over the input files that were read.
 fn run_each_input<D: Device>(
     alloc: Global,
     files: FileMap,
@@ -252,8 +252,8 @@ fn run_each_input<D: Device>(
 
 /// Runs for these configurations over a map of files, with the files that lines of the input files include (our own).
 ///
-/// All input files and those that they include are read at once, before the first turn. Behind that it is what `run_each` of kc_conf
-/// does for the pieces of these files.
+/// All input files and their included files are read at once, before the first turn. Then it does the same as
+/// `run_each` of kc_conf for the pieces of these files.
 pub(crate) fn run_each_including<D: Device>(
     alloc: Global,
     files: FileMap,

@@ -1,11 +1,11 @@
 #![tactic(auto)]
 //! `kconf` over the files of a disk: the system calls, and the program.
 //!
-//! - [`kconf`]: the program; [`exit_status`] is the status that it ends with. [`kconf_with`]: the same over a device that the caller made.
-//! - [`kconf_over`]: the same over any folder and device. An [`Ended`] says how it ended.
+//! - [`kconf`]: the program; [`exit_status`] is its exit status. [`kconf_with`]: the same over a device of the caller.
+//! - [`kconf_over`]: the same over any folder and device. An [`Ended`] is how it ended.
 //! - [`Arguments`]: the arguments of the process.
 //! - [`SystemDevice`] and [`SystemFolder`]: the system calls for files, diagnostics and the files of a tree.
-//! - [`laws`]: how runs of many configurations end.
+//! - [`laws`]: how runs for many configurations end.
 
 mod answer;
 mod arguments;

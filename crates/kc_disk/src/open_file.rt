@@ -1,4 +1,4 @@
-//! Files that are opened to be read.
+//! Files that are opened for reading.
 use std::fs::{self, File, FileType, Metadata};
 use std::io::{self, ErrorKind};
 use std::os::unix::fs::{FileTypeExt, MetadataExt};
@@ -6,8 +6,7 @@ use std::os::unix::fs::{FileTypeExt, MetadataExt};
 // The number of the device `/dev/null` (Linux: major 1, minor 3).
 const NULL_DEVICE: u64 = 0x103;
 
-// The parts of the numbers of devices that are terminals (Linux): the major numbers of `/dev/tty1`, of `/dev/tty`, and of
-// pseudoterminals from the first to the last.
+// The major numbers of terminal devices (Linux): those of `/dev/tty1`, of `/dev/tty`, and of all pseudoterminals.
 const TERMINAL_MAJORS: &[u64] = &[4, 5, 136, 137, 138, 139, 140, 141, 142, 143];
 
 /// Which devices may be read.
@@ -30,7 +29,7 @@ fn is_null_or_terminal(found: &Metadata) -> bool {
         && (found.rdev() == NULL_DEVICE || TERMINAL_MAJORS.contains(&major))
 }
 
-// Fails for another device: it may have no end, and to open one may do something.
+// Fails for any other device: it may be endless, and opening it may have an effect.
 fn refuse_device(found: &Metadata, devices: Devices) -> io::Result<()> {
     if !is_device(found.file_type()) {
         return Ok(());
@@ -41,7 +40,7 @@ fn refuse_device(found: &Metadata, devices: Devices) -> io::Result<()> {
     Err(io::Error::from(ErrorKind::InvalidInput))
 }
 
-/// Returns whether a pipe, a terminal or the null device lies under the name: what is read there has no place to be written to.
+/// Returns whether the name is a pipe, a terminal or the null device: what is read there cannot be written back.
 /// `/dev/null` itself takes all.
 #[inline(never)]
 pub(crate) fn has_no_place(rt: &HostRuntime, path: &str) -> bool {
@@ -53,8 +52,8 @@ pub(crate) fn has_no_place(rt: &HostRuntime, path: &str) -> bool {
     }
 }
 
-/// Opens a file to read it, and returns what it is. A device that may not be read is not opened: what lies under the name is looked
-/// at first. The file that was opened is looked at again, since another one may have come to lie there.
+/// Opens a file for reading, and returns its metadata. Looks at the name first, and does not open a device that may not
+/// be read. Looks again at the file that was opened, since it may be another one by now.
 ///
 /// # Errors
 ///

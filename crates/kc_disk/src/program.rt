@@ -11,7 +11,7 @@ use crate::told::tell_held;
 use kc_conf::{AcceptedTree, Status};
 use std::mem;
 
-// The end of a run whose diagnostics were all written, or were not. Of arguments that were not read nothing is held back.
+// The end of a run, by whether all its diagnostics were written. Nothing is held back if the arguments were not read.
 fn ended_if<'a>(
     ended: Ended<'a, SystemFolder<'a>, SystemDevice<'a>>,
     is_told: bool,
@@ -26,11 +26,11 @@ fn ended_if<'a>(
     }
 }
 
-/// Runs `kconf` with these arguments over this device and the files of the disk, and shows its diagnostics as the arguments ask for it (our
-/// own). `kept` is what `run_in_folder` keeps.
+/// Runs `kconf` with these arguments over this device and the files of the disk, and prints its diagnostics as the
+/// arguments request (our own). `kept` is the same as for `run_in_folder`.
 ///
-/// With hints, diagnostics are held back from the first one on whose hint may begin with a fact of the tree, and are written when the run is done.
-/// If they cannot be written then, the run ends with a fault.
+/// With hints, diagnostics are held back from the first one whose hint may start with a fact about the tree, and are
+/// written when the run is done. If they cannot be written then, the status is `Faulted`.
 pub fn kconf_with<'a>(
     rt: &'a HostRuntime,
     arguments: &'a Arguments,
@@ -55,13 +55,12 @@ pub fn kconf_with<'a>(
     ended_if(ended, is_told)
 }
 
-/// Runs `kconf` with these arguments: loads the tree, reads the `.config` and the fragments, and writes the files and the
-/// diagnostics (our own).
+/// Runs `kconf` with these arguments: loads the tree, reads the `.config` and the fragments, and writes the files and
+/// the diagnostics (our own).
 ///
-/// It is `kconf_over` over the disk, which tells nothing, and the same holds of it.
+/// It is `kconf_over` over the disk, which records nothing, with the same promises.
 ///
-/// It is made for a program that ends afterwards: the memory of the tree is left to the end of the process, so each call of
-/// a process that goes on keeps that much.
+/// Use it in a program that is about to exit: it leaks the memory of the tree, in each call.
 pub fn kconf<'a>(
     rt: &'a HostRuntime,
     arguments: &'a Arguments,
@@ -72,14 +71,14 @@ pub fn kconf<'a>(
     let mut device = SystemDevice::new(rt);
     let mut kept = None;
     let ended = kconf_with(rt, arguments, &mut device, &mut kept);
-    // A program ends after this, and the system takes the memory of the tree back at once, which costs less than to give
-    // back each piece.
+    // The program ends after this. The system frees the memory of the tree at once, which is cheaper than freeing each
+    // part.
     mem::forget(kept);
     ended
 }
 
-/// The exit status: 0 if all is done, 1 if the tree or the `.config` is refused or a file is not up to date, 2 for a bad command
-/// line, 3 after a fault.
+/// Returns the exit status: 0 if all is done, 1 if the tree or the `.config` is refused or a file is stale, 2 for a
+/// usage error, 3 after a fault.
 pub fn exit_status(status: Status) -> u8
     ensures { result ≡ exit_status status }
 {

@@ -1,16 +1,16 @@
-//! Whether a file holds a text, and what it holds.
+//! Whether a file holds a text, and the content of a file.
 use crate::destination::{changed, is_same_file};
 use std::fs::{File, Metadata};
 use std::io::{self, ErrorKind, Read};
 
-// How many bytes are compared at once.
+// The number of bytes compared at once.
 const BUFFER_SIZE: usize = 4_096;
 
-/// Returns whether the file that was found at this path holds these bytes and no others.
+/// Returns whether the file found at this path holds exactly these bytes.
 ///
 /// # Errors
 ///
-/// Fails if the file cannot be opened or read, or if another one is there now.
+/// Fails if the file cannot be opened or read, or if another file is there now.
 #[inline(never)]
 pub(crate) fn holds_text(
     rt: &HostRuntime,
@@ -41,11 +41,11 @@ pub(crate) fn holds_text(
     Ok(false)
 }
 
-/// Returns the bytes of the file that was found at this path: at most as many as it is long when it is opened, and a buffer more.
+/// Returns the bytes of the file found at this path: at most its length when it is opened, plus one buffer.
 ///
 /// # Errors
 ///
-/// Fails if the file cannot be opened or read, if another one is there now, or if it grows meanwhile.
+/// Fails if the file cannot be opened or read, if another file is there now, or if it grows meanwhile.
 #[inline(never)]
 pub(crate) fn bytes_of(rt: &HostRuntime, path: &str, found: &Metadata) -> io::Result<Vec<u8>> {
     let mut file = File::open(rt, path)?;

@@ -1,4 +1,4 @@
-//! How diagnostics are shown, as the arguments ask for it.
+//! How diagnostics are printed, as the arguments request.
 
 use crate::arguments::Arguments;
 use kc_display::Showing;
@@ -6,7 +6,7 @@ use kc_options::Options;
 use kc_words::{Request, request_of};
 use std::alloc::Global;
 
-// What the options say of it.
+// How the options request it.
 fn showing_by(options: &Options) -> Showing {
     Showing {
         quiet_tree: options.quiet_tree,
@@ -26,7 +26,7 @@ fn asks(arguments: &[String]) -> bool {
     false
 }
 
-// What these arguments ask for, if one of them changes it. Of many configurations it is what all have in common.
+// The options in these arguments, if one of them changes it. For many configurations they are the shared options.
 fn options_given(alloc: Global, arguments: &[String]) -> Option<Options> {
     if !asks(arguments) {
         return None;
@@ -38,7 +38,7 @@ fn options_given(alloc: Global, arguments: &[String]) -> Option<Options> {
     }
 }
 
-/// What the arguments ask for, if something changes how the diagnostics of the run are shown.
+/// The options in the arguments, if one of them changes how the run's diagnostics are printed.
 pub(crate) fn shown_options(alloc: Global, arguments: &Arguments) -> Option<Options> {
     match arguments {
         Arguments::Given(given) => options_given(alloc, given),
@@ -46,7 +46,7 @@ pub(crate) fn shown_options(alloc: Global, arguments: &Arguments) -> Option<Opti
     }
 }
 
-/// How the diagnostics of a run with these options are shown: as they are if there are none.
+/// How the diagnostics of a run with these options are printed: unchanged if there are none.
 pub(crate) fn showing_of(options: &Option<Options>) -> Showing {
     match options {
         Some(options) => showing_by(options),

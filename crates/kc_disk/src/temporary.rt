@@ -1,4 +1,4 @@
-//! Files that stand beside the places that they are to take.
+//! Temporary files, which are moved to their destinations.
 ghost use Rattle.std.specs.Prelude.{◌≤◌, length, IfOk};
 
 use crate::destination::{Destination, changed, destination_of, is_same_file, open_found};
@@ -8,27 +8,27 @@ use std::io::{self, ErrorKind, Seek, SeekFrom, Write};
 use std::os::unix::fs::{MetadataExt, OpenOptionsExt, PermissionsExt};
 use std::path::PathBuf;
 
-// How many names of temporary files are tried.
+// The maximum number of tried names of temporary files.
 const MOST_NAMES: usize = 1_000;
 
-// Who may do what with a new file, before the system narrows it by the umask.
+// The mode of a new file, before the system applies the umask.
 const NEW_MODE: u32 = 0o666;
 
-// The same of a file that only its owner may open.
+// The mode of a file that only its owner may open.
 const PRIVATE_MODE: u32 = 0o600;
 
-// What a temporary file is to become.
+// What a temporary file replaces.
 #[derive(Drop)]
 enum Replaced {
-    // It replaces this file.
+    // This file.
     File(Metadata),
-    // There is none.
+    // No file.
     Nothing,
-    // There is none, and this name leads there over links.
+    // No file, and this name leads there through links.
     NothingBehind(String),
 }
 
-/// A file that stands beside the place that it is to take. It stays open, so what is written elsewhere can only be its own text.
+/// A temporary file, which is moved to its destination. It stays open, so only its own text can be written elsewhere.
 #[derive(Drop)]
 pub(crate) struct TemporaryFile {
     text: File,
@@ -37,7 +37,7 @@ pub(crate) struct TemporaryFile {
     replaced: Replaced,
 }
 
-// Makes an empty file at this path, which has to be free.
+// Creates an empty file at this path, which must not exist.
 #[inline(never)]
 fn create_new(rt: &HostRuntime, path: &PathBuf, mode: u32) -> io::Result<File> {
     OpenOptions::new()
@@ -48,7 +48,7 @@ fn create_new(rt: &HostRuntime, path: &PathBuf, mode: u32) -> io::Result<File> {
         .open(rt, path.as_path())
 }
 
-// Makes an empty file in the folder of the destination, under the next name that is free.
+// Creates an empty file in the folder of the destination, under the next free name.
 fn create_temporary(
     rt: &HostRuntime,
     destination: PathBuf,
@@ -81,20 +81,21 @@ fn create_temporary(
     Err(io::Error::from(ErrorKind::AlreadyExists))
 }
 
-/// The file for a text that replaces another.
+/// The file for a text that is written with `--replace`.
 #[derive(Drop)]
 pub(crate) enum Started {
     /// A temporary file.
     Beside(TemporaryFile),
-    /// What stands at the place and is written as it stands.
+    /// The file at the destination, written in place.
     InPlace(File),
 }
 
-/// Makes the file for a text of this name: a temporary file, or the one that stands at its place, which is written as it stands.
+/// Creates the file for a text of this name: a temporary file, or the file at its destination, which is written in
+/// place.
 ///
 /// # Errors
 ///
-/// Fails as `destination_of` does, and if a file cannot be made or opened.
+/// Fails like `destination_of`, and if a file cannot be created or opened.
 pub(crate) fn start(rt: &HostRuntime, name: &str, tried: &mut usize) -> io::Result<Started> {
     let (destination, replaced) = match destination_of(rt, name)? {
         Destination::Taken(path, found) => (path, Replaced::File(found)),
@@ -111,7 +112,7 @@ pub(crate) fn start(rt: &HostRuntime, name: &str, tried: &mut usize) -> io::Resu
 }
 
 impl TemporaryFile {
-    /// Writes a beginning of the bytes, and returns how many it took.
+    /// Writes a prefix of the bytes, and returns its length.
     pub(crate) fn write(&mut self, bytes: &[u8]) -> io::Result<usize>
         ensures { IfOk result (λ count. count ≤ length bytes.now) }
     {
@@ -135,7 +136,7 @@ impl TemporaryFile {
         Ok(Permissions::from_mode(mode_over(replaced.mode(), trust)))
     }
 
-    /// Gives a file that is written its permissions, and waits until the disk has it.
+    /// Gives a written file its permissions, and waits until the disk has it.
     pub(crate) fn complete(&self, rt: &HostRuntime) -> io::Result<()> {
         if let Replaced::File(replaced) = &self.replaced {
             self.text
@@ -152,8 +153,8 @@ fn owner_of_folder(rt: &HostRuntime, file: &PathBuf) -> io::Result<u32> {
     Ok(fs::metadata(rt, folder.as_path())?.uid())
 }
 
-// Has the system make the file to which a name leads over links: it follows them by its own rules. That file has to be the
-// destination.
+// Lets the system create the file to which a name leads through links: it follows them by its own rules. That file must
+// be the destination.
 #[inline(never)]
 fn make_behind_links(rt: &HostRuntime, name: &str, destination: &PathBuf) -> io::Result<()> {
     let made = OpenOptions::new()
@@ -169,7 +170,7 @@ fn make_behind_links(rt: &HostRuntime, name: &str, destination: &PathBuf) -> io:
     }
 }
 
-// Writes the text of a temporary file to the file that it cannot replace, where that lies.
+// Writes the text of a temporary file to the file that it cannot replace, in place.
 #[inline(never)]
 fn write_in_place(
     rt: &HostRuntime,
@@ -195,8 +196,8 @@ fn rename(rt: &HostRuntime, temporary: &TemporaryFile) -> io::Result<()> {
     )
 }
 
-/// Moves a temporary file to its destination. A file that the system does not let go, as one that is mounted there, is written
-/// where it lies.
+/// Moves a temporary file to its destination. A file that cannot be replaced, such as a mount point, is written in
+/// place.
 pub(crate) fn move_to_place(rt: &HostRuntime, temporary: &TemporaryFile) -> io::Result<()> {
     if let Replaced::NothingBehind(name) = &temporary.replaced {
         make_behind_links(rt, name, &temporary.destination)?;
@@ -214,7 +215,7 @@ pub(crate) fn move_to_place(rt: &HostRuntime, temporary: &TemporaryFile) -> io::
     }
 }
 
-// Whether the system does not let go of a file that is to be replaced.
+// Whether the error says that the file cannot be replaced.
 fn is_held(error: &io::Error) -> bool {
     matches!(
         error.kind(),
@@ -222,13 +223,13 @@ fn is_held(error: &io::Error) -> bool {
     )
 }
 
-// Removes a file. A fault in it changes nothing.
+// Removes a file. Ignores errors.
 #[inline(never)]
 fn remove_file(rt: &HostRuntime, path: &PathBuf) {
     let _ = fs::remove_file(rt, path.as_path());
 }
 
-/// Removes a temporary file. A fault in it changes nothing.
+/// Removes a temporary file. Ignores errors.
 pub(crate) fn remove(rt: &HostRuntime, temporary: &TemporaryFile) {
     remove_file(rt, &temporary.path);
 }

@@ -1,7 +1,7 @@
 //! Bytes as a terminal shows them.
 use std::io::{self, Write};
 
-// Whether a terminal would not show this byte, but do something: a control byte, except a tab and a line feed.
+// Whether a terminal would interpret this byte: a control byte, except for a tab and a line feed.
 fn is_control(byte: u8) -> bool {
     match byte {
         b'\t' | b'\n' => false,
@@ -17,7 +17,7 @@ fn digit(value: u8) -> u8 {
     }
 }
 
-// What is shown for a control byte.
+// The text shown for a control byte.
 fn escaped(byte: u8) -> [u8; 4] {
     [b'\\', b'x', digit(byte >> 4), digit(byte & 15)]
 }
@@ -33,12 +33,12 @@ fn show_part<W: Write>(terminal: &mut W, part: &[u8]) -> io::Result<()> {
     }
 }
 
-/// Writes bytes to a terminal: each control byte except tab and line feed as `\xNN`, so that no text of a tree can do more there
-/// than be seen.
+/// Writes bytes to a terminal: each control byte except for tab and line feed as `\xNN`, so that texts of a tree cannot
+/// control the terminal.
 ///
 /// # Errors
 ///
-/// Fails if they cannot be written. A prefix of them may be out.
+/// Fails if they cannot be written. A prefix of them may have been written.
 pub(crate) fn show<W: Write>(terminal: &mut W, bytes: &[u8]) -> io::Result<()> {
     for part in bytes.split_inclusive(|byte| is_control(*byte)) {
         show_part(terminal, part)?;

@@ -1,4 +1,4 @@
-//! What was held back, told once the run is done.
+//! Reports what was held back, once the run is done.
 
 use crate::device::SystemDevice;
 use crate::folder::SystemFolder;
@@ -12,7 +12,7 @@ use kc_tree::tree::Tree;
 use std::alloc::Global;
 use std::io;
 
-// Whether one of the reports tells that a value is outside its range.
+// Whether one of the reports is about a value outside its range.
 fn names_range(alloc: Global, reports: &[Report]) -> bool {
     for report in reports {
         if matches!(tells_range(alloc, &report.text), Ok(true)) {
@@ -22,7 +22,7 @@ fn names_range(alloc: Global, reports: &[Report]) -> bool {
     false
 }
 
-// The file of the tree that has the refused line, if a hint tells of it.
+// The file of the tree with the refused line, if a hint describes it.
 fn refused_file(alloc: Global, reports: &[Report]) -> Option<Vec<u8>> {
     for report in reports {
         if let Ok(Some(file)) = refused_in(alloc, &report.text) {
@@ -32,7 +32,7 @@ fn refused_file(alloc: Global, reports: &[Report]) -> Option<Vec<u8>> {
     None
 }
 
-// The files of the tree, read anew.
+// Reads the files of the tree again.
 fn files_of(rt: &HostRuntime, options: &Options) -> Option<FileMap> {
     let mut folder = SystemFolder::new(rt);
     let root = options.root.as_str();
@@ -46,7 +46,7 @@ fn files_of(rt: &HostRuntime, options: &Options) -> Option<FileMap> {
     .ok()
 }
 
-// The lines of the tree, read anew, if the ranges of a symbol are looked for.
+// Reads the lines of the tree again, if the ranges of a symbol are needed.
 fn lines_of(rt: &HostRuntime, options: &Options, held: &Held) -> Option<Listing> {
     if !names_range(rt.alloc(), held.reports()) {
         return None;
@@ -58,7 +58,7 @@ fn lines_of(rt: &HostRuntime, options: &Options, held: &Held) -> Option<Listing>
     }
 }
 
-// Adds the file of the tree that has the refused line.
+// Adds the file of the tree with the refused line.
 fn add_refused(rt: &HostRuntime, options: &Options, held: &mut Held) -> Option<()> {
     let name = refused_file(rt.alloc(), held.reports())?;
     let files = files_of(rt, options)?;
@@ -82,7 +82,7 @@ fn tree_in(kept: &Option<AcceptedTree>) -> Option<&Tree> {
     }
 }
 
-// Tells what was held back.
+// Reports what was held back.
 fn tell(
     rt: &HostRuntime,
     options: &Options,
@@ -101,7 +101,8 @@ fn tell(
     device.write_reports(held.reports(), &facts)
 }
 
-/// Tells what the device held back in a run with these options, with facts of the tree that was kept. Answers whether that was written.
+/// Reports what the device held back in a run with these options, with facts of the tree in `kept`. Returns whether
+/// that was written.
 pub(crate) fn tell_held(
     rt: &HostRuntime,
     options: &Options,

@@ -1,4 +1,4 @@
-//! What is said of a bad command line.
+//! The report of a usage error.
 ghost use Rattle.std.specs.Prelude.{◌≡◌};
 ghost use Rattle.kc_io.specs.Log.{is_whole_lines};
 ghost use Rattle.kc_disk.specs.Program.{EndsUsage, SaysText, SaysUsage};
@@ -18,21 +18,21 @@ fn is_whole_lines(bytes: &[u8]) -> bool
     }
 }
 
-// What ends the last of the lines, if it is not ended.
+// The end of the last line, if it is missing.
 fn end_of<'a>(bytes: &'a [u8]) -> &'a [u8]
     ensures { result.now ≡ line_end bytes.now }
 {
     if is_whole_lines(bytes) { b"" } else { b"\n" }
 }
 
-// Says what is wrong, in whole lines. A fault of the diagnostics changes no status.
+// Reports the error, in whole lines. A fault of the diagnostics does not change the status.
 fn say_text<D: Device>(device: &mut D, text: &str)
     ensures { SaysText text.now (D.log device.old) (D.log device.new) }
 {
     let _ = device.report(&[text.as_bytes(), end_of(text.as_bytes())]);
 }
 
-// Says why arguments give no run, and answers the status. Help and the version are not said.
+// Reports why arguments give no run, and returns the status. Help and the version are not reported.
 pub(crate) fn say_usage<D: Device>(device: &mut D, usage: &UsageError) -> Status
     ensures status { EndsUsage usage.now result }
     ensures says { SaysUsage usage.now (D.log device.old) (D.log device.new) }

@@ -1,9 +1,9 @@
-//! A run of the program, and what it leaves.
+//! A run of the program and its results.
 
 use kc_conf::Status;
 use kc_memory_device::{Plan, SMOOTH};
 
-/// A command line over some files, and what must be left.
+/// A command line, files, and the expected results.
 #[derive(Clone, Copy)]
 pub(crate) struct Case {
     /// What the case shows.
@@ -20,11 +20,11 @@ pub(crate) struct Case {
     pub plan: Plan,
     /// The status.
     pub status: Status,
-    /// The files that were made and closed at their places or moved there, in order, and that what stands beside them was removed.
+    /// The files that were created and closed in place or moved, in order, and the removal of temporary files.
     pub log: &'static str,
     /// The diagnostics.
     pub diagnostics: &'static [u8],
-    /// What files of the device hold at the end; none where there is no such file.
+    /// The content of files of the device at the end; None if there is no such file.
     pub left: &'static [(&'static str, Option<&'static [u8]>)],
 }
 
@@ -32,11 +32,11 @@ pub(crate) struct Case {
 pub(crate) const CONFIG: &[u8] =
     b"#\n# Automatically generated file; DO NOT EDIT.\n# Main menu\n#\n";
 
-/// Its header.
+/// The header of a tree without symbols.
 pub(crate) const HEADER: &[u8] =
     b"/*\n * Automatically generated file; DO NOT EDIT.\n * Main menu\n */\n";
 
-/// A device that gives seven bytes at a time.
+/// A device that reads seven bytes at a time.
 pub(crate) const SEVEN: Plan = Plan {
     first_read: 7,
     later_reads: 7,
@@ -57,7 +57,7 @@ pub(crate) const DONE: Case = Case {
     left: &[(".config", Some(CONFIG))],
 };
 
-/// The same, which ends after a fault and makes no file.
+/// The same, but it ends after a fault and creates no file.
 pub(crate) const FAULTED: Case = Case {
     status: Status::Faulted,
     log: "",
@@ -65,7 +65,7 @@ pub(crate) const FAULTED: Case = Case {
     ..DONE
 };
 
-/// The same, which is refused.
+/// The same, but it is refused.
 pub(crate) const REFUSED: Case = Case {
     status: Status::Refused,
     ..FAULTED

@@ -1,4 +1,4 @@
-//! Refusals, and devices that fail before a file is made.
+//! Refusals, and devices that fail before a file is created.
 use crate::case::{CONFIG, Case, DONE, FAULTED, REFUSED, SEVEN};
 use crate::runs::{Ended, gives, gives_over, run_case, run_words, words_of};
 use kc_conf::Status;
@@ -109,7 +109,7 @@ const FAULTS: &[Case] = &[
     },
 ];
 
-// Where nothing fails.
+// Runs in which nothing fails.
 const FAULTLESS: &[Case] = &[
     Case {
         name: "no .config",
@@ -218,7 +218,7 @@ fn an_accepted_tree_is_kept(rt: HostRuntime) -> Result<(), Fail> {
     Ok(())
 }
 
-// How many files were opened, where each was read to its end before the next one.
+// The number of opened files, if each was read to its end before the next one.
 fn opened_in_turn(records: &[Record]) -> Option<u64> {
     let mut is_open = false;
     let mut opened = 0_u64;
@@ -236,7 +236,7 @@ fn opened_in_turn(records: &[Record]) -> Option<u64> {
     Some(opened)
 }
 
-// More fragments than a process may have open files.
+// More fragments than the number of files that a process may have open.
 #[test]
 fn one_file_is_open_at_a_time(rt: HostRuntime) -> Result<(), Fail> {
     let mut words = words_of(rt.alloc(), DONE.arguments)?;

@@ -1,5 +1,5 @@
-//! Tests of whole runs of the program over a folder and a device in memory, of what cases of files cannot show: devices that
-//! fail, what takes its place and when, a bad command line that reads nothing, and many fragments.
+//! Tests of whole runs of the program over a folder and a device in memory, which cover what cases of files cannot
+//! show: devices that fail, when files are replaced, a usage error after which nothing is read, and many fragments.
 #![tactic(auto)]
 
 #[cfg(test)]

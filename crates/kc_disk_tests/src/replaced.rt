@@ -1,4 +1,4 @@
-//! Runs whose files take their places at the end, or are compared with them.
+//! Runs that replace files at the end, or compare them.
 
 use crate::case::{CONFIG, Case, DONE, HEADER, SEVEN};
 use crate::runs::gives;
@@ -7,7 +7,7 @@ use kc_io::{Action, Site};
 use kc_memory_device::Plan;
 use std::test::Fail;
 
-// An empty tree, whose `.config` and header take their places.
+// An empty tree, whose `.config` and header are replaced.
 const NEW: Case = Case {
     name: "both are new",
     arguments: "--replace --header h Kconfig",
@@ -18,7 +18,7 @@ const NEW: Case = Case {
 
 const BOTH: &[(&str, Option<&[u8]>)] = &[(".config", Some(CONFIG)), ("h", Some(HEADER))];
 
-// The same, where the `.config` was another before and cannot be made.
+// The same, but the old `.config` is different and the new one cannot be created.
 const BROKEN: Case = Case {
     name: "the .config cannot be made",
     files: &[(".config", b"# old\n")],
@@ -29,7 +29,7 @@ const BROKEN: Case = Case {
     ..NEW
 };
 
-// The same, where the header cannot be made.
+// The same, but the header cannot be created.
 const NO_HEADER: Case = Case {
     name: "the header cannot be made",
     diagnostics: b"error E19: cannot write h\n",
@@ -111,7 +111,8 @@ fn files_take_their_places_at_the_end(rt: HostRuntime) -> Result<(), Fail> {
     Ok(())
 }
 
-// Calls that fail, each with its number among those of its kind: they make the `.config` and the header, and then move both.
+// Calls that fail, each with its number among the calls of its kind: they create the `.config` and the header, and then
+// move both.
 const CALLS: &[(Action, u64, Case)] = &[
     (Action::Create(Site::Beside), 1, BROKEN),
     (Action::Write(Site::Beside), 1, BROKEN),
@@ -147,7 +148,7 @@ fn each_call_of_a_replacement_fails_in_turn(rt: HostRuntime) -> Result<(), Fail>
     Ok(())
 }
 
-// The same with --check, where neither file is there.
+// The same with --check, but neither file exists.
 const STALE: Case = Case {
     name: "--check: neither file is there",
     arguments: "--check --header h Kconfig",

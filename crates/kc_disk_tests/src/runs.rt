@@ -9,12 +9,12 @@ use kc_load::{Folder, FolderFault};
 use kc_memory_device::{MemoryDevice, Record};
 use std::alloc::{AllocError, Global};
 
-// The files of a tree by path, of which one may fail. It tells nothing.
+// The files of a tree by path, one of which may fail. It records nothing.
 #[derive(Drop)]
 struct MemoryFolder<'a> {
     files: &'a [(&'a str, &'a [u8])],
     failing: &'a str,
-    // How many files were asked for.
+    // The number of files that were read.
     asked: u64,
     alloc: Global,
 }
@@ -41,13 +41,13 @@ impl<'a> Folder for MemoryFolder<'a> {
 pub(crate) struct Ended {
     /// The status.
     pub status: Status,
-    /// How many files of the tree were asked for.
+    /// The number of files of the tree that were read.
     pub asked: u64,
     /// Whether a tree was kept.
     pub is_kept: bool,
 }
 
-/// The words between the blanks.
+/// The words between blanks.
 pub(crate) fn words_of(alloc: Global, line: &str) -> Result<Vec<String>, AllocError> {
     let mut words = Vec::new(alloc);
     for word in line.split(' ') {
@@ -56,7 +56,7 @@ pub(crate) fn words_of(alloc: Global, line: &str) -> Result<Vec<String>, AllocEr
     Ok(words)
 }
 
-/// Runs with these words as arguments over the case's tree and this device.
+/// Runs with these arguments over the case's tree and this device.
 pub(crate) fn run_words(
     rt: &HostRuntime,
     case: &Case,
@@ -89,7 +89,7 @@ pub(crate) fn run_case(
     Ok(run_words(rt, case, words, device))
 }
 
-// Adds the line of a call that worked, where it has one.
+// Adds the line of a call that succeeded, if it has one.
 fn line_into(record: &Record, log: &mut String) -> Result<(), AllocError> {
     let word = match record.action {
         _ if record.fault.is_some() => return Ok(()),
@@ -104,7 +104,7 @@ fn line_into(record: &Record, log: &mut String) -> Result<(), AllocError> {
     log.push_str("\n")
 }
 
-// What was made, closed, moved and removed, a line each; none where the device tells nothing.
+// The files that were created, closed, moved and removed, one in each line; None if the device records nothing.
 fn log_of(alloc: Global, device: &MemoryDevice<'_>) -> Result<Option<String>, AllocError> {
     let Some(records) = device.records() else {
         return Ok(None);
@@ -116,7 +116,7 @@ fn log_of(alloc: Global, device: &MemoryDevice<'_>) -> Result<Option<String>, Al
     Ok(Some(log))
 }
 
-// Whether the file of this name holds this.
+// Whether the file of this name has this content.
 fn is_left(device: &MemoryDevice<'_>, name: &str, bytes: Option<&[u8]>) -> bool {
     match (device.held(name), bytes) {
         (Ok(Some(held)), Some(bytes)) => held.as_slice() == bytes,
@@ -125,7 +125,7 @@ fn is_left(device: &MemoryDevice<'_>, name: &str, bytes: Option<&[u8]>) -> bool 
     }
 }
 
-/// Whether the device was left as the case says.
+/// Whether the device was left as expected.
 pub(crate) fn holds(
     alloc: Global,
     case: &Case,
@@ -145,7 +145,7 @@ pub(crate) fn holds(
     )
 }
 
-/// Whether the case's run over a device with these files gives what the case says.
+/// Whether the case's run over a device with these files has the expected results.
 pub(crate) fn gives_over(
     rt: &HostRuntime,
     case: &Case,
@@ -156,7 +156,7 @@ pub(crate) fn gives_over(
     Ok(ended.status == case.status && holds(rt.alloc(), case, &device)?)
 }
 
-/// Whether the case's run gives what the case says.
+/// Whether the case's run has the expected results.
 pub(crate) fn gives(rt: &HostRuntime, case: &Case) -> Result<bool, AllocError> {
     gives_over(rt, case, case.files)
 }

@@ -1,4 +1,4 @@
-//! Bad command lines.
+//! Usage errors.
 
 use crate::case::{Case, REFUSED};
 use crate::runs::{holds, run_case};
@@ -8,7 +8,7 @@ use kc_memory_device::MemoryDevice;
 use std::io::{self, ErrorKind};
 use std::test::Fail;
 
-// Arguments that are refused, where there is no tree.
+// Arguments that are refused, without a tree.
 const BAD: &[Case] = &[
     Case {
         name: "a text that is no prefix",
@@ -30,7 +30,7 @@ const USAGE: Case = Case {
     ..REFUSED
 };
 
-// Whether the run says what the case says, and neither reads nor makes a file.
+// Whether the run has the expected diagnostics, and neither reads nor creates a file.
 fn asks_nothing(rt: &HostRuntime, case: &Case) -> Result<bool, Fail> {
     let mut device = MemoryDevice::new(rt.alloc(), case.files, case.plan);
     let ended = run_case(rt, case, &mut device)?;
@@ -50,7 +50,7 @@ fn a_bad_command_line_reads_nothing(rt: HostRuntime) -> Result<(), Fail> {
     Ok(())
 }
 
-// The status of a run whose arguments cannot be read, for this cause.
+// The status of a run whose arguments cannot be read, for this kind of error.
 fn status_of_unread(rt: &HostRuntime, kind: ErrorKind) -> Status {
     let arguments = Arguments::of(rt.alloc(), Err(io::Error::from(kind)));
     kconf(rt, &arguments).status()

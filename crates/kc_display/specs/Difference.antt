@@ -1,9 +1,9 @@
--- Trusted: How two texts differ, line by line, and how that is shown (our own; the form is that of `diff -u`).
+-- Trusted: How two texts differ, line by line, and how the difference is printed (our own; the format is that of `diff -u`).
 use Rattle.std.specs.{Prelude.{◌≡◌, ◌==◌, ◌+◌, ◌-◌, ◌^◌, ◌||◌, ℕ, zero, suc, Bool, true, false, not, List, [], ◌∷◌, ◌++◌, None, Some, codes, count_by, decimal, filter, if◌then◌else◌, length, map, min, nat_le, take}, List.{enumerate_from, flat_map, last_or, list_any, slice_range}}
 use Rattle.kc_display.specs.declared.edits.{Edit.Edit, Mark.{Mark, TheVariants.{Kept, Removed, Added}}}
 
--- ---- What differs
--- The lines of a text, each with the line feed that ends it. The last one may have none.
+-- ---- The difference
+-- The lines of a text, each with the line feed at its end. The last one may have none.
 abbrev pub is_line_feed : ℕ → Bool
 is_line_feed b = b == 10
 
@@ -15,7 +15,7 @@ abbrev pub lines : List ℕ → List (List ℕ)
 lines [] = []
 lines (b ∷ rest) = if is_line_feed b then (b ∷ []) ∷ lines rest else put_first b (lines rest)
 
--- A kept line is one of both texts, a removed one of the old text and an added one of the new text.
+-- A kept line belongs to both texts, a removed one to the old text and an added one to the new text.
 abbrev pub is_old : Mark → Bool
 is_old Added = false
 is_old _ = true
@@ -39,15 +39,15 @@ pub record IsDifference (old new : List ℕ) (edits : List Edit) : Type 0 where
   pub old_are : old_lines edits ≡ lines old
   pub new_are : new_lines edits ≡ lines new
 
--- ---- How it is shown
--- An edit is shown if one of the three before it, itself or one of the three after it is a change. Edits that are shown one after another are a hunk.
+-- ---- How it is printed
+-- An edit is printed if it, one of the three before it or one of the three after it is a change. Printed edits in a row are a hunk.
 abbrev pub is_shown : List Edit → ℕ → Bool
 is_shown edits k = list_any (λ e. not (is_kept e.mark)) (slice_range edits (k - 3) (min (k + 4) (length edits)))
 
 abbrev pub starts_hunk : List Edit → ℕ → Bool
 starts_hunk edits k = k == 0 || not (is_shown edits (k - 1))
 
--- The place after the edits from k on that are shown one after another, of which there are at most n.
+-- The position after the printed edits in a row from k on, of which there are at most n.
 abbrev pub hunk_end : List Edit → ℕ → ℕ → ℕ
 hunk_end edits zero k = k
 hunk_end edits (suc n) k = if is_shown edits k then hunk_end edits n (k + 1) else k
@@ -79,14 +79,14 @@ abbrev pub edit_lines : Edit → List (List ℕ)
 edit_lines e = if is_ended e.line.now then (mark_text e.mark ++ take (length e.line.now - 1) e.line.now) ∷ []
     else (mark_text e.mark ++ e.line.now) ∷ no_end_text ∷ []
 
--- What is shown at a place of the edits; and all lines that are shown for the file of this name.
+-- The lines printed for one edit; and all lines printed for the file of this name.
 abbrev pub lines_at : List Edit → ℕ → Edit → List (List ℕ)
 lines_at edits k e = if is_shown edits k then (if starts_hunk edits k then header edits k ∷ [] else []) ++ edit_lines e else []
 
 abbrev pub shown_lines : List ℕ → List Edit → List (List ℕ)
 shown_lines name edits = (codes "--- " ++ name) ∷ (codes "+++ " ++ name ++ codes " (expected)") ∷ flat_map (λ (k, e). lines_at edits k e) (enumerate_from 0 edits)
 
--- At most 50 lines are shown, and then how many more there are. Their number stays at 2^64 - 1.
+-- At most 50 lines are printed, then the number of the others. The total is limited to 2^64 - 1.
 abbrev pub most_lines : ℕ
 most_lines = 50
 

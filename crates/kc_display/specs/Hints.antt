@@ -3,7 +3,7 @@ use Rattle.std.specs.{Prelude.{◌+◌, ◌&&◌, Bool, true, false, if◌then�
 use Rattle.kc_display.specs.Difference.{lines}
 use Rattle.kc_display.specs.declared.{code.Code.{Code, TheVariants.{TypeLines, Prompts, NoType, TextTarget, NoMember, MemberTarget, UnknownSymbol, BadValue, BadLine, SetAgain, Selected, OutsideRange, DefaultOutsideRange, LostValue, Overridden, TextUnset, NoFile, Inclusion, TooManyLines, LongLine, BadToken, Macro, LeftOut, Syntax, Blocks, Misplaced, BadName, TooDeep, ChoiceMember, BadDefault, DependencyLoop, TooManySymbols, LongInputLine, CannotRead, CannotWrite, NoMemory, WarningsRefused, NotUpToDate, UnreadableName, UnknownName}}, display.Showing.Showing}
 
--- What stands in a diagnostic with this code, before the text.
+-- The text of the code in a diagnostic.
 abbrev pub code_text : Code → List ℕ
 code_text TypeLines = codes "warning K1: "
 code_text Prompts = codes "warning K2: "
@@ -46,7 +46,7 @@ code_text NotUpToDate = codes "error E22: "
 code_text UnreadableName = codes "error E23: "
 code_text UnknownName = codes "error E24: "
 
--- What its hint says.
+-- The text of its hint.
 abbrev pub hint_text : Code → List ℕ
 hint_text TypeLines = codes "the lines give the symbol two types: keep one of them"
 hint_text Prompts = codes "one entry has two prompts: keep one of them"
@@ -99,7 +99,7 @@ is_about_tree NoMember = true
 is_about_tree MemberTarget = true
 is_about_tree _ = false
 
--- A file that cannot be read or written: the hint begins with the reason that the system gave, if it gave one.
+-- A file that cannot be read or written: the hint starts with the reason of the system, if there is one.
 abbrev pub names_reason : Code → Bool
 names_reason CannotRead = true
 names_reason CannotWrite = true
@@ -113,33 +113,33 @@ all_codes =
     Blocks ∷ Misplaced ∷ BadName ∷ TooDeep ∷ ChoiceMember ∷ BadDefault ∷ DependencyLoop ∷ TooManySymbols ∷ LongInputLine ∷ CannotRead ∷ CannotWrite ∷
     NoMemory ∷ WarningsRefused ∷ NotUpToDate ∷ UnreadableName ∷ UnknownName ∷ []
 
--- The first of these codes whose text another text begins with.
+-- The first of these codes with which a text starts.
 abbrev pub begins_with : List ℕ → List ℕ → Bool
 begins_with text word = starts_with nat_eq text word
 
 abbrev pub code_among : List Code → List ℕ → Option Code
 code_among known text = find (λ code. begins_with text (code_text code)) known
 
--- The first code in a text that begins at this place of a line, and its place. None stands behind a colon and three blanks: they begin the text of an
--- explanation, behind its configuration.
+-- The first code at or after this position of a line, and its position. There is none after a colon and three blanks: those start the text of an
+-- explanation, after its configuration.
 abbrev pub code_from : List Code → ℕ → List ℕ → Option (ℕ × Code)
 code_from known place [] = None
 code_from known place (b ∷ rest) = if begins_with (b ∷ rest) (codes ":   ") then None
     else elim (code_among known (b ∷ rest)) [ Some code ↦ Some (place, code) | None ↦ code_from known (place + 1) rest ]
 
--- The first code in a line. A line that begins with a blank is one of an explanation, and has none.
+-- The first code in a line. A line that starts with a blank belongs to an explanation, and has none.
 abbrev pub first_code : List ℕ → Option (ℕ × Code)
 first_code line = if begins_with line (codes " ") then None else code_from all_codes 0 line
 
--- The line below it begins with two blanks, and with what stands before the code: the location, or the configuration.
+-- The line below it starts with two blanks and the text before the code: the location, or the configuration.
 abbrev pub hint_line : List ℕ → List ℕ → Code → List ℕ
 hint_line before reason code = codes "  " ++ (before ++ (codes "hint: " ++ (reason ++ (hint_text code ++ codes "\n"))))
 
 abbrev pub reason_of : Code → List ℕ → List ℕ
 reason_of code reason = if names_reason code then reason else []
 
--- How a line of diagnostics is shown. With --quiet-tree, a warning about the tree is left out. With --hints, another line that has a code is followed by
--- its hint, which begins with the reason of the system and with a fact, each of which may be empty. Any other line stands as it is.
+-- How a line of diagnostics is printed. With --quiet-tree, a warning about the tree is left out. With --hints, any other line with a code is followed
+-- by its hint, which starts with the reason of the system and with a fact; both may be empty. Other lines are printed unchanged.
 abbrev pub coded_line : Showing → List ℕ → List ℕ → List ℕ → ℕ → Code → List ℕ
 coded_line showing reason fact line place code = if showing.quiet_tree && is_about_tree code then []
     else if showing.hints then line ++ hint_line (take place line) (reason_of code reason ++ fact) code else line
@@ -147,6 +147,6 @@ coded_line showing reason fact line place code = if showing.quiet_tree && is_abo
 abbrev pub shown_line : Showing → List ℕ → List ℕ → List ℕ → List ℕ
 shown_line showing reason fact line = elim (first_code line) [ None ↦ line | Some found ↦ coded_line showing reason fact line found.0 found.1 ]
 
--- How diagnostics are shown without facts: line by line, in order.
+-- How diagnostics are printed without facts: line by line, in order.
 abbrev pub shown_text : Showing → List ℕ → List ℕ → List ℕ
 shown_text showing reason text = flat_map (shown_line showing reason []) (lines text)

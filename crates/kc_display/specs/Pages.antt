@@ -1,10 +1,10 @@
--- For proofs: A page of lines that is being filled.
+-- For proofs: A page of lines while it is filled.
 use Rattle.std.specs.Prelude.{◌≡◌, ◌++◌, ◌-◌, ◌^◌, List, Vec, ℕ, length, min, take}
 use Rattle.std.specs.declared.alloc.Global.{Global}
 use Rattle.kc_display.specs.Difference.{lines_text, most_lines, page_text}
 use Rattle.kc_display.specs.declared.page.Page.{Page}
 
--- the page shows the first of these lines, and counts them all
+-- the page has the first of these lines, and counts all of them
 pub record IsPage (lines : List (List ℕ)) (page : Page) : Type 0 where
   pub text : page.text.items ≡ lines_text (take most_lines lines)
   pub count : page.count ≡ min (length lines) (2 ^ 64 - 1)

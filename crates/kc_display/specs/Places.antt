@@ -1,4 +1,4 @@
--- For proofs: What is shown at the places of edits.
+-- For proofs: What is printed for edits.
 use Rattle.std.specs.Prelude.{◌≡◌, List, Some, ℕ, slice_get, take}
 use Rattle.std.specs.List.{enumerate_from, flat_map}
 use Rattle.kc_display.specs.Difference.{lines_at}
@@ -6,10 +6,10 @@ use Rattle.kc_display.specs.Pages.{Adds}
 use Rattle.kc_display.specs.declared.edits.Edit.{Edit}
 use Rattle.kc_display.specs.declared.page.Page.{Page}
 
--- the lines at the first n places were added
+-- the lines of the first n edits were added
 abbrev pub AddsAll : List Edit → ℕ → Page → Page → Type 0
 AddsAll edits n old new = Adds (flat_map (λ (k, e). lines_at edits k e) (enumerate_from 0 (take n edits))) old new
 
--- the lines at this place were added
+-- the lines of this edit were added
 abbrev pub AddsAt : List Edit → ℕ → Page → Page → Type 0
 AddsAt edits k old new = (e : Edit) → slice_get edits k ≡ Some e → Adds (lines_at edits k e) old new

@@ -133,7 +133,7 @@ pub(crate) const CODES: [Code; 40] = [
 ];
 
 impl Code {
-    /// What stands in a diagnostic with this code, before the text.
+    /// The text of the code in a diagnostic.
     pub(crate) fn text(self) -> &'static str
         ensures { result.now ≡ code_text self }
     {
@@ -181,7 +181,7 @@ impl Code {
         }
     }
 
-    /// What to do.
+    /// What the user can do.
     pub(crate) fn hint(self) -> &'static str
         ensures { result.now ≡ hint_text self }
     {
@@ -290,14 +290,14 @@ impl Code {
         }
     }
 
-    /// Whether its hint begins with the reason that the system gave: a file cannot be read or written.
+    /// Whether its hint starts with the reason of the system: a file cannot be read or written.
     pub(crate) fn names_reason(self) -> bool
         ensures { result ≡ names_reason self }
     {
         matches!(self, Code::CannotRead | Code::CannotWrite)
     }
 
-    /// Whether it is one about the tree.
+    /// Whether this is a code for a warning about the tree.
     pub(crate) fn is_about_tree(self) -> bool
         ensures { result ≡ is_about_tree self }
     {

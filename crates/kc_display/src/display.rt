@@ -1,4 +1,4 @@
-//! Diagnostics as they are shown: with hints, and without warnings about the tree.
+//! Diagnostics as they are printed: with hints, and without warnings about the tree.
 
 ghost use Rattle.std.specs.Prelude.{◌≡◌, ◌≤◌, ◌++◌, IfOk, IfSome, OnOk, drop, length};
 ghost use Rattle.kc_display.specs.Hints.{all_codes, code_among, coded_line, first_code, hint_line, shown_line, shown_text};
@@ -7,19 +7,19 @@ use crate::code::{CODES, Code};
 use crate::edits::lines_of;
 use std::alloc::{AllocError, Global};
 
-/// How diagnostics are shown.
+/// How diagnostics are printed.
 #[derive(Clone, Copy, Debug, PartialEq, Eq)]
 pub struct Showing {
     /// Whether the warnings about the tree are left out.
     pub quiet_tree: bool,
     /// Whether a hint follows each warning and error.
     pub hints: bool,
-    /// Whether the difference of each file that is not up to date follows its error.
+    /// Whether the difference of each stale file follows its error.
     pub differences: bool,
 }
 
 impl Showing {
-    /// Diagnostics are shown as they are.
+    /// Diagnostics are printed unchanged.
     pub const PLAIN: Showing = Showing {
         quiet_tree: false,
         hints: false,
@@ -27,7 +27,7 @@ impl Showing {
     };
 }
 
-// The first of these codes that the text begins with.
+// The first of these codes with which the text starts.
 fn code_among(codes: &[Code], text: &[u8]) -> Option<Code>
     ensures { result ≡ code_among codes.now text.now }
 {
@@ -39,14 +39,14 @@ fn code_among(codes: &[Code], text: &[u8]) -> Option<Code>
     None
 }
 
-// The code that a text begins with.
+// The code with which a text starts.
 fn code_at(text: &[u8]) -> Option<Code>
     ensures { result ≡ code_among all_codes text.now }
 {
     code_among(&CODES, text)
 }
 
-// What is left of the line after the first bytes.
+// The rest of the line after the first bytes.
 #[tactic(auto, using(std::proofs::lemmas::List::take_rest))]
 fn after(line: &[u8], count: usize) -> &[u8]
     requires { count ≤ length line.now }
@@ -55,8 +55,8 @@ fn after(line: &[u8], count: usize) -> &[u8]
     &line[count..]
 }
 
-/// Returns the first code of a line, and its place (our own). A line of an explanation has none: it begins with a blank, or two more blanks
-/// stand behind its configuration, a colon and a blank.
+/// Returns the first code of a line, and its position (our own). A line of an explanation has none: it starts with a
+/// blank, or two more blanks follow its configuration, a colon and a blank.
 pub fn find_code(line: &[u8]) -> Option<(usize, Code)>
     ensures is { result ≡ first_code line.now }
     ensures within { IfSome result (λ found. found.0 ≤ length line.now) }
@@ -96,7 +96,7 @@ fn add_hint(
     Ok(())
 }
 
-// Adds a line as it is.
+// Adds a line unchanged.
 fn add_plain(line: &[u8], text: &mut Vec<u8>) -> Result<(), AllocError>
     ensures { OnOk result (text.new.items ≡ text.old.items ++ line.now) }
 {
@@ -104,7 +104,7 @@ fn add_plain(line: &[u8], text: &mut Vec<u8>) -> Result<(), AllocError>
     Ok(())
 }
 
-// Adds a line that has this code at this place.
+// Adds a line that has this code at this position.
 fn add_coded(
     showing: Showing,
     reason: &str,
@@ -128,10 +128,10 @@ fn add_coded(
     Ok(())
 }
 
-/// Adds a line as it is shown (our own). `reason` is that of [`shown`]; `fact` is what its hint tells of the tree or of the input files, with
-/// what stands behind it, or is empty.
+/// Adds a line as it is printed (our own). `reason` is that of [`shown`]. `fact` is the fact about the tree or the
+/// input files in its hint, with its separator, or is empty.
 ///
-/// Its only error is to be out of memory.
+/// Fails only if there is not enough memory.
 pub fn add_shown(
     showing: Showing,
     reason: &str,
@@ -147,10 +147,10 @@ pub fn add_shown(
     }
 }
 
-/// Returns diagnostics as they are shown (our own). `reason` says why the system refused what failed last, with a blank and a
-/// semicolon behind it, or is empty.
+/// Returns diagnostics as they are printed (our own). `reason` is the system's reason for the last failure, followed by
+/// a semicolon and a blank, or is empty.
 ///
-/// It takes time and memory in proportion to the text. Its only error is to be out of memory.
+/// Takes time and memory linear in the text. Fails only if there is not enough memory.
 pub fn shown(
     alloc: Global,
     showing: Showing,

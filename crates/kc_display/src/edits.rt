@@ -6,7 +6,7 @@ ghost use Rattle.kc_display.specs.Steps.{Adds, IsFirstLine, Takes};
 
 use std::alloc::{AllocError, Global};
 
-/// What becomes of a line.
+/// What happens to a line.
 #[derive(Clone, Copy, Debug, PartialEq, Eq)]
 pub enum Mark {
     /// It is a line of both texts.
@@ -17,19 +17,19 @@ pub enum Mark {
     Added,
 }
 
-/// A line with what becomes of it.
+/// A line, and what happens to it.
 #[derive(Clone, Copy, Debug)]
 pub struct Edit<'a> {
-    /// What becomes of the line.
+    /// What happens to the line.
     pub mark: Mark,
-    /// The line, with the line feed that ends it.
+    /// The line, with its line feed.
     pub line: &'a [u8],
 }
 
-// How far apart lines may be that are taken for the same line again.
+// How far apart two lines may be to count as the same line.
 const WINDOW: usize = 64;
 
-// How many lines of each text are given up if no line comes again within the window.
+// How many lines of each text are skipped if no line recurs within the window.
 const STRIDE: usize = 32;
 
 // Cuts off the first line.
@@ -45,7 +45,8 @@ fn first_line<'a>(text: &'a [u8]) -> (&'a [u8], &'a [u8])
     (text, &text[text.len()..])
 }
 
-/// Returns the lines of a text, each with the line feed that ends it (our own). The last one may have none. Its only error is to be out of memory.
+/// Returns the lines of a text, each with its line feed (our own). The last one may have none. Fails only if there is
+/// not enough memory.
 pub fn lines_of<'a>(alloc: Global, text: &'a [u8]) -> Result<Vec<&'a [u8]>, AllocError>
     ensures { IfOk result (λ found. map (λ line. line.now) found.items ≡ lines text.now) }
 {
@@ -66,7 +67,7 @@ fn is_same(one: &[u8], other: &[u8]) -> bool
     one == other
 }
 
-// What is left of the lines after the first ones.
+// The rest of the lines after the first ones.
 #[tactic(auto, using(std::proofs::lemmas::List::take_rest))]
 fn after<'s, 'a>(lines: &'s [&'a [u8]], count: usize) -> &'s [&'a [u8]]
     requires { count ≤ length lines.now }
@@ -75,7 +76,7 @@ fn after<'s, 'a>(lines: &'s [&'a [u8]], count: usize) -> &'s [&'a [u8]]
     &lines[count..]
 }
 
-// How many lines at the start of both are the same.
+// The number of lines that are the same at the start of both.
 fn common_start(old: &[&[u8]], new: &[&[u8]]) -> usize
     ensures same { map (λ line. line.now) (take result old.now) ≡ map (λ line. line.now) (take result new.now) }
     ensures within_old { result ≤ length old.now }
@@ -91,7 +92,8 @@ fn common_start(old: &[&[u8]], new: &[&[u8]]) -> usize
     most
 }
 
-// How many lines to remove and to add until the next line that both have: the fewest, or some if none comes within the window.
+// How many lines to remove and to add before the next common line: the fewest, or some if there is none within the
+// window.
 fn gap(old: &[&[u8]], new: &[&[u8]]) -> (usize, usize)
     ensures removed { result.0 ≤ length old.now }
     ensures added { result.1 ≤ length new.now }
@@ -118,7 +120,7 @@ fn add<'a>(mark: Mark, lines: &[&'a [u8]], edits: &mut Vec<Edit<'a>>) -> Result<
     Ok(())
 }
 
-// Adds the lines up to the next ones that both may have, and returns how many it took of both.
+// Adds the lines before the next lines that may be common, and returns how many it took of both.
 fn advance<'a>(
     old: &[&'a [u8]],
     new: &[&'a [u8]],
@@ -162,9 +164,9 @@ fn edits_between<'a>(
     Ok(edits)
 }
 
-/// Returns edits that turn the old text into the new one: lines that come again within 64 lines are kept (our own).
+/// Returns edits that turn the old text into the new one: lines that recur within 64 lines are kept (our own).
 ///
-/// It takes time and memory in proportion to the lines of both texts. Its only error is to be out of memory.
+/// Takes time and memory linear in the lines of both texts. Fails only if there is not enough memory.
 pub fn edits_of<'a>(
     alloc: Global,
     old: &'a [u8],

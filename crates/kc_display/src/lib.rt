@@ -1,9 +1,11 @@
 #![tactic(auto)]
-//! How diagnostics are shown.
+//! How diagnostics are printed.
 //!
-//! - [`shown`]: diagnostics with hints, and without the warnings about the tree, as a [`Showing`] says. A [`Code`] has a hint.
-//! - [`add_shown`]: one line so, whose hint begins with a fact. [`find_code`] finds its code, and [`lines_of`] the lines of a text.
-//! - [`difference`]: how a file differs from the text that it is to hold, as `diff -u` shows it.
+//! - [`shown`]: diagnostics with hints, and without the warnings about the tree, as a [`Showing`] specifies. A [`Code`]
+//!   has a hint.
+//! - [`add_shown`]: the same for one line, whose hint starts with a fact. [`find_code`] finds its code, and
+//!   [`lines_of`] the lines of a text.
+//! - [`difference`]: the difference of a file and the text that it should hold, in the format of `diff -u`.
 //! - [`edits_of`]: the lines that are kept, removed and added. An [`Edit`] is a line with its [`Mark`].
 
 mod code;

@@ -7,10 +7,10 @@ ghost use Rattle.kc_display.specs.Pages.{Adds, IsPage, IsTextOf};
 
 use std::alloc::{AllocError, Global};
 
-// How many lines are shown.
+// The maximum number of printed lines.
 const MOST_LINES: u64 = 50;
 
-/// The first lines of a text, and how many lines it has.
+/// The first lines of a text, and its number of lines.
 #[derive(Drop)]
 pub(crate) struct Page {
     text: Vec<u8>,
@@ -36,7 +36,7 @@ fn add_line(parts: &[&[u8]], text: &mut Vec<u8>) -> Result<(), AllocError>
     Ok(())
 }
 
-// How many lines there are more than are shown.
+// Adds the number of lines that are not printed.
 fn add_more(alloc: Global, count: u64, text: &mut Vec<u8>) -> Result<(), AllocError>
     ensures { OnOk result (text.new.items ≡ text.old.items ++ more_text count) }
 {
@@ -59,14 +59,14 @@ impl Page {
         }
     }
 
-    /// Whether the next line is not shown.
+    /// Whether the next line is not printed.
     pub(crate) fn is_full(&self) -> bool
         ensures { result ≡ nat_le most_lines self.now.count }
     {
         self.count >= MOST_LINES
     }
 
-    /// Counts a line that is not shown.
+    /// Counts a line that is not printed.
     pub(crate) fn skip(&mut self)
         requires { most_lines ≤ self.old.count }
         ensures { (line : List ℕ) → Adds (line ∷ []) self.old self.new }
@@ -74,7 +74,7 @@ impl Page {
         self.count = self.count.saturating_add(1);
     }
 
-    /// Adds a line, whose parts have no line feed.
+    /// Adds a line. Its parts have no line feed.
     pub(crate) fn add(&mut self, parts: &[&[u8]]) -> Result<(), AllocError>
         ensures { OnOk result (Adds (flat_map (λ part. part.now) parts.now ∷ []) self.old self.new) }
     {

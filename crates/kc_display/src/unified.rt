@@ -1,4 +1,4 @@
-//! How a difference is shown.
+//! How a difference is printed.
 
 ghost use Rattle.std.specs.Prelude.{◌≡◌, ◌==◌, ◌<◌, ◌≤◌, ◌++◌, ◌∷◌, ◌+◌, ◌-◌, ◌^◌, [], IfOk, OnOk, Some, codes, count_by, if◌then◌else◌, length, slice_get, string_bytes};
 ghost use Rattle.kc_display.specs.Difference.{ShowsDifference, edit_lines, header, hunk_end, is_ended, is_kept, is_new, is_old, is_shown, mark_text, no_end_text, range_text, shown_lines, starts_hunk};
@@ -9,13 +9,13 @@ use crate::edits::{Edit, Mark, edits_of};
 use crate::page::Page;
 use std::alloc::{AllocError, Global};
 
-// What stands below a line that no line feed ends.
+// The text below a line without a line feed.
 const NO_END: &[u8] = b"\\ No newline at end of file";
 
-// How many edits before and after a change are shown.
+// How many edits before and after a change are printed.
 const CONTEXT: usize = 3;
 
-// What a line with this mark begins with.
+// The start of a line with this mark.
 fn mark_text(mark: Mark) -> &'static [u8]
     ensures { result.now ≡ mark_text mark }
 {
@@ -44,7 +44,7 @@ fn is_new(mark: Mark) -> bool
     !matches!(mark, Mark::Removed)
 }
 
-// Whether a line feed ends the line.
+// Whether the line has a line feed.
 fn is_ended(line: &[u8]) -> bool
     ensures { result ≡ is_ended line.now }
 {
@@ -54,21 +54,21 @@ fn is_ended(line: &[u8]) -> bool
     }
 }
 
-// Adds a line behind its mark.
+// Adds a line after its mark.
 fn add_marked<'a>(mark: &'a [u8], line: &'a [u8], page: &mut Page) -> Result<(), AllocError>
     ensures { OnOk result (Adds ((mark.now ++ line.now) ∷ []) page.old page.new) }
 {
     page.add(&[mark, line])
 }
 
-// Adds what stands below a line that no line feed ends.
+// Adds the text below a line without a line feed.
 fn add_no_end(page: &mut Page) -> Result<(), AllocError>
     ensures { OnOk result (Adds (no_end_text ∷ []) page.old page.new) }
 {
     page.add(&[NO_END])
 }
 
-// Adds a line behind its mark that no line feed ends.
+// Adds a line without a line feed, after its mark.
 fn add_unended<'a>(mark: &'a [u8], line: &'a [u8], page: &mut Page) -> Result<(), AllocError>
     ensures { OnOk result (Adds ((mark.now ++ line.now) ∷ no_end_text ∷ []) page.old page.new) }
 {
@@ -89,7 +89,7 @@ fn add_edit(edit: &Edit<'_>, page: &mut Page) -> Result<(), AllocError>
     add_unended(mark, line, page)
 }
 
-// Whether the edit is shown: it is a change or near one.
+// Whether the edit is printed: it is a change or near one.
 fn is_shown(edits: &[Edit<'_>], k: usize) -> bool
     requires { k < length edits.now }
     ensures { result ≡ is_shown edits.now k }
@@ -99,7 +99,7 @@ fn is_shown(edits: &[Edit<'_>], k: usize) -> bool
     edits[start..end].iter().any(|edit| !is_kept(edit.mark))
 }
 
-// Whether the edit before it is not shown.
+// Whether the edit before it is not printed.
 fn starts_hunk(edits: &[Edit<'_>], k: usize) -> bool
     requires { k < length edits.now }
     ensures { result ≡ starts_hunk edits.now k }
@@ -107,7 +107,7 @@ fn starts_hunk(edits: &[Edit<'_>], k: usize) -> bool
     k == 0 || !is_shown(edits, k - 1)
 }
 
-// The place after the edits from k on that are shown one after another.
+// The position after the printed edits in a row from k on.
 fn hunk_end(edits: &[Edit<'_>], k: usize) -> usize
     requires { k < length edits.now }
     ensures end { result ≡ hunk_end edits.now (length edits.now - k) k }
@@ -123,7 +123,7 @@ fn hunk_end(edits: &[Edit<'_>], k: usize) -> usize
     edits.len()
 }
 
-// How many of the edits are lines of the old text.
+// The number of edits that are lines of the old text.
 fn old_count(edits: &[Edit<'_>]) -> usize
     ensures count { result ≡ count_by (λ e. is_old e.mark) edits.now }
     ensures within { result ≤ length edits.now }
@@ -131,7 +131,7 @@ fn old_count(edits: &[Edit<'_>]) -> usize
     edits.iter().filter(|edit| is_old(edit.mark)).count()
 }
 
-// How many of the edits are lines of the new text.
+// The number of edits that are lines of the new text.
 fn new_count(edits: &[Edit<'_>]) -> usize
     ensures count { result ≡ count_by (λ e. is_new e.mark) edits.now }
     ensures within { result ≤ length edits.now }
@@ -139,7 +139,7 @@ fn new_count(edits: &[Edit<'_>]) -> usize
     edits.iter().filter(|edit| is_new(edit.mark)).count()
 }
 
-// The first line of a hunk in a text that has these lines before it, if it has lines there.
+// The first line of a hunk in a text with this many lines before it, if the hunk has lines of that text.
 fn first_of(before: usize, count: usize) -> usize
     requires { before < 2 ^ 63 }
     ensures { result ≡ (if count == 0 then before else before + 1) }
@@ -181,7 +181,7 @@ fn add_header(
     add_ranges(old.as_bytes(), new.as_bytes(), page)
 }
 
-// Adds the line before a hunk, or counts it if it is not shown.
+// Adds the line before a hunk, or only counts it if it is not printed.
 fn add_header_if(
     alloc: Global,
     edits: &[Edit<'_>],
@@ -209,7 +209,7 @@ fn add_start(alloc: Global, edits: &[Edit<'_>], k: usize, page: &mut Page) -> Re
     Ok(())
 }
 
-// The edit at a place.
+// The edit at a position.
 fn edit_at<'a>(edits: &[Edit<'a>], k: usize) -> Edit<'a>
     requires { k < length edits.now }
     ensures { slice_get edits.now k ≡ Some result }
@@ -217,7 +217,7 @@ fn edit_at<'a>(edits: &[Edit<'a>], k: usize) -> Edit<'a>
     edits[k]
 }
 
-// Adds what is shown at this place.
+// Adds the lines for the edit at this position.
 fn add_place(alloc: Global, edits: &[Edit<'_>], k: usize, page: &mut Page) -> Result<(), AllocError>
     requires { k < length edits.now }
     ensures { OnOk result (AddsAt edits.now k page.old page.new) }
@@ -230,7 +230,7 @@ fn add_place(alloc: Global, edits: &[Edit<'_>], k: usize, page: &mut Page) -> Re
     add_edit(&edit, page)
 }
 
-// Adds what is shown at all places.
+// Adds the lines for all edits.
 fn add_places(alloc: Global, edits: &[Edit<'_>], page: &mut Page) -> Result<(), AllocError>
     ensures { OnOk result (AddsAll edits.now (length edits.now) page.old page.new) }
 {
@@ -254,7 +254,7 @@ fn add_new_name<'a>(name: &'a [u8], page: &mut Page) -> Result<(), AllocError>
     page.add(&[b"+++ ", name, b" (expected)"])
 }
 
-// Adds all lines that are shown.
+// Adds all lines of the difference.
 fn add_all(
     alloc: Global,
     name: &[u8],
@@ -269,10 +269,10 @@ fn add_all(
     Ok(())
 }
 
-/// Returns how the old text of the file of this name differs from the new one, which it is to hold: hunks with three lines of context,
-/// and of these at most 50 lines (our own; the form is that of `diff -u`).
+/// Returns the difference of the old text of this file and the new text that it should hold: hunks with three lines of
+/// context, at most 50 lines in total (our own; the format is that of `diff -u`).
 ///
-/// It takes time and memory in proportion to the lines of both texts. Its only error is to be out of memory.
+/// Takes time and memory linear in the lines of both texts. Fails only if there is not enough memory.
 pub fn difference(alloc: Global, name: &str, old: &[u8], new: &[u8]) -> Result<Vec<u8>, AllocError>
     ensures { IfOk result (λ text. ShowsDifference name.now old.now new.now text.items) }
 {

@@ -1,4 +1,4 @@
--- Trusted: The facts that hints begin with (our own).
+-- Trusted: The facts at the start of hints (our own).
 use Rattle.std.specs.{Borrow.Bor, Char.is_ascii_digit, List.{ends_with, flat_map, slice_split, starts_with, suffix_len}, Str.Lines.strip_carriage_return, Prelude.{Bool, List, None, Option, Some, [], codes, decimal, drop, false, filter, find, if◌then◌else◌, length, map, min, nat_eq, nat_lt, option_and_then, option_map, position, slice_get, take, true, ℕ, ◌&&◌, ◌++◌, ◌+◌, ◌-◌, ◌*◌, ◌==◌, ◌^◌, ◌||◌, ◌∷◌}}
 use Rattle.kc_language.specs.{ConfigFile.{LineMeaning, Set, meaning_of, symbol_named, without_prefix, without_suffix}, Expansion.{defined_name, is_attribute}, Expressions.{same_name, symbol}, Statements.{Located, Numbered, RangeLine}, Symbols.{TreeFacts, is_symbol_of}, Text.{byte, longest_value}, Values.{facts, type_in}, declared.expressions.{SymId.SymId, SymbolType.{SymbolType, TheVariants.{Bool as IsBool, Hex, Int, Str, Tristate, Undefined}}}}
 use Rattle.kc_read.specs.Entries.{lines_in}
@@ -7,12 +7,12 @@ use Rattle.kc_hints.specs.Forms.{form_of}
 use Rattle.kc_hints.specs.Near.{mentioned_text, typed_text}
 use Rattle.kc_hints.specs.declared.facts.{Facts.Facts, Input.Input, TreeLines.TreeLines}
 
--- The n-th part of a text between these bytes, counted from 0.
+-- The n-th part of a text that is separated by these bytes, counted from 0.
 abbrev pub part_at : List ℕ → ℕ → ℕ → Option (List ℕ)
 part_at text separator n = slice_get (slice_split (λ b. b == separator) text) n
 
--- ---- The place in front of a diagnostic
--- `FILE:LINE: `: all before the last `:`, and the number that the digits behind it write, which stays at 2^64 - 1.
+-- ---- The location at the start of a diagnostic
+-- `FILE:LINE: `: FILE is all before the last `:`, and LINE the number in the digits after it, limited to 2^64 - 1.
 abbrev pub number_from : ℕ → List ℕ → ℕ
 number_from n [] = n
 number_from n (b ∷ bs) = number_from (min (n * 10 + (b - byte "0")) (2 ^ 64 - 1)) bs
@@ -25,7 +25,7 @@ place_in before = option_and_then (λ front.
     option_map (λ file. (file, number_from 0 (drop (digits_start front) front))) (without_suffix (codes ":") (take (digits_start front) front)))
     (without_suffix (codes ": ") before)
 
--- It names a file: alone, or behind a configuration, a `:` and a blank. The first file of this name is meant.
+-- It names a file: alone, or after a configuration, a `:` and a blank. It means the first file of this name.
 abbrev pub names_file : List ℕ → List ℕ → Bool
 names_file file name = elim (without_suffix name file) [ None ↦ false | Some front ↦ length front == 0 || ends_with nat_eq front (codes ": ") ]
 
@@ -34,7 +34,7 @@ input_at inputs before =
     option_and_then (λ place. option_map (λ input. (input, place.1)) (find (λ input. names_file place.0 input.name.items) inputs)) (place_in before)
 
 -- ---- Byte order marks
--- The place is the first line of a file that begins with a UTF-8 byte order mark.
+-- The location is the first line of a file that starts with a UTF-8 byte order mark.
 abbrev pub mark : List ℕ
 mark = 239 ∷ 187 ∷ 191 ∷ []
 
@@ -42,7 +42,7 @@ abbrev pub is_marked : List Input → List ℕ → Bool
 is_marked inputs before = elim (input_at inputs before) [ None ↦ false | Some found ↦ found.1 == 1 && starts_with nat_eq found.0.bytes.items mark ]
 
 -- ---- Values
--- The value of the line at the place.
+-- The value of the line at the location.
 abbrev pub value_of : LineMeaning → Option (List ℕ)
 value_of meaning = elim meaning [ Set called text ↦ Some text | _ ↦ None ]
 
@@ -53,7 +53,7 @@ abbrev pub value_at : List ℕ → List Input → List ℕ → Option (List ℕ)
 value_at prefix inputs before = option_and_then (λ found.
     option_and_then (λ line. value_of (meaning_of prefix (strip_carriage_return line))) (line_at found.0.bytes.items found.1)) (input_at inputs before)
 
--- What is said of it: a long value is cut, and one that is too long is not shown.
+-- The text about it: a long value is cut, and one that is too long is not shown.
 abbrev pub type_word : SymbolType → List ℕ
 type_word Undefined = codes "symbol"
 type_word IsBool = codes "bool"
@@ -88,7 +88,7 @@ line_place l = (l.file, l.line)
 abbrev pub range_places : SymId → List (Located Numbered) → List (List ℕ × ℕ)
 range_places s ls = map line_place (range_lines s false ls)
 
--- What is said of them: where the first five stand.
+-- The text about them: the locations of the first five.
 abbrev pub most_places : ℕ
 most_places = 5
 
@@ -104,7 +104,8 @@ places_text places = if length places == 0 then [] else (if length places == 1 t
     ++ joined (take most_places places) ++ (if nat_lt most_places (length places) then codes ".." else []) ++ codes "; "
 
 -- ---- The fact of a diagnostic
--- `before` stands before its code, and `said` is the rest of its line. The names in K12 and E24: a value has no blank, and no name of a symbol a `;`.
+-- `before` is the text before its code, and `said` is the rest of its line. The names in K12 and E24: a value has no blank, and no name of a symbol a
+-- `;`.
 abbrev pub name_unknown : List ℕ → Option (List ℕ)
 name_unknown said = without_prefix (codes "warning K7: unknown symbol ") said
 
@@ -117,14 +118,14 @@ name_outside said = option_and_then (λ text. part_at text (byte " ") 2) (withou
 abbrev pub name_asked : List ℕ → Option (List ℕ)
 name_asked said = option_and_then (λ text. part_at text (byte ";") 0) (without_prefix (codes "error E24: no symbol has the name ") said)
 
--- The text of what is there, or nothing.
+-- The text, or an empty one if there is none.
 abbrev pub text_or_none : Option (List ℕ) → List ℕ
 text_or_none text = elim text [ None ↦ [] | Some bytes ↦ bytes ]
 
 abbrev pub marked_text : List ℕ
 marked_text = codes "the file begins with a UTF-8 byte order mark, which is no part of the language; "
 
--- Near names; the value that a symbol of the tree does not take; the ranges of a symbol; that the file begins with a byte order mark.
+-- Similar names; the value that a symbol of the tree does not accept; the ranges of a symbol; that the file starts with a byte order mark.
 abbrev pub near_unknown : Facts → List ℕ → List ℕ
 near_unknown known said = text_or_none (option_and_then (λ (tree : Bor TreeFacts). option_map (typed_text tree.now known.prefix.now) (name_unknown said)) known.tree)
 
@@ -148,7 +149,7 @@ ranges_fact known said = text_or_none (option_and_then (λ lines. option_and_the
 abbrev pub mark_fact : Facts → List ℕ → List ℕ
 mark_fact known before = if is_marked known.inputs.now before then marked_text else []
 
--- What stands in the line of the place is looked up by its first word: the form that the line has to have (E8), and where it may stand (E10).
+-- The text about the line at the location depends on its first word: the required form of the line (E8), and where it may be (E10).
 abbrev pub line_form : List Input → List ℕ → Option (List ℕ × List ℕ)
 line_form inputs before = option_and_then (λ found. option_and_then form_of (line_at found.0.bytes.items found.1)) (input_at inputs before)
 
@@ -189,7 +190,7 @@ abbrev pub hinted_text : Showing → List ℕ → Facts → List ℕ → List �
 hinted_text showing reason known text = flat_map (hinted_line showing reason known) (lines text)
 
 -- ---- Diagnostics that wait
--- A hint may begin with a fact, for which the tree or a file is needed.
+-- A hint may start with a fact, which needs the tree or a file.
 abbrev pub is_first : List ℕ → Bool
 is_first before = elim (place_in before) [ None ↦ false | Some place ↦ place.1 == 1 ]
 
@@ -207,7 +208,7 @@ may_wait _ before = false
 abbrev pub may_have_fact : List ℕ → Bool
 may_have_fact line = elim (first_code line) [ None ↦ false | Some found ↦ may_wait found.1 (take found.0 line) ]
 
--- The values outside their ranges (K12), for which the lines of the tree are needed.
+-- The code for values outside their ranges (K12), whose hints need the lines of the tree.
 abbrev pub is_outside_code : Code → Bool
 is_outside_code OutsideRange = true
 is_outside_code _ = false
@@ -215,7 +216,7 @@ is_outside_code _ = false
 abbrev pub is_outside : List ℕ → Bool
 is_outside line = elim (first_code line) [ None ↦ false | Some found ↦ is_outside_code found.1 ]
 
--- The file that has a refused line of which a hint tells (E8, E10), or whose first line is refused for a byte that begins no token (E5).
+-- The file of a refused line that a hint describes (E8, E10), or whose first line is refused because no token starts with one of its bytes (E5).
 abbrev pub needs_line : Code → ℕ → Bool
 needs_line Syntax number = true
 needs_line Misplaced number = true

@@ -1,4 +1,4 @@
--- For proofs: What a form says.
+-- For proofs: The meaning of a form.
 use Rattle.std.specs.Prelude.{List, ℕ}
 use Rattle.kc_hints.specs.declared.form.Form.{Form}
 

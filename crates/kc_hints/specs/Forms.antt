@@ -1,8 +1,8 @@
--- Trusted: The forms of the lines of a tree, and where they may stand, as hints tell them (our own).
+-- Trusted: The forms of the lines of a tree, and where they may be, as hints print them (our own).
 use Rattle.std.specs.{Map.lookup, Option.option_or, Prelude.{List, Option, [], codes, if◌then◌else◌, ℕ, ◌∷◌}}
 use Rattle.kc_language.specs.{Expressions.same_name, Tokens.is_blank}
 
--- Where lines may stand.
+-- Where lines may be.
 abbrev pub anywhere : List ℕ
 anywhere = codes "anywhere"
 
@@ -18,7 +18,7 @@ in_config = codes "in a config"
 abbrev pub in_config_or_choice : List ℕ
 in_config_or_choice = codes "in a config or a choice"
 
--- Each word that may begin a line, with the form of the line and where it may stand: attributes, types, and all others.
+-- Each word that may start a line, with the form of the line and where it may be: attributes, types, and all others.
 abbrev pub attribute_forms : List (List ℕ × (List ℕ × List ℕ))
 attribute_forms =
     (codes "prompt", (codes "prompt TEXT [if EXPR]", in_config_or_choice)) ∷
@@ -66,7 +66,7 @@ form_in forms word = lookup (same_name word) forms
 abbrev pub form_for : List ℕ → Option (List ℕ × List ℕ)
 form_for word = option_or (form_in attribute_forms word) (option_or (form_in type_forms word) (form_in statement_forms word))
 
--- The first word of a line: what stands between its first blanks.
+-- The first word of a line: the bytes between its first blanks.
 abbrev pub without_blanks : List ℕ → List ℕ
 without_blanks [] = []
 without_blanks (b ∷ bs) = if is_blank b then without_blanks bs else b ∷ bs

@@ -12,7 +12,7 @@ use Rattle.kc_hints.specs.declared.ranges.RangePlace.{RangePlace}
 abbrev pub place_view : RangePlace → List ℕ × ℕ
 place_view p = (p.file.now, p.line)
 
--- the place of a line of an entry, if it gives a range; those of an entry, if it is one of the symbol
+-- the location of a line of an entry, if it gives a range; those of an entry, if it is one of the symbol
 abbrev pub place_if : Entry → AttributeLine → List (List ℕ × ℕ)
 place_if e a = if is_range (attribute_view a.attribute) then (e.file.value.items, a.line) ∷ [] else []
 

@@ -1,4 +1,4 @@
-//! Diagnostics with hints that begin with facts.
+//! Diagnostics with hints that start with facts.
 ghost use Rattle.std.specs.List.{list_any};
 ghost use Rattle.std.specs.Prelude.{◌≡◌, ◌∷◌, ◌++◌, [], IfOk, None, OnOk, option_map};
 ghost use Rattle.kc_display.specs.Difference.{lines};
@@ -19,7 +19,7 @@ fn without_end(line: &[u8]) -> &[u8]
     }
 }
 
-// The fact that the hint of a line begins with.
+// The fact at the start of a line's hint.
 fn fact_of(alloc: Global, facts: &Facts<'_>, line: &[u8]) -> Result<Vec<u8>, AllocError>
     ensures { IfOk result (λ fact. fact.items ≡ fact_of facts.now line.now) }
 {
@@ -29,7 +29,7 @@ fn fact_of(alloc: Global, facts: &Facts<'_>, line: &[u8]) -> Result<Vec<u8>, All
     }
 }
 
-// Adds a line as it is shown.
+// Adds a line in its printed form.
 fn add_hinted(
     alloc: Global,
     showing: Showing,
@@ -44,9 +44,11 @@ fn add_hinted(
     add_shown(showing, reason, &fact, line, text)
 }
 
-/// Returns diagnostics as they are shown, with hints that begin with facts (our own). `reason` is that of `shown` of kc_display.
+/// Returns diagnostics in their printed form, with hints that start with facts (our own). `reason` is that of `shown`
+/// of kc_display.
 ///
-/// It takes time in proportion to the text, and for each name that it looks for in proportion to the tree. Its only error is to be out of memory.
+/// Takes time linear in the text, and for each name that it searches also linear in the tree. Fails only if there is
+/// not enough memory.
 pub fn hinted(
     alloc: Global,
     showing: Showing,
@@ -64,7 +66,7 @@ pub fn hinted(
     Ok(shown)
 }
 
-// Whether what stands before a diagnostic is the first line of a file.
+// Whether the text before a diagnostic is the first line of a file.
 fn is_first(before: &[u8]) -> bool
     ensures { result ≡ is_first before.now }
 {
@@ -74,7 +76,7 @@ fn is_first(before: &[u8]) -> bool
     }
 }
 
-// Whether the hint of a code may begin with a fact.
+// Whether the hint of a code may start with a fact.
 fn may_wait(code: Code, before: &[u8]) -> bool
     ensures { result ≡ may_wait code before.now }
 {
@@ -90,7 +92,7 @@ fn may_wait(code: Code, before: &[u8]) -> bool
     }
 }
 
-// Whether the hint of a line may begin with a fact.
+// Whether the hint of a line may start with a fact.
 fn may_have_fact(line: &[u8]) -> bool
     ensures { result ≡ may_have_fact line.now }
 {
@@ -100,14 +102,15 @@ fn may_have_fact(line: &[u8]) -> bool
     }
 }
 
-// Whether the hint of one of these lines may begin with a fact.
+// Whether the hint of one of these lines may start with a fact.
 fn may_some_have_fact(lines: &[&[u8]]) -> bool
     ensures { result ≡ list_any (λ line. may_have_fact line.now) lines.now }
 {
     lines.iter().any(|line| may_have_fact(line))
 }
 
-/// Returns whether a hint of these diagnostics may begin with a fact (our own). Its only error is to be out of memory.
+/// Returns whether a hint of these diagnostics may start with a fact (our own). Fails only if there is not enough
+/// memory.
 pub fn waits(alloc: Global, text: &[u8]) -> Result<bool, AllocError>
     ensures { IfOk result (λ waits. waits ≡ list_any may_have_fact (lines text.now)) }
 {
@@ -115,14 +118,14 @@ pub fn waits(alloc: Global, text: &[u8]) -> Result<bool, AllocError>
     Ok(may_some_have_fact(&found))
 }
 
-// Whether it is the code of a value outside its range.
+// Whether this is the code for a value outside its range.
 fn is_outside_code(code: Code) -> bool
     ensures { result ≡ is_outside_code code }
 {
     matches!(code, Code::OutsideRange)
 }
 
-// Whether a line tells of a value outside its range.
+// Whether a line reports a value outside its range.
 fn is_outside(line: &[u8]) -> bool
     ensures { result ≡ is_outside line.now }
 {
@@ -139,7 +142,8 @@ fn is_some_outside(lines: &[&[u8]]) -> bool
     lines.iter().any(|line| is_outside(line))
 }
 
-/// Returns whether one of these diagnostics tells of a value outside its range, K12 (our own). Its only error is to be out of memory.
+/// Returns whether one of these diagnostics reports a value outside its range, K12 (our own). Fails only if there is
+/// not enough memory.
 pub fn tells_range(alloc: Global, text: &[u8]) -> Result<bool, AllocError>
     ensures { IfOk result (λ tells. tells ≡ list_any is_outside (lines text.now)) }
 {
@@ -147,7 +151,7 @@ pub fn tells_range(alloc: Global, text: &[u8]) -> Result<bool, AllocError>
     Ok(is_some_outside(&found))
 }
 
-// Whether a hint of this code tells of the line with this number of a file of the tree.
+// Whether a hint of this code describes the line of this number in a file of the tree.
 fn needs_line(code: Code, number: usize) -> bool
     ensures { result ≡ needs_line code number }
 {
@@ -158,7 +162,7 @@ fn needs_line(code: Code, number: usize) -> bool
     }
 }
 
-// The file of a place, if a hint of this code tells of its line.
+// The file of a location, if a hint of this code describes its line.
 fn file_needed(code: Code, before: &[u8]) -> Option<&[u8]>
     ensures { option_map (λ file. file.now) result ≡ file_needed code (place_in before.now) }
 {
@@ -168,7 +172,7 @@ fn file_needed(code: Code, before: &[u8]) -> Option<&[u8]>
     }
 }
 
-// The file of the tree that a line tells of, if a hint tells of the refused line.
+// The file of the tree in a line, if a hint describes the refused line.
 fn refused_file(line: &[u8]) -> Option<&[u8]>
     ensures { option_map (λ file. file.now) result ≡ refused_file line.now }
 {
@@ -178,9 +182,9 @@ fn refused_file(line: &[u8]) -> Option<&[u8]>
     }
 }
 
-/// Returns the file of the tree that has the line that is refused, if these diagnostics begin with that and a hint tells of the line: what form it has to
-/// have (E8), where it may stand (E10), or that the file begins with a byte order mark (E5 in its first line). (Our own.) Its only error is to be out
-/// of memory.
+/// Returns the file of the tree with the refused line, if these diagnostics start with its error and a hint describes
+/// the line: its required form (E8), where it may be (E10), or that the file starts with a byte order mark (E5 in its
+/// first line). (Our own.) Fails only if there is not enough memory.
 pub fn refused_in(alloc: Global, text: &[u8]) -> Result<Option<&[u8]>, AllocError>
     ensures { IfOk result (λ file. option_map (λ file. file.now) file ≡ elim (lines text.now) [ [] ↦ None | line ∷ more ↦ refused_file line ]) }
 {

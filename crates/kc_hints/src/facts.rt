@@ -1,4 +1,4 @@
-//! What is known of the tree and of the input files, and what of it a hint begins with.
+//! The facts about the tree and the input files, and the fact at the start of a hint.
 ghost use Rattle.std.specs.Prelude.{◌≡◌, [], IfOk, option_map};
 ghost use Rattle.kc_language.specs.Values.{facts, type_in};
 ghost use Rattle.kc_hints.specs.FormView.{form_view};
@@ -15,21 +15,21 @@ use kc_read::entries::Entries;
 use kc_tree::tree::Tree;
 use std::alloc::{AllocError, Global};
 
-/// A file that was read: its name, as it was given, and its bytes.
+/// A file that was read: its name, as given, and its bytes.
 #[derive(Drop)]
 pub struct Input {
     pub name: Vec<u8>,
     pub bytes: Vec<u8>,
 }
 
-/// The lines of a tree, and the names that they mention.
+/// The lines of a tree, and the names in them.
 #[derive(Clone, Copy)]
 pub struct TreeLines<'a> {
     pub names: &'a Names,
     pub entries: &'a Entries,
 }
 
-/// What is known for hints: the prefix of names, the tree, its lines, and the files that were read.
+/// The facts for hints: the prefix of names, the tree, its lines, and the files that were read.
 #[derive(Clone, Copy)]
 pub struct Facts<'a> {
     pub prefix: &'a [u8],
@@ -38,7 +38,7 @@ pub struct Facts<'a> {
     pub inputs: &'a [Input],
 }
 
-// What a hint says of a file that begins with a byte order mark.
+// The text of a hint about a file that starts with a byte order mark.
 const MARKED: &[u8] =
     b"the file begins with a UTF-8 byte order mark, which is no part of the language; ";
 
@@ -77,7 +77,7 @@ fn type_of(tree: &Tree, id: SymId) -> SymbolType
     }
 }
 
-// What is said of a value that the symbol of this name does not take.
+// The text about a value that the symbol of this name does not accept.
 fn refused_value(
     alloc: Global,
     tree: &Tree,
@@ -92,7 +92,7 @@ fn refused_value(
     }
 }
 
-// What is said of the ranges of the symbol of this name.
+// The text about the ranges of the symbol of this name.
 fn ranges_of(alloc: Global, lines: &TreeLines<'_>, name: &[u8]) -> Result<Vec<u8>, AllocError>
     ensures { IfOk result (λ fact. fact.items ≡ text_or_none (ranges_of lines.now name.now)) }
 {
@@ -105,7 +105,7 @@ fn ranges_of(alloc: Global, lines: &TreeLines<'_>, name: &[u8]) -> Result<Vec<u8
     }
 }
 
-// What is said of the form of a line.
+// The text about the form of a line.
 fn form_text(alloc: Global, form: Form) -> Result<Vec<u8>, AllocError>
     ensures { IfOk result (λ text. text.items ≡ form_text (form_view form)) }
 {
@@ -116,7 +116,7 @@ fn form_text(alloc: Global, form: Form) -> Result<Vec<u8>, AllocError>
     Ok(text)
 }
 
-// What is said of where a line stands.
+// The text about where a line may be.
 fn position_text(alloc: Global, form: Form) -> Result<Vec<u8>, AllocError>
     ensures { IfOk result (λ text. text.items ≡ position_text (form_view form)) }
 {
@@ -129,7 +129,7 @@ fn position_text(alloc: Global, form: Form) -> Result<Vec<u8>, AllocError>
 }
 
 impl<'a> Facts<'a> {
-    /// Nothing is known.
+    /// Returns no facts.
     pub fn none() -> Facts<'a> {
         Facts {
             prefix: b"",
@@ -139,7 +139,7 @@ impl<'a> Facts<'a> {
         }
     }
 
-    // The names that are near to one that K7 tells.
+    // The names that are similar to the name in K7.
     fn near_unknown(&self, alloc: Global, said: &[u8]) -> Result<Vec<u8>, AllocError>
         ensures { IfOk result (λ fact. fact.items ≡ near_unknown self.now said.now) }
     {
@@ -152,7 +152,7 @@ impl<'a> Facts<'a> {
         }
     }
 
-    // The names that are near to one that E24 tells.
+    // The names that are similar to the name in E24.
     fn near_asked(&self, alloc: Global, said: &[u8]) -> Result<Vec<u8>, AllocError>
         ensures { IfOk result (λ fact. fact.items ≡ near_asked self.now said.now) }
     {
@@ -165,7 +165,7 @@ impl<'a> Facts<'a> {
         }
     }
 
-    // The value that K8 tells of, and the type of the symbol.
+    // The value in K8, and the type of the symbol.
     fn value(&self, alloc: Global, before: &[u8], said: &[u8]) -> Result<Vec<u8>, AllocError>
         ensures { IfOk result (λ fact. fact.items ≡ value_fact self.now before.now said.now) }
     {
@@ -181,7 +181,7 @@ impl<'a> Facts<'a> {
         }
     }
 
-    // Where the ranges of the symbol stand that K12 tells of.
+    // The locations of the ranges of the symbol in K12.
     fn ranges(&self, alloc: Global, said: &[u8]) -> Result<Vec<u8>, AllocError>
         ensures { IfOk result (λ fact. fact.items ≡ ranges_fact self.now said.now) }
     {
@@ -194,7 +194,7 @@ impl<'a> Facts<'a> {
         }
     }
 
-    // That the file begins with a byte order mark, if it does.
+    // The fact that the file starts with a byte order mark, if it does.
     fn mark(&self, alloc: Global, before: &[u8]) -> Result<Vec<u8>, AllocError>
         ensures { IfOk result (λ fact. fact.items ≡ mark_fact self.now before.now) }
     {
@@ -204,7 +204,7 @@ impl<'a> Facts<'a> {
         nothing(alloc)
     }
 
-    // What form the line has to have that E8 tells of.
+    // The required form of the line in E8.
     fn form(&self, alloc: Global, before: &[u8]) -> Result<Vec<u8>, AllocError>
         ensures { IfOk result (λ fact. fact.items ≡ form_fact self.now before.now) }
     {
@@ -214,7 +214,7 @@ impl<'a> Facts<'a> {
         }
     }
 
-    // Where the line may stand that E10 tells of.
+    // Where the line in E10 may be.
     fn position(&self, alloc: Global, before: &[u8]) -> Result<Vec<u8>, AllocError>
         ensures { IfOk result (λ fact. fact.items ≡ position_fact self.now before.now) }
     {
@@ -224,8 +224,8 @@ impl<'a> Facts<'a> {
         }
     }
 
-    /// Returns the fact for a diagnostic with this code: `before` stands before its code, and `said` is the rest of its line. Its only error is
-    /// to be out of memory.
+    /// Returns the fact for a diagnostic with this code. `before` is the text before its code, and `said` is the rest
+    /// of its line. Fails only if there is not enough memory.
     pub(crate) fn of(
         &self,
         alloc: Global,

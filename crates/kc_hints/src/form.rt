@@ -1,4 +1,4 @@
-//! The form of a line of a tree, and where such a line may stand.
+//! The form of a line of a tree, and where such a line may be.
 ghost use Rattle.std.specs.Prelude.{◌≡◌, option_map, Some};
 ghost use Rattle.kc_language.specs.Expressions.{same_name};
 ghost use Rattle.kc_hints.specs.FormView.{form_view};
@@ -7,7 +7,7 @@ ghost use Rattle.kc_hints.specs.Forms.{attribute_forms, form_in, statement_forms
 
 use kc_text::is_blank;
 
-/// The form of a line, and where it may stand.
+/// The form of a line, and where it may be.
 #[derive(Clone, Copy)]
 pub(crate) struct Form {
     pub form: &'static [u8],
@@ -112,7 +112,7 @@ fn statement_form(word: &[u8]) -> Option<Form>
     }
 }
 
-// The form of the lines that begin with a word.
+// The form of the lines that start with a word.
 fn form_for(word: &[u8]) -> Option<Form>
     ensures { option_map form_view result ≡ spec.form_for word.now }
 {
@@ -125,7 +125,7 @@ fn form_for(word: &[u8]) -> Option<Form>
     statement_form(word)
 }
 
-// The bytes from the first one on that is no blank.
+// The bytes from the first one that is not a blank.
 fn without_blanks(bytes: &[u8]) -> &[u8]
     ensures { result.now ≡ spec.without_blanks bytes.now }
 {

@@ -1,8 +1,9 @@
 #![tactic(auto)]
-//! Hints with facts of the tree and of the input files.
+//! Hints with facts about the tree and the input files.
 //!
-//! - [`hinted`]: diagnostics with hints, of which some begin with a fact. [`Facts`] is what is known.
-//! - [`waits`]: whether a diagnostic waits for such a fact. [`tells_range`] and [`refused_in`] tell what has to be read for it.
+//! - [`hinted`]: diagnostics with hints, some of which start with a fact. [`Facts`] are the known facts.
+//! - [`waits`]: whether a diagnostic waits for such a fact. [`tells_range`] and [`refused_in`] say what must be read
+//!   for it.
 
 mod diagnostics;
 mod facts;

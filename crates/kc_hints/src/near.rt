@@ -1,4 +1,4 @@
-//! Names that are near to one that nothing has.
+//! Names that are similar to a name that no symbol has.
 ghost use Rattle.std.specs.List.{list_all};
 ghost use Rattle.std.specs.Option.{option_copied};
 ghost use Rattle.std.specs.Prelude.{◌≡◌, ◌≤◌, ◌==◌, ◌+◌, ◌&&◌, ◌++◌, ◌∷◌, [], IfOk, OnOk, if◌then◌else◌, length, map};
@@ -9,10 +9,10 @@ use kc_expr::expression::{SymId, SymbolType};
 use kc_tree::tree::Tree;
 use std::alloc::{AllocError, Global};
 
-/// How many names a hint has at most.
+/// The maximum number of names in a hint.
 const MOST_NAMES: usize = 3;
 
-// Whether the first two letters of one name are those of the other in the other order, and all others are the same.
+// Whether the first two letters of the names are swapped, and all others are the same.
 fn are_first_exchanged(asked: &[u8], name: &[u8]) -> bool
     ensures { result ≡ are_first_exchanged asked.now name.now }
 {
@@ -24,7 +24,7 @@ fn are_first_exchanged(asked: &[u8], name: &[u8]) -> bool
     }
 }
 
-// Whether two neighbouring letters are exchanged.
+// Whether two neighbouring letters are swapped.
 fn are_exchanged(mut asked: &[u8], mut name: &[u8]) -> bool
     ensures { result ≡ are_exchanged asked.entry.now name.entry.now }
 {
@@ -50,21 +50,21 @@ fn parts_of(alloc: Global, name: &[u8]) -> Result<Vec<&[u8]>, AllocError>
     name.split(|b| *b == b'_').collect(alloc)
 }
 
-// How often a part stands among others.
+// How often a part occurs among others.
 fn count_of(part: &[u8], among: &[&[u8]]) -> usize
     ensures { result ≡ count_of part.now (map (λ other. other.now) among.now) }
 {
     among.iter().filter(|other| part == **other).count()
 }
 
-// Whether a part stands as often in both.
+// Whether a part occurs equally often in both.
 fn is_as_often(part: &[u8], one: &[&[u8]], other: &[&[u8]]) -> bool
     ensures { result ≡ (count_of part.now (map (λ part. part.now) one.now) == count_of part.now (map (λ part. part.now) other.now)) }
 {
     count_of(part, one) == count_of(part, other)
 }
 
-// Whether each part of the first stands as often in both.
+// Whether each part of the first occurs equally often in both.
 fn stand_as_often(one: &[&[u8]], other: &[&[u8]]) -> bool
     ensures { result ≡ list_all (λ part. count_of part.now (map (λ part. part.now) one.now) == count_of part.now (map (λ part. part.now) other.now)) one.now }
 {
@@ -90,7 +90,7 @@ fn is_moved(alloc: Global, asked: &[u8], name: &[u8]) -> Result<bool, AllocError
     Ok(are_same_parts(&asked, &name))
 }
 
-// Whether a name is near.
+// Whether a name is similar.
 fn is_near(alloc: Global, asked: &[u8], name: &[u8]) -> Result<bool, AllocError>
     ensures { IfOk result (λ near. near ≡ is_near asked.now name.now) }
 {
@@ -110,7 +110,8 @@ fn is_typed(tree: &Tree, id: SymId) -> bool
     }
 }
 
-// Whether a name may be given: without `told` it is one of a symbol with a type; with it, it does not differ by one letter from this name.
+// Whether a name may be given. Without `told` it must be the name of a symbol with a type. With it, it must not differ
+// by one letter from this name.
 fn may_give(tree: &Tree, told: Option<&[u8]>, id: SymId, name: &[u8]) -> bool
     ensures { result ≡ may_give tree.now (option_copied told.entry) id name.now }
 {
@@ -137,7 +138,7 @@ fn is_given(
     is_near(alloc, asked, name)
 }
 
-// Adds a name, if it is given.
+// Adds a name, if it is to be given.
 fn add_if<'t>(is_given: bool, name: &'t [u8], found: &mut Vec<&'t [u8]>) -> Result<(), AllocError>
     ensures is { OnOk result (map (λ name. name.now) found.new.items ≡ (if is_given then map (λ name. name.now) found.old.items ++ name.now ∷ [] else map (λ name. name.now) found.old.items)) }
     ensures few { OnOk result (length found.new.items ≤ length found.old.items + 1) }
@@ -148,7 +149,7 @@ fn add_if<'t>(is_given: bool, name: &'t [u8], found: &mut Vec<&'t [u8]>) -> Resu
     Ok(())
 }
 
-// The first names of the tree that are given.
+// The first names of the tree that are to be given.
 fn near_names<'t>(
     alloc: Global,
     tree: &'t Tree,
@@ -170,7 +171,7 @@ fn near_names<'t>(
     Ok(found)
 }
 
-// What stands behind a name, with so many more.
+// The text after a name, with this many more names.
 fn behind_name(more: usize) -> &'static [u8]
     ensures { result.now ≡ behind_name more }
 {
@@ -181,7 +182,7 @@ fn behind_name(more: usize) -> &'static [u8]
     }
 }
 
-// The question that names give.
+// The names as a question.
 fn question(alloc: Global, names: &[&[u8]]) -> Result<Vec<u8>, AllocError>
     ensures { IfOk result (λ text. text.items ≡ question (map (λ name. name.now) names.now)) }
 {
@@ -195,7 +196,7 @@ fn question(alloc: Global, names: &[&[u8]]) -> Result<Vec<u8>, AllocError>
     Ok(text)
 }
 
-// The name without the prefix in front, if it has it.
+// The name without the prefix, if it starts with it.
 fn bare<'n>(prefix: &[u8], name: &'n [u8]) -> &'n [u8]
     ensures { result.now ≡ bare prefix.now name.now }
 {
@@ -205,7 +206,7 @@ fn bare<'n>(prefix: &[u8], name: &'n [u8]) -> &'n [u8]
     }
 }
 
-// The names that are given, as a question.
+// The given names, as a question.
 fn near_text(
     alloc: Global,
     tree: &Tree,
@@ -218,8 +219,8 @@ fn near_text(
     question(alloc, &names)
 }
 
-/// Returns the names of symbols with a type that are near to this one, as a question: at most three, in the order of the tree's names (our
-/// own). Its only error is to be out of memory.
+/// Returns the names of symbols with a type that are similar to this name, as a question: at most three, in the order
+/// of the tree's names (our own). Fails only if there is not enough memory.
 pub(crate) fn typed_near(
     alloc: Global,
     tree: &Tree,
@@ -231,8 +232,8 @@ pub(crate) fn typed_near(
     near_text(alloc, tree, None, bare(prefix, asked))
 }
 
-/// Returns the names that the tree mentions and that are near to this one, but for those that differ from it by one letter, as a question: at
-/// most three, in the order of the tree's names (our own). Its only error is to be out of memory.
+/// Returns the names in the tree that are similar to this name, except for those that differ from it by one letter, as
+/// a question: at most three, in the order of the tree's names (our own). Fails only if there is not enough memory.
 pub(crate) fn mentioned_near(
     alloc: Global,
     tree: &Tree,

@@ -1,8 +1,8 @@
-//! The place that stands in front of a diagnostic.
+//! The location at the start of a diagnostic.
 ghost use Rattle.std.specs.Prelude.{◌≡◌, ◌≤◌, length, option_map};
 ghost use Rattle.kc_hints.specs.Facts.{digits_start, names_file, number_from, place_in};
 
-// The number that digits write. It stays at the greatest.
+// The number in these digits, limited to the greatest one.
 fn number_of(digits: &[u8]) -> usize
     ensures { result ≡ number_from 0 digits.now }
 {
@@ -27,7 +27,8 @@ fn digits_start(text: &[u8]) -> usize
     end
 }
 
-/// Returns the file and the line of a diagnostic that stand in front of it: all before the last `:`, and the number behind that (our own).
+/// Returns the file and the line at the start of a diagnostic: all before the last `:`, and the number after it (our
+/// own).
 pub(crate) fn place_in(before: &[u8]) -> Option<(&[u8], usize)>
     ensures { option_map (λ place. (place.0.now, place.1)) result ≡ place_in before.now }
 {
@@ -37,7 +38,7 @@ pub(crate) fn place_in(before: &[u8]) -> Option<(&[u8], usize)>
     Some((file, number_of(digits)))
 }
 
-/// Whether what stands in front of a diagnostic names this file: alone, or behind a configuration, a `:` and a blank.
+/// Whether the text before a diagnostic names this file: alone, or after a configuration, a `:` and a blank.
 pub(crate) fn names_file(file: &[u8], name: &[u8]) -> bool
     ensures { result ≡ names_file file.now name.now }
 {

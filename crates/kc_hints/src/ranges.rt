@@ -14,7 +14,7 @@ use kc_read::entries::{AttributeLine, Entries, Entry, EntryLines};
 use kc_read::statement::{Attribute, Head};
 use std::alloc::{AllocError, Global};
 
-/// The most places that a hint has.
+/// The maximum number of locations in a hint.
 const MOST_PLACES: usize = 5;
 
 /// A line of a file of the tree.
@@ -103,7 +103,7 @@ pub(crate) fn range_places<'e>(
     Ok(places)
 }
 
-// What stands before the places.
+// The text before the locations.
 fn before_places(count: usize) -> &'static [u8]
     ensures { result.now ≡ (if count == 1 then codes "its range stands at " else codes "its ranges stand at ") }
 {
@@ -114,7 +114,7 @@ fn before_places(count: usize) -> &'static [u8]
     }
 }
 
-// Adds a place.
+// Adds a location.
 fn add_place(place: RangePlace<'_>, text: &mut Vec<u8>) -> Result<(), AllocError>
     ensures { OnOk result (text.new.items ≡ text.old.items ++ place_text (place_view place.entry)) }
 {
@@ -125,14 +125,14 @@ fn add_place(place: RangePlace<'_>, text: &mut Vec<u8>) -> Result<(), AllocError
     text.extend_from_slice(digits)
 }
 
-// What stands behind a place, with so many more.
+// The text after a location, with this many more locations.
 fn behind_place(more: usize) -> &'static [u8]
     ensures { result.now ≡ (if more == 0 then [] else codes ", ") }
 {
     if more == 0 { b"" } else { b", " }
 }
 
-// Adds places.
+// Adds locations.
 fn add_places(places: &[RangePlace<'_>], text: &mut Vec<u8>) -> Result<(), AllocError>
     ensures { OnOk result (text.new.items ≡ text.old.items ++ joined (map place_view places.now)) }
 {
@@ -145,21 +145,21 @@ fn add_places(places: &[RangePlace<'_>], text: &mut Vec<u8>) -> Result<(), Alloc
     Ok(())
 }
 
-// The first places.
+// The first locations.
 fn first_places<'p, 'e>(places: &'p [RangePlace<'e>]) -> &'p [RangePlace<'e>]
     ensures { result.now ≡ take most_places places.now }
 {
     &places[..places.len().min(MOST_PLACES)]
 }
 
-// What stands behind the places.
+// The text after the locations.
 fn behind_places(count: usize) -> &'static [u8]
     ensures { result.now ≡ (if nat_lt most_places count then codes ".." else []) ++ codes "; " }
 {
     if count > MOST_PLACES { b"..; " } else { b"; " }
 }
 
-/// Returns what a hint says of range lines: where the first five stand, and whether there are more.
+/// Returns the text about range lines: the locations of the first five, and whether there are more.
 pub(crate) fn places_text(alloc: Global, places: &[RangePlace<'_>]) -> Result<Vec<u8>, AllocError>
     ensures { IfOk result (λ text. text.items ≡ places_text (map place_view places.now)) }
 {

@@ -14,20 +14,20 @@ use kc_expr::expression::SymbolType;
 use kc_user::value::LONGEST_VALUE;
 use std::alloc::{AllocError, Global};
 
-/// The most bytes of a value that a hint shows.
+/// The maximum number of bytes of a value in a hint.
 const MOST_SHOWN: usize = 40;
 
 /// The UTF-8 byte order mark.
 const MARK: &[u8] = b"\xEF\xBB\xBF";
 
-// The first file that a place names.
+// The first file that a location names.
 fn input_named<'i>(inputs: &'i [Input], file: &[u8]) -> Option<&'i Input>
     ensures { option_map (λ input. input.now) result ≡ find (λ input. names_file file.now input.name.items) inputs.now }
 {
     inputs.iter().find(|input| names_file(file, &input.name))
 }
 
-/// Returns the file of the place in front of a diagnostic, with the number of the line.
+/// Returns the file at the location before a diagnostic, with the number of the line.
 pub(crate) fn input_at<'i>(inputs: &'i [Input], before: &[u8]) -> Option<(&'i Input, usize)>
     ensures { option_map (λ found. (found.0.now, found.1)) result ≡ input_at inputs.now before.now }
 {
@@ -38,7 +38,7 @@ pub(crate) fn input_at<'i>(inputs: &'i [Input], before: &[u8]) -> Option<(&'i In
     }
 }
 
-// A line without the carriage return at its end.
+// A line without its trailing carriage return.
 fn without_return(line: &[u8]) -> &[u8]
     ensures { result.now ≡ strip_carriage_return line.now }
 {
@@ -48,14 +48,14 @@ fn without_return(line: &[u8]) -> &[u8]
     }
 }
 
-/// The n-th part of a text between these bytes, counted from 0.
+/// The n-th part of a text that is separated by these bytes, counted from 0.
 pub(crate) fn part_at(text: &[u8], separator: u8, n: usize) -> Option<&[u8]>
     ensures { option_map (λ part. part.now) result ≡ part_at text.now separator n }
 {
     text.split(|b| *b == separator).nth(n)
 }
 
-// The line of a text with this number, counted from 1.
+// The line of this number in a text, counted from 1.
 fn line_at(bytes: &[u8], number: usize) -> Option<&[u8]>
     ensures { option_map (λ line. line.now) result ≡ line_at bytes.now number }
 {
@@ -72,7 +72,7 @@ fn value_in<'l>(prefix: &[u8], line: &'l [u8]) -> Option<&'l [u8]>
     }
 }
 
-/// Returns the value of the line at the place in front of a diagnostic.
+/// Returns the value of the line at the location before a diagnostic.
 pub(crate) fn value_at<'i>(prefix: &[u8], inputs: &'i [Input], before: &[u8]) -> Option<&'i [u8]>
     ensures { option_map (λ value. value.now) result ≡ value_at prefix.now inputs.now before.now }
 {
@@ -80,7 +80,7 @@ pub(crate) fn value_at<'i>(prefix: &[u8], inputs: &'i [Input], before: &[u8]) ->
     value_in(prefix, line_at(&input.bytes, number)?)
 }
 
-/// Returns the form of the line at the place in front of a diagnostic.
+/// Returns the form of the line at the location before a diagnostic.
 pub(crate) fn line_form(inputs: &[Input], before: &[u8]) -> Option<Form>
     ensures { option_map form_view result ≡ line_form inputs.now before.now }
 {
@@ -88,14 +88,14 @@ pub(crate) fn line_form(inputs: &[Input], before: &[u8]) -> Option<Form>
     form_of(line_at(&input.bytes, number)?)
 }
 
-// Whether bytes begin with the mark.
+// Whether the bytes start with the mark.
 fn begins_with_mark(bytes: &[u8]) -> bool
     ensures { result ≡ starts_with nat_eq bytes.now mark }
 {
     bytes.starts_with(MARK)
 }
 
-/// Whether the place in front of a diagnostic is the first line of a file that begins with a byte order mark.
+/// Whether the location before a diagnostic is the first line of a file that starts with a byte order mark.
 pub(crate) fn is_marked(inputs: &[Input], before: &[u8]) -> bool
     ensures { result ≡ is_marked inputs.now before.now }
 {
@@ -127,7 +127,7 @@ fn start_of(value: &[u8], count: usize) -> &[u8]
     &value[..count]
 }
 
-// Adds a value as a hint shows it.
+// Adds a value as hints show it.
 fn add_value(value: &[u8], text: &mut Vec<u8>) -> Result<(), AllocError>
     ensures { OnOk result (text.new.items ≡ text.old.items ++ shown_value value.now) }
 {
@@ -141,7 +141,7 @@ fn add_value(value: &[u8], text: &mut Vec<u8>) -> Result<(), AllocError>
     text.extend_from_slice(b"..")
 }
 
-/// Returns what a hint says of a value that a symbol of this type and name does not take.
+/// Returns the text about a value that a symbol of this type and name does not accept.
 pub(crate) fn value_text(
     alloc: Global,
     symbol_type: SymbolType,

@@ -1,4 +1,4 @@
--- Trusted: What the name of an included file in the code stands for.
+-- Trusted: The meaning of the name of an included file in the code.
 use Rattle.kc_include.specs.Included.{Name, Angled, Quoted}
 use Rattle.kc_include.specs.declared.line.IncludedName.{IncludedName}
 use Rattle.kc_include.specs.declared.line.IncludedName.TheVariants as code

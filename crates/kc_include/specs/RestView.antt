@@ -1,4 +1,4 @@
--- For proofs: What is still to be read of a piece.
+-- For proofs: The unread rest of a piece.
 use Rattle.std.specs.Prelude.{List, ℕ}
 use Rattle.kc_include.specs.Included.{read_as}
 use Rattle.kc_include.specs.declared.device.Rest.{Rest}

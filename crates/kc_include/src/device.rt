@@ -1,4 +1,4 @@
-//! A device that gives the pieces of input files.
+//! A device whose input files are pieces.
 ghost use Rattle.std.specs.Prelude.{◌≡◌, ◌<◌, ◌≤◌, ◌-◌, ◌++◌, [], None, length, take};
 ghost use Rattle.kc_include.specs.RestView.{ahead};
 ghost use Rattle.kc_include.specs.Limits.{most_reads};
@@ -7,17 +7,17 @@ use crate::pieces::{Given, Piece};
 use kc_io::{Device, Fault, Site};
 use std::cell::Cell;
 
-/// How many reads that give bytes there may be.
+/// The maximum number of reads that return bytes.
 const MOST_READS: u64 = 1 << 63;
 
-// What is still to be read of a piece: empty lines, and then bytes.
+// The unread rest of a piece: empty lines, then bytes.
 #[derive(Drop)]
 struct Rest<'d> {
     empty_lines: usize,
     bytes: &'d [u8],
 }
 
-// Puts the next bytes at the front of the buffer, and answers how many.
+// Puts the next bytes at the start of the buffer, and returns their number.
 fn read_on(rest: &mut Rest<'_>, buffer: &mut [u8]) -> usize
     ensures within { result ≤ length buffer.old }
     ensures given { ahead rest.old ≡ take result buffer.new ++ ahead rest.new }
@@ -35,25 +35,25 @@ fn read_on(rest: &mut Rest<'_>, buffer: &mut [u8]) -> usize
     count
 }
 
-/// A device whose input files are pieces of those that were read, in turns: each time that a file is opened, it is the next
-/// piece of the turn, whatever its name (our own). All else is asked of another device. It tells nothing.
+/// A device whose input files are pieces of the files that were read, in turns. Each call that opens a file opens the
+/// next piece of the turn, for any name (our own). All other calls go to another device. It records nothing.
 #[derive(Drop)]
 pub struct PiecedDevice<'d, D> {
     inner: &'d mut D,
     turns: &'d [Vec<Piece<'d>>],
-    // Whose turn it is.
+    // The current turn.
     turn: &'d Cell<usize>,
-    // Whose turn it was when a file was opened last, and its next piece.
+    // The turn in which a file was last opened, and its next piece.
     opened: usize,
     next: usize,
-    // What is still to be read of the piece.
+    // The unread rest of the piece.
     rest: Rest<'d>,
-    // How many reads gave bytes.
+    // The number of reads that returned bytes.
     reads: u64,
 }
 
 impl<'d, D> PiecedDevice<'d, D> {
-    /// Makes one that asks this other device. The cell holds the number of the turn, counted from 0.
+    /// Returns a device that uses this other device. The cell holds the number of the turn, counted from 0.
     pub fn new(
         inner: &'d mut D,
         turns: &'d [Vec<Piece<'d>>],
@@ -73,7 +73,7 @@ impl<'d, D> PiecedDevice<'d, D> {
         }
     }
 
-    // The next piece of the turn.
+    // Returns the next piece of the turn.
     fn next_piece(&mut self) -> Option<Piece<'d>> {
         let turn = self.turn.get();
         if turn != self.opened {

@@ -1,8 +1,8 @@
 #![tactic(auto)]
 //! Lines of input files that include other files.
 //!
-//! - [`included_name`]: the [`IncludedName`] of a line; [`parts_of`]: a text between such lines.
-//! - [`Inputs`] reads input files and the files that they include, and takes them apart into pieces.
+//! - [`included_name`]: the [`IncludedName`] of a line; [`parts_of`]: the parts of a text between such lines.
+//! - [`Inputs`] reads input files and the files that they include, and splits them into pieces.
 //! - [`PiecedDevice`] gives the pieces as files, so that a run reads them one after another.
 
 mod device;

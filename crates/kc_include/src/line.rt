@@ -10,13 +10,13 @@ use kc_text::is_blank;
 /// The name of a file that a line includes.
 #[derive(Clone, Copy, Debug, PartialEq, Eq)]
 pub enum IncludedName<'t> {
-    /// That of `#include <NAME>`.
+    /// The NAME of `#include <NAME>`.
     Angled(&'t [u8]),
-    /// That of `#include "NAME"`.
+    /// The NAME of `#include "NAME"`.
     Quoted(&'t [u8]),
 }
 
-// The bytes from the first one on that is no blank.
+// The bytes from the first one that is not a blank.
 fn without_blanks(bytes: &[u8]) -> &[u8]
     ensures { result.now ≡ spec.without_blanks bytes.now }
 {
@@ -30,7 +30,7 @@ fn without_blanks(bytes: &[u8]) -> &[u8]
     rest
 }
 
-// The one byte or more before the first byte `end`.
+// The bytes before the first byte `end`, at least one.
 fn name_before(end: u8, bytes: &[u8]) -> Option<&[u8]>
     ensures { option_copied result ≡ spec.name_before end bytes.now }
 {
@@ -56,9 +56,9 @@ fn enclosed_name(bytes: &[u8]) -> Option<IncludedName<'_>>
     }
 }
 
-/// The name that a line includes, given without its end: that of `#include <NAME>` or `#include "NAME"`. Blanks may stand
-/// before and after the `#` and before the name, and what follows the name does not count. (Our own, after the C
-/// preprocessor.)
+/// Returns the name that a line, given without its line end, includes: the NAME of `#include <NAME>` or `#include
+/// "NAME"`. Blanks are allowed before and after the `#` and before the name, and the text after the name is ignored.
+/// (Our own, after the C preprocessor.)
 #[tactic(auto, unfolding(crate::specs::Included::included_name))]
 pub fn included_name(line: &[u8]) -> Option<IncludedName<'_>>
     ensures { option_map name_of result ≡ spec.included_name line.now }

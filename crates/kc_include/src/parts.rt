@@ -11,13 +11,13 @@ use std::alloc::{AllocError, Global};
 /// A part of a text.
 #[derive(Clone, Copy, Debug, PartialEq, Eq)]
 pub enum Part<'t> {
-    /// Lines that follow one another: how many lines stand before them, and their bytes.
+    /// Lines in a row: the number of lines before them, and their bytes.
     Lines(usize, &'t [u8]),
-    /// The name of a file that is included.
+    /// The name of an included file.
     Include(IncludedName<'t>),
 }
 
-// The first line, without its end, and how many bytes it has with it.
+// The first line without its line end, and its number of bytes with it.
 fn first_line(rest: &[u8]) -> (&[u8], usize)
     requires { 0 < length rest.now }
     ensures line { BeginsWithLine rest.now result.0.now result.1 }
@@ -30,7 +30,7 @@ fn first_line(rest: &[u8]) -> (&[u8], usize)
     }
 }
 
-// The parts so far, where the lines at hand begin, and how many lines stand before these.
+// The parts so far, the start of the current lines, and the number of lines before these.
 #[derive(Drop)]
 struct Cut<'t> {
     parts: Vec<Part<'t>>,
@@ -38,7 +38,7 @@ struct Cut<'t> {
     first: usize,
 }
 
-// Adds the lines at hand, and the name of a file that is included behind them.
+// Adds the current lines, and then the name of an included file.
 fn add_include<'t>(
     first: usize,
     lines: &'t [u8],
@@ -52,7 +52,7 @@ fn add_include<'t>(
     Ok(())
 }
 
-// Goes over the line at this place, which ends at another, behind so many lines.
+// Processes the line between these two positions, after this many lines.
 fn cut_line<'t>(
     text: &'t [u8],
     line: &'t [u8],
@@ -79,12 +79,12 @@ fn cut_line<'t>(
     }
 }
 
-/// The parts of a text: its lines between those that include a file, which are in no part, and the names of these files.
-/// Before and behind each such name there is a part of lines, which may be none. (Our own.)
+/// Returns the parts of a text: its lines between the lines that include files, which belong to no part, and the names
+/// of these files. Before and after each such name there is a part of lines, which may be empty. (Our own.)
 ///
 /// # Errors
 ///
-/// It is out of memory.
+/// Fails if there is not enough memory.
 pub fn parts_of<'t>(alloc: Global, text: &'t [u8]) -> Result<Vec<Part<'t>>, AllocError>
     ensures { IfOk result (λ parts. map part_of parts.items ≡ spec.parts_of text.now) }
 {

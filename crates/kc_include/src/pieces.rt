@@ -1,4 +1,4 @@
-//! The pieces that input files are read in.
+//! The pieces in which input files are read.
 
 use crate::line::IncludedName;
 use crate::parts::{Part, parts_of};
@@ -7,32 +7,32 @@ use crate::texts::{Content, InputText, Inputs};
 use kc_io::Fault;
 use std::alloc::{AllocError, Global};
 
-// The most files that are open at once: an input file, and those that include one another from it on.
+// The maximum number of files that are open at once: an input file, and the files that include one another from there.
 const MOST_OPEN: usize = 64;
 
-// The most steps in which an input file is taken apart. Each gives a piece, or opens or ends a file.
+// The maximum number of steps in which an input file is split. Each step gives a piece, or opens or ends a file.
 const MOST_STEPS: usize = 1_048_576;
 
-/// What a piece gives.
+/// The content of a piece.
 #[derive(Clone, Copy)]
 pub(crate) enum Given<'t> {
-    /// As many empty lines as stand before these bytes in their file, and then the bytes.
+    /// One empty line for each line before these bytes in their file, and then the bytes.
     Lines(usize, &'t [u8]),
-    /// There is no file, and there need not be one.
+    /// The file does not exist, and may be missing.
     Missing,
-    /// The file cannot be read, or may not be included here.
+    /// The file cannot be read, or must not be included here.
     Unreadable(Fault),
 }
 
-/// A piece of the input: the name of the file that its lines stand in, and what it gives. Its lines have in it the numbers
-/// that they have in their file.
+/// A piece of the input: the name of the file of its lines, and its content. Its lines have the same numbers as in
+/// their file.
 #[derive(Clone, Copy)]
 pub struct Piece<'t> {
     pub(crate) name: &'t str,
     pub(crate) given: Given<'t>,
 }
 
-// A file that is taken apart, and its next part.
+// A file that is split, and its next part.
 #[derive(Drop)]
 struct Open<'t> {
     name: &'t str,
@@ -40,7 +40,7 @@ struct Open<'t> {
     next: usize,
 }
 
-// What is taken apart: the files that are open, the innermost last, and the pieces so far.
+// The state of splitting: the open files, the innermost last, and the pieces so far.
 #[derive(Drop)]
 struct Taking<'t> {
     open: Vec<Open<'t>>,
@@ -48,7 +48,7 @@ struct Taking<'t> {
 }
 
 impl<'t> Taking<'t> {
-    // Begins to take a file apart, or adds what stands for it.
+    // Starts to split a file, or adds what replaces it.
     fn begin(&mut self, alloc: Global, file: &'t InputText) -> Result<(), AllocError> {
         let name = file.name.as_str();
         match &file.content {
@@ -86,7 +86,7 @@ impl<'t> Taking<'t> {
         false
     }
 
-    // The name of the innermost open file and its next part.
+    // Returns the name of the innermost open file and its next part.
     fn next_part(&mut self) -> Option<(&'t str, Option<Part<'t>>)> {
         let file = self.open.last_mut()?;
         let part = file.parts.get(file.next).copied();
@@ -95,7 +95,7 @@ impl<'t> Taking<'t> {
     }
 }
 
-// Whether the last piece is of a file that cannot be read.
+// Whether the last piece is that of a file that cannot be read.
 fn ends_unreadable(pieces: &[Piece<'_>]) -> bool {
     match pieces.last() {
         Some(piece) => matches!(piece.given, Given::Unreadable(_)),
@@ -104,7 +104,8 @@ fn ends_unreadable(pieces: &[Piece<'_>]) -> bool {
 }
 
 impl Inputs {
-    // Goes on to the file that a line of an open file includes. It cannot be read if it is missing, if it is open already, or if too many are.
+    // Continues with the file that a line of an open file includes. It cannot be read if it is missing, if it is
+    // already open, or if too many files are open.
     fn include_into<'t>(
         &'t self,
         alloc: Global,
@@ -123,7 +124,7 @@ impl Inputs {
         taking.begin(alloc, file)
     }
 
-    // Takes the next step, and answers whether there was one.
+    // Takes the next step, and returns whether there was one.
     fn step<'t>(&'t self, alloc: Global, taking: &mut Taking<'t>) -> Result<bool, AllocError> {
         let Some((name, part)) = taking.next_part() else {
             return Ok(false);
@@ -141,7 +142,7 @@ impl Inputs {
         Ok(true)
     }
 
-    // Takes a file apart.
+    // Splits a file.
     fn take_apart<'t>(
         &'t self,
         alloc: Global,
@@ -157,13 +158,13 @@ impl Inputs {
         taking.refuse(file.name.as_str(), Fault::Refused)
     }
 
-    /// The pieces of the input files that were read as these, counted from 0, one after another. They end with the first file
-    /// that cannot be read: one that the device refuses, one that includes itself, directly or through others, the 65th that
-    /// would be open, and one that gives too many pieces. (Our own.)
+    /// Returns the pieces of the input files that were read with these numbers, counted from 0, one after another. They
+    /// end with the first file that cannot be read: one that the device refuses, one that includes itself, directly or
+    /// through others, the 65th that would be open, and one that gives too many pieces. (Our own.)
     ///
     /// # Errors
     ///
-    /// It is out of memory.
+    /// Fails if there is not enough memory.
     pub fn pieces<'t>(
         &'t self,
         alloc: Global,
@@ -185,7 +186,7 @@ impl Inputs {
     }
 }
 
-/// The names of the pieces behind the first. Its only error is to be out of memory. (Our own.)
+/// Returns the names of the pieces after the first. Fails only if there is not enough memory. (Our own.)
 pub fn later_names(alloc: Global, pieces: &[Piece<'_>]) -> Result<Vec<String>, AllocError> {
     let mut names = Vec::new(alloc);
     for piece in pieces.iter().skip(1) {

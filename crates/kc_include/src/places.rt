@@ -1,4 +1,4 @@
-//! Where an included file is looked for.
+//! The paths at which an included file is searched.
 ghost use Rattle.std.specs.Prelude.{◌≡◌, ◌++◌, codes, map, string_bytes, IfOk};
 ghost use Rattle.kc_language.specs.Outcome.{begins_with_slash};
 ghost use Rattle.kc_include.specs.Included as spec;
@@ -8,7 +8,7 @@ use crate::line::IncludedName;
 use bstr::ByteSlice;
 use std::alloc::{AllocError, Global};
 
-// The folder of a file, with the `/` behind it. It is empty if the name of the file has no `/`.
+// The folder of a file, with its `/`. It is empty if the file's name has no `/`.
 fn folder_before(name: &[u8]) -> &[u8]
     ensures { result.now ≡ spec.folder_before name.now }
 {
@@ -18,7 +18,7 @@ fn folder_before(name: &[u8]) -> &[u8]
     }
 }
 
-// Whether a name says on its own where the file lies.
+// Whether a name is an absolute path.
 fn begins_with_slash(name: &[u8]) -> bool
     ensures { result ≡ begins_with_slash name.now }
 {
@@ -48,7 +48,7 @@ fn path_in_folder(alloc: Global, folder: &str, name: &[u8]) -> Result<String, Al
     path_behind(alloc, folder.as_str().as_bytes(), name)
 }
 
-/// The paths at which the file of this name is looked for, in order, where another file includes it.
+/// Returns the paths at which the file of this name is searched, in order, if another file includes it.
 pub(crate) fn places_of(
     alloc: Global,
     folder: &str,

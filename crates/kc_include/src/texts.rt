@@ -1,4 +1,4 @@
-//! Input files as they are read at once, with the files that they include.
+//! Input files with the files that they include, read at once.
 ghost use Rattle.std.specs.Prelude.{◌≤◌, length};
 
 use crate::parts::{Part, parts_of};
@@ -6,37 +6,37 @@ use crate::places::places_of;
 use kc_io::{Device, Fault};
 use std::alloc::{AllocError, Global};
 
-// How many bytes are asked for at once.
+// The number of bytes requested at once.
 const PIECE: usize = 16_384;
 
-// The most bytes that an input file may have, since all of them are kept.
+// The maximum number of bytes of an input file, since all of them are kept.
 const MOST_BYTES: usize = 67_108_864;
 
-// The most files that all input files may include together.
+// The maximum number of files that all input files together may include.
 const MOST_FILES: usize = 16_384;
 
-/// What a name holds.
+/// The content of a file.
 #[derive(Drop)]
 pub(crate) enum Content {
     /// The bytes of the file.
     Text(Vec<u8>),
-    /// There is no file, and there need not be one.
+    /// The file does not exist, and may be missing.
     Missing,
     /// The file cannot be read.
     Unreadable(Fault),
 }
 
-/// An input file: its name, and what it holds.
+/// An input file: its name and its content.
 #[derive(Drop)]
 pub(crate) struct InputText {
     pub name: String,
     pub content: Content,
 }
 
-/// Input files and the files that they include, as they were read (our own). A file that is included is read once.
+/// Input files and the files that they include, as they were read (our own). An included file is read once.
 #[derive(Drop)]
 pub struct Inputs {
-    // The folder of the files that are included.
+    // The folder of the included files.
     pub(crate) folder: String,
     // The input files, in the order in which they were read.
     pub(crate) own: Vec<InputText>,
@@ -83,7 +83,7 @@ fn read_file<D: Device>(
 }
 
 impl InputText {
-    /// Whether there is such a file.
+    /// Whether the file exists.
     pub(crate) fn is_there(&self) -> bool {
         !matches!(self.content, Content::Missing)
     }
@@ -99,7 +99,7 @@ fn file_of<'t>(files: &'t [InputText], name: &str) -> Option<&'t InputText> {
     None
 }
 
-// The paths at which each file that a file includes is looked for.
+// The paths at which each file is searched that a file includes.
 fn places_in(
     alloc: Global,
     folder: &str,
@@ -117,11 +117,11 @@ fn places_in(
 }
 
 impl Inputs {
-    /// No files yet. Those that are included lie in this folder. (Our own.)
+    /// Returns an empty value. Included files are in this folder. (Our own.)
     ///
     /// # Errors
     ///
-    /// It is out of memory.
+    /// Fails if there is not enough memory.
     pub fn new(alloc: Global, folder: &str) -> Result<Inputs, AllocError> {
         Ok(Inputs {
             folder: String::from_str(alloc, folder)?,
@@ -130,7 +130,7 @@ impl Inputs {
         })
     }
 
-    // Reads the file of this path, unless it was read, and answers whether it is there.
+    // Reads the file at this path, unless it was read before, and returns whether it exists.
     fn include<D: Device>(
         &mut self,
         alloc: Global,
@@ -147,7 +147,7 @@ impl Inputs {
         Ok(is_there)
     }
 
-    // Reads the files of these paths up to the first that is there. Only that of the last path may not be missing.
+    // Reads the files at these paths up to the first that exists. Only the file at the last path must exist.
     fn include_first<D: Device>(
         &mut self,
         alloc: Global,
@@ -163,7 +163,7 @@ impl Inputs {
         Ok(())
     }
 
-    // Reads the files that a file includes, which are looked for at these paths.
+    // Reads the files that a file includes, which are searched at these paths.
     fn include_all<D: Device>(
         &mut self,
         alloc: Global,
@@ -176,7 +176,7 @@ impl Inputs {
         Ok(())
     }
 
-    /// The file of the first of these paths that is there, as it was read, or else that of the last.
+    /// Returns the file at the first of these paths that exists, as it was read, otherwise the one at the last path.
     pub(crate) fn file_at(&self, paths: &[String]) -> Option<&InputText> {
         let mut found = None;
         for path in paths {
@@ -190,12 +190,12 @@ impl Inputs {
         found
     }
 
-    /// Reads an input file, and the files that it includes, directly or through others. A file that cannot be read is no
-    /// error here: its lines are asked for later. (Our own.)
+    /// Reads an input file, and the files that it includes, directly or through others. A file that cannot be read is
+    /// not an error here: its lines are needed later. (Our own.)
     ///
     /// # Errors
     ///
-    /// It is out of memory.
+    /// Fails if there is not enough memory.
     pub fn read<D: Device>(
         &mut self,
         alloc: Global,

@@ -1,23 +1,23 @@
--- Trusted: The order in which a folder is asked for the files of a tree: the order of their `source` lines (our own).
+-- Trusted: The order in which the files of a tree are read: the order of their `source` lines (our own).
 use Rattle.std.specs.Prelude.{Contains, IsUtf8, List, None, Option, Some, [], false, ℕ, ◌++◌, ◌∷◌, ◌≡◌}
 use Rattle.kc_language.specs.{Expansion.{Files, SourceNames}, Lines.unread_lines}
 
--- The bytes of each file by its name, where there is such a file. A tree of such files that is not flat.
+-- The bytes of each file by its name, if there is such a file; a tree of such files that is not flat.
 abbrev pub FileBytes : Type 0
 FileBytes = List ℕ → Option (List ℕ)
 
 abbrev pub tree_of : FileBytes → Files
 tree_of files = record { bytes = files; flat = false }
 
--- the names of a file's `source` lines, in order; if there is no file, there are none
+-- the names in a file's `source` lines, in order; none if there is no such file
 abbrev pub AreSources : List ℕ → List (List ℕ) → Type 0
 AreSources bytes names = SourceNames (unread_lines bytes 1) names
 
 abbrev pub AreSourcesOf : Option (List ℕ) → List (List ℕ) → Type 0
 AreSourcesOf file = elim file [ None ↦ λ names. names ≡ [] | Some bytes ↦ AreSources bytes ]
 
--- What is asked for along these names, where others were asked for before: each new name, then what is asked for along the `source` lines of its
--- file, and then what is asked for along the names after it. A new name is UTF-8 and was not asked for before.
+-- The names that are read for this list of names, if others were read before: for each new name, that name, then those for the `source` lines of its
+-- file, then those for the names after it. A new name is UTF-8 and was not read before.
 abbrev pub IsNew : List (List ℕ) → List ℕ → Type 0
 IsNew before name = IsUtf8 name × (Contains before name → ⊥)
 
@@ -29,6 +29,6 @@ pub data AskedAlong (files : FileBytes) : List (List ℕ) → List (List ℕ) �
       AskedAlong files (before ++ name ∷ []) sources inside → AskedAlong files (before ++ name ∷ inside) names behind →
       AskedAlong files before (name ∷ names) (name ∷ inside ++ behind)
 
--- what is asked for from a first name on: depth first, each name once
+-- the names that are read from a first name on: depth first, each name once
 abbrev pub AskedInOrder : FileBytes → List ℕ → List (List ℕ) → Type 0
 AskedInOrder files first names = AskedAlong files [] (first ∷ []) names

@@ -1,15 +1,15 @@
--- Trusted: What loading gives: the files that were found, asked for in order, and that they are enough.
+-- Trusted: What loading gives: the files that were found, read in order, and that they are enough.
 use Rattle.std.specs.{Prelude.{◌≡◌, ℕ, ◌≤◌, List, [], ◌∷◌, ◌++◌, All, Bool, true, if◌then◌else◌, Contains, Option, Some, None, Result, Ok}, Str.IsUtf8}
 use Rattle.kc_expr.specs.Names.{AreDistinct}
 use Rattle.kc_language.specs.{Text.most_lines, Expansion.{Expands, Files, ReadSoFar, Refused}, Expressions.same_name, Outcome.path_of, Statements.{Located, Named}}
 use Rattle.kc_load.specs.Asking.{AreSources, AskedInOrder, FileBytes}
 use Rattle.kc_load.specs.Folder.{Answer, AnswersAs, AreAsked, AreFilesOf, FolderFiles, files_found, line_total}
 
--- as each was asked for, there were no more lines than the limit
+-- before each read, there were no more lines than the limit
 abbrev pub WereWithin : List Answer → Type 0
 WereWithin asked = (before after : List Answer) (a : Answer) → asked ≡ before ++ a ∷ after → line_total before ≤ most_lines
 
--- The files of a map are those that were found, and no name comes next, unless the lines are over the limit.
+-- The map holds exactly the files that were found, and no name comes next, unless the lines exceed the limit.
 pub record Loads (folder_files : FolderFiles) (dir first : List ℕ) (files : FileBytes) : Type 0 where
   pub asked : List Answer
   pub next : List (List ℕ)
@@ -18,40 +18,40 @@ pub record Loads (folder_files : FolderFiles) (dir first : List ℕ) (files : Fi
   pub are_all : line_total asked ≤ most_lines → next ≡ []
   pub held : (name : List ℕ) → files name ≡ files_found asked name
 
--- Of a flat tree only the first file is read. This was found, and the map holds it alone.
+-- In a flat tree only the first file is read. It was found, and the map holds only this file.
 pub record LoadsFlat (folder_files : FolderFiles) (dir first : List ℕ) (files : Files) : Type 0 where
   pub flat_is : files.flat ≡ true
   pub found : Option (List ℕ)
   pub answer : AnswersAs folder_files (path_of dir first) found
   pub held : (name : List ℕ) → files.bytes name ≡ (if same_name name first then found else None)
 
--- over a folder that tells its files there is at most one such map
+-- for a folder that records its files there is at most one such map
 abbrev pub OneMap : Type 0
 OneMap =
     (folder_files : List ℕ → Option (List ℕ)) (dir first : List ℕ) (files others : FileBytes) → Loads (Some folder_files) dir first files →
     Loads (Some folder_files) dir first others → (name : List ℕ) → files name ≡ others name
 
--- over a folder that tells its files there is such a map
+-- for a folder that records its files there is such a map
 abbrev pub MapExists : Type 0
 MapExists = (folder_files : List ℕ → Option (List ℕ)) (dir first : List ℕ) → (files : FileBytes) × Loads (Some folder_files) dir first files
 
 -- ---- the order
 
--- over any files there is at most one such order
+-- for any files there is at most one such order
 abbrev pub OneOrder : Type 0
 OneOrder = (files : FileBytes) (first : List ℕ) (names others : List (List ℕ)) → AskedInOrder files first names → AskedInOrder files first others → names ≡ others
 
--- The names that a first one reaches: itself, and each UTF-8 name that a file of such a name sources.
+-- The names that a first one reaches: itself, and each UTF-8 name in a `source` line of the file of a reached name.
 pub data Reached (files : FileBytes) (first : List ℕ) : List ℕ → Type 0 where
   itself : Reached files first first
   sourced : (file bytes name : List ℕ) (names : List (List ℕ)) → Reached files first file → files file ≡ Some bytes → AreSources bytes names →
       Contains names name → IsUtf8 name → Reached files first name
 
--- over files that were found there is an order in which names are asked for
+-- for the files that were found there is an order in which names are read
 abbrev pub HasOrder : Type 0
 HasOrder = (asked : List Answer) (first : List ℕ) → (names : List (List ℕ)) × AskedInOrder (files_found asked) first names
 
--- What is asked for is what the first name reaches, each name once.
+-- The names that are read are those that the first name reaches, each once.
 abbrev pub OrderIsReached : Type 0
 OrderIsReached =
     (files : FileBytes) (first : List ℕ) (names : List (List ℕ)) → IsUtf8 first → AskedInOrder files first names →
@@ -59,12 +59,13 @@ OrderIsReached =
 
 -- ---- it is enough
 
--- The root file gives the same list, with the files that it opens, or the same refusal over both; and the files of the list's lines hold the same.
+-- From both file maps, the root file gives the same list and opens the same files, or gives the same refusal. The files of the list's lines have the
+-- same bytes.
 pub record ExpandsAlike (root : List ℕ) (files others : Files) : Type 0 where
   pub gives : (r : Result ReadSoFar Refused) → (Expands files root r → Expands others root r) × (Expands others root r → Expands files root r)
   pub holds : (log : ReadSoFar) → Expands files root (Ok log) → All (λ (l : Located Named). others.bytes l.file ≡ files.bytes l.file) log.lines
 
--- What was loaded is enough: over it the first file gives what it gives over all the files of the folder, with the files that it opens. And the files
--- of the lines are there as they are in the folder.
+-- The loaded files are enough: the first file gives the same, and opens the same files, as with all files of the folder. The files of the lines are
+-- the same as in the folder.
 abbrev pub Suffices : FolderFiles → List ℕ → List ℕ → Bool → Files → Type 0
 Suffices folder_files dir first flat loaded = (files : Files) × AreFilesOf folder_files dir first flat files × ExpandsAlike first files loaded

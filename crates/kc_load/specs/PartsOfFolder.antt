@@ -1,4 +1,4 @@
--- For proofs: Parts of the definitions of Folder, by names of their own.
+-- For proofs: Names for parts of the definitions of Folder.
 use Rattle.kc_load.specs.Asking.{FileBytes}
 use Rattle.kc_read.specs.PartsOfExpansion.{lines_of}
 use Rattle.kc_language.specs.Outcome.{path_of}

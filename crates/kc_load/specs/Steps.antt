@@ -1,4 +1,4 @@
--- For proofs: How far the loading is, and the turn of one name.
+-- For proofs: The state of loading, and one step for one name.
 use Rattle.std.specs.Prelude.{◌≡◌, ◌+◌, ℕ, List, [], ◌∷◌, ◌++◌, map, reverse, min, Bool, true, false, None, Some, if◌then◌else◌}
 use Rattle.std.specs.List.{list_any}
 use Rattle.std.specs.Str.{IsUtf8}
@@ -13,7 +13,7 @@ use Rattle.kc_load.specs.declared.fault.LoadFault.{LoadFault}
 use Rattle.kc_load.specs.declared.fault.LoadFault.TheVariants.{CannotRead, Memory}
 use Rattle.kc_load.specs.declared.loading.Loading.{Loading}
 
--- what is held, which names were asked for, which wait (the next one last), and how many lines there are
+-- the loaded files, the names that were read, the names that wait (the next one last), and the number of lines
 pub record State : Type 0 where
   pub files : FileBytes
   pub requested : List (List ℕ)
@@ -29,7 +29,7 @@ initial_state first = record { files = λ name. None; requested = []; waiting = 
 abbrev pub was_requested : List (List ℕ) → List ℕ → Bool
 was_requested requested name = list_any (same_name name) requested
 
--- the names that the file sources wait, the first one last
+-- adds the names in the file's `source` lines to those that wait, the first one last
 pub record PushesSources (file : List ℕ) (old new : State) : Type 0 where
   pub names : List (List ℕ)
   pub sources : AreSources file names
@@ -38,7 +38,7 @@ pub record PushesSources (file : List ℕ) (old new : State) : Type 0 where
   pub requested_are : new.requested ≡ old.requested
   pub lines_are : new.lines ≡ old.lines
 
--- the file of the name is added: its bytes, its lines, and the names that it sources
+-- adds the file of this name: its bytes, its lines, and the names that it sources
 pub record AddsFile (name bytes : List ℕ) (old new : State) : Type 0 where
   pub names : List (List ℕ)
   pub sources : AreSources bytes names
@@ -47,19 +47,19 @@ pub record AddsFile (name bytes : List ℕ) (old new : State) : Type 0 where
   pub requested_are : new.requested ≡ old.requested
   pub lines_are : new.lines ≡ min (old.lines + lines_of bytes) last_count
 
--- all stays but the names that were asked for, to which this one is added
+-- adds this name to those that were read, and changes nothing else
 pub record AddsName (name : List ℕ) (old new : State) : Type 0 where
   pub files_are : new.files ≡ old.files
   pub waiting_is : new.waiting ≡ old.waiting
   pub requested_are : new.requested ≡ mention old.requested name
   pub lines_are : new.lines ≡ old.lines
 
--- it is the name's turn: it was not asked for before
+-- this name is next: it was not read before
 pub record IsDue (s : State) (name : List ℕ) : Type 0 where
   pub utf8 : IsUtf8 name
   pub is_new : was_requested s.requested name ≡ false
 
--- The turn of a name.
+-- One step, for one name.
 pub data Visits (folder_files : FolderFiles) (dir name : List ℕ) (old new : State) : Type 0 where
   no_text : (IsUtf8 name → ⊥) → new ≡ old → Visits folder_files dir name old new
   not_new : was_requested old.requested name ≡ true → new ≡ old → Visits folder_files dir name old new
@@ -67,7 +67,7 @@ pub data Visits (folder_files : FolderFiles) (dir name : List ℕ) (old new : St
   file : (middle : State) (bytes : List ℕ) → IsDue old name → AnswersAs folder_files (path_of dir name) (Some bytes) →
       AddsName name old middle → AddsFile name bytes middle new → Visits folder_files dir name old new
 
--- the file of a name that is due could not be read
+-- the file of the next name could not be read
 abbrev pub FailsAt : State → List ℕ → LoadFault → Type 0
 FailsAt s name (CannotRead n) = (n.items ≡ name) × IsDue s name
 FailsAt s name Memory = Unit {0}

@@ -8,9 +8,9 @@ use std::alloc::{AllocError, AllocFailed};
 /// Why the files could not be loaded.
 #[derive(Debug, Drop)]
 pub enum LoadFault {
-    /// E18: the folder's device failed at the file of this name. The name is the one in the map.
+    /// E18: the folder's device failed at the file of this name. It is a name of the map.
     CannotRead(Vec<u8>),
-    /// E20: a growth was refused.
+    /// E20: there was not enough memory.
     Memory,
 }
 

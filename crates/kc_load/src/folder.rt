@@ -12,7 +12,7 @@ use std::alloc::AllocError;
 pub enum FolderFault {
     /// The device failed at this path.
     Device,
-    /// A growth was refused.
+    /// There was not enough memory.
     Memory,
 }
 
@@ -24,22 +24,23 @@ impl From<AllocError> for FolderFault {
     }
 }
 
-/// Files by their paths. A read changes none of them, and no file is written.
+/// Files by their paths. A read changes no file, and no method writes one.
 pub trait Folder {
-    /// What each path holds and at which paths a read failed, or nothing told, as of a folder on a disk.
+    /// What each path holds, and the paths at which a read failed; or None if nothing is recorded, as for a folder on a
+    /// disk.
     ghost state: { Self → Option FolderState };
 
-    /// Reads the file at this path: its bytes, or None where there is no such file. Nothing of what is told changes then. A
-    /// folder may stop telling, and none begins to.
+    /// Reads the file at this path. Returns its bytes, or None if there is no such file. The record then stays the
+    /// same. A folder may stop recording, and cannot start again.
     ///
     /// # Errors
     ///
-    /// It is `Device` where the device failed: then this path is told as the last one at which a read failed. It is `Memory`
-    /// where a growth was refused: then nothing of what is told changes.
+    /// `Device` if the device failed: then this path is recorded as the last one at which a read failed. `Memory` if
+    /// there was not enough memory: then the record stays the same.
     fn read(&mut self, path: &str) -> Result<Option<Vec<u8>>, FolderFault>
         ensures { ReadsAt path.now (state self.old) (state self.new) result };
 
-    /// The key for the tables of names of the tree. A folder whose files come from strangers gives a secret one.
+    /// The key of the hash tables of names. A folder whose files come from strangers returns a secret key.
     fn key(&self) -> HashKey {
         HashKey::known()
     }

@@ -1,16 +1,17 @@
-//! What holds of the order in which names are asked for, and of what is loaded.
+//! Laws of the order in which names are read, and of the loaded files.
 
 ghost use Rattle.kc_load.specs.Loading.{MapExists, OneMap, OneOrder, HasOrder, OrderIsReached};
 
-/// The law of the order: over any files there is at most one in which names are asked for from a first one on, and over
-/// files that were found there is one; it holds what the first name reaches, each name once. It does nothing.
+/// The law of the order: for any files, names are read in at most one order from a first name on, and for files that
+/// were found there is such an order. It holds the names that the first name reaches, each once. It does nothing.
 pub fn one_order()
     ensures there { HasOrder }
     ensures one { OneOrder }
     ensures reached { OrderIsReached }
 {}
 
-/// The law of loading: over a folder that tells its files there is exactly one map that `load` gives. It does nothing.
+/// The law of loading: for a folder that records its files, there is exactly one map that `load` can return. It does
+/// nothing.
 pub fn one_map()
     ensures there { MapExists }
     ensures one { OneMap }

@@ -1,12 +1,12 @@
 #![tactic(auto)]
-//! The files of a tree: loading all that the root file reaches, and the dependency file that lists them.
+//! The files of a tree: loading all files that the root file reaches, and the dependency file that lists them.
 //!
 //! - [`load`] reads the root file and all that it sources from a [`Folder`], which may fail with a [`FolderFault`]. A
-//!   [`LoadFault`] says why files could not be loaded.
-//! - [`begins_with_slash`] says whether a path is absolute.
+//!   [`LoadFault`] is the reason why files could not be loaded.
+//! - [`begins_with_slash`] returns whether a path is absolute.
 //! - [`prerequisites_of`] lists the files that a run read, [`rule_text`] is the text of the dependency file, and
 //!   [`unreadable_name`] finds a name that make cannot read.
-//! - [`laws`]: the order in which files are asked for, and what is loaded.
+//! - [`laws`]: laws of the order in which files are read, and of the loaded files.
 
 mod fault;
 mod folder;

@@ -1,4 +1,4 @@
-//! Loading: all the files that a first one reaches, name by name.
+//! Loading: reads all the files that a first one reaches, name by name.
 
 ghost use Rattle.std.specs.Prelude.{◌≡◌, ◌+◌, IfOk, IfErr, OnOk, false, true, min, nat_lt};
 ghost use Rattle.kc_load.specs.Asking.{tree_of};
@@ -21,17 +21,17 @@ use kc_text::line_count;
 use std::alloc::{AllocError, Global};
 use std::str;
 
-/// How far the loading is.
+/// The state of loading.
 #[derive(Drop)]
 pub(crate) struct Loading {
     alloc: Global,
-    // What was read.
+    // The files that were read.
     pub(crate) files: FileMap,
-    // The names that were asked for.
+    // The names that were read.
     requested: Names,
-    // The names that wait for their turn, the next one last.
+    // The names that wait, the next one last.
     pub(crate) waiting: Vec<Vec<u8>>,
-    // The physical lines of the files.
+    // The number of physical lines of the files.
     lines: usize,
 }
 
@@ -49,7 +49,7 @@ fn read_named<F: Folder>(
 }
 
 impl Loading {
-    /// The first name waits. The tables of names have this key.
+    /// Starts with the first name waiting. The tables of names use this key.
     pub(crate) fn new(alloc: Global, first: &str, key: HashKey) -> Result<Loading, AllocError>
         ensures state { IfOk result (λ loading. state_of loading ≡ initial_state first.now) }
         ensures tree { IfOk result (λ loading. loading.files.flat ≡ false) }
@@ -72,21 +72,21 @@ impl Loading {
         self.lines > MOST_LINES
     }
 
-    // Whether the name was asked for.
+    // Whether this name was read before.
     fn was_requested(&self, name: &[u8]) -> bool
         ensures { result ≡ was_requested self.now.requested name.now }
     {
         self.requested.find(name).is_some()
     }
 
-    // The lines with those of one file more, or the greatest number.
+    // The number of lines after one more file, limited to the greatest number.
     fn lines_with(&self, file: &[u8]) -> usize
         ensures { result ≡ min (self.now.lines + lines_of file.now) last_count }
     {
         self.lines.saturating_add(line_count(file))
     }
 
-    // The names that the file sources wait, the first one last.
+    // Adds the names in the file's `source` lines to those that wait, the first one last.
     fn push_sources(&mut self, file: &[u8]) -> Result<(), AllocError>
         ensures pushes { OnOk result (PushesSources file.now (state_of self.old) (state_of self.new)) }
         ensures tree { OnOk result (self.new.files ≡ self.old.files) }
@@ -109,7 +109,7 @@ impl Loading {
         Ok(())
     }
 
-    /// Reads the file of this name, where it was not asked for before, and keeps the names of its `source` lines for later.
+    /// Reads the file of this name, unless it was read before, and keeps the names of its `source` lines for later.
     pub(crate) fn visit<F: Folder>(
         &mut self,
         folder: &mut F,
@@ -137,7 +137,7 @@ impl Loading {
     }
 }
 
-// Reads the first file and all that it reaches.
+// Reads the first file and all files that it reaches.
 fn load_tree<F: Folder>(
     alloc: Global,
     folder: &mut F,
@@ -160,7 +160,7 @@ fn load_tree<F: Folder>(
     Ok(loading.files)
 }
 
-// Reads the first file alone.
+// Reads only the first file.
 fn load_flat<F: Folder>(
     alloc: Global,
     folder: &mut F,
@@ -187,18 +187,18 @@ fn load_flat<F: Folder>(
 /// Reads the file `kconfig` and every file that a `source` line of a file so read names (our own; the statement is of
 /// the kernel's kconfig-language document).
 ///
-/// A name is asked for at the path `dir/NAME`, or at the name itself where it begins with `/`. The names are asked for in
-/// one order (`laws::one_order`), each once: depth first, a name before those of its file's `source` lines, and these, in
-/// the order of the lines, before the names behind it. A name that is no UTF-8 is not asked for.
+/// A name is read from the path `dir/NAME`, or from the name itself if it begins with `/`. The names are read in one
+/// order (`laws::one_order`), each once: depth first, a name before those of its file's `source` lines, and these in
+/// the order of the lines. A name that is not UTF-8 is not read.
 ///
-/// The map holds the files that were found. Nothing is asked for behind the file with which there are more than 1,000,000
-/// physical lines; otherwise all is. What was found is always enough: over it the root file gives the list, or the refusal,
-/// that it gives over all the files of the folder, and where it gives a list it opens the same files.
+/// The map holds the files that were found. If a file takes the tree over 1,000,000 physical lines, no file is read
+/// after it. Otherwise all are read. The map is always enough: with it the root file gives the same list or refusal as
+/// with all the files of the folder. If it gives a list, it opens the same files.
 ///
-/// Of a flat tree only the first file is read, since it sources no other.
+/// For a flat tree only the first file is read, since it sources no other.
 ///
-/// E18, with the name whose turn it was, where the folder's device failed at that name's path; E20 where memory was
-/// refused, and the device did not fail. Nothing of the map is left then.
+/// E18, with the name that was next, if the folder's device failed at that name's path. E20 if there was not enough
+/// memory and the device did not fail. Then there is no map.
 pub fn load<F: Folder>(
     alloc: Global,
     folder: &mut F,
@@ -206,14 +206,14 @@ pub fn load<F: Folder>(
     kconfig: &str,
     is_flat: bool,
 ) -> Result<FileMap, LoadFault>
-    // The map holds the files that were found, asked for in order, with the folder's bytes.
+    // The map holds the files that were found, read in order, with the folder's bytes.
     ensures loaded { is_flat ≡ false → IfOk result (λ map. Loads (files_told (F.state folder.new)) dir.now kconfig.now (files_in map).bytes) }
     ensures loaded_flat { is_flat ≡ true → IfOk result (λ map. LoadsFlat (files_told (F.state folder.new)) dir.now kconfig.now (files_in map)) }
-    // They are enough: over them the first file gives what it gives over all the folder's files.
+    // They are enough: with them the first file gives the same as with all the folder's files.
     ensures enough { IfOk result (λ map. Suffices (files_told (F.state folder.new)) dir.now kconfig.now is_flat (files_in map)) }
     // The name of a file that could not be read is the next one in that order.
     ensures fault { IfErr result (IsLoadFault (files_told (F.state folder.new)) dir.now kconfig.now) }
-    // The folder's files stay, and its device failed at the path of the name that E18 tells, just now, and nowhere else.
+    // The folder's files stay. Its device failed exactly once, just now, at the path of the name in E18.
     ensures leads { Leads (failed_load dir.now result) (F.state folder.old) (F.state folder.new) }
 {
     if is_flat {

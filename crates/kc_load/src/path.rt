@@ -1,11 +1,11 @@
-//! Where a file of the tree lies.
+//! The path of a file of the tree.
 
 ghost use Rattle.std.specs.Prelude.{◌≡◌, IfOk, string_bytes};
 ghost use Rattle.kc_language.specs.Outcome.{begins_with_slash, path_of};
 
 use std::alloc::{AllocError, Global};
 
-/// Whether the name of a file begins with `/`, by which it says on its own where the file lies. It takes no memory.
+/// Whether a file name begins with `/`, so that it is a path of its own. Does not allocate.
 pub fn begins_with_slash(name: &[u8]) -> bool
     ensures { result ≡ begins_with_slash name.now }
 {
@@ -15,7 +15,7 @@ pub fn begins_with_slash(name: &[u8]) -> bool
     }
 }
 
-/// DIR/NAME, or the name itself where it begins with `/`.
+/// DIR/NAME, or the name itself if it begins with `/`.
 pub(crate) fn path_of(alloc: Global, dir: &str, name: &str) -> Result<String, AllocError>
     ensures { IfOk result (λ path. string_bytes path ≡ path_of dir.now name.now) }
 {

@@ -10,7 +10,7 @@ use kc_expr::expression::SymId;
 use kc_expr::names::Names;
 use std::alloc::{AllocError, Global};
 
-// DIR/NAME, or the name itself where it begins with `/`.
+// DIR/NAME, or the name itself if it begins with `/`.
 fn path_of(alloc: Global, dir: &str, name: &[u8]) -> Result<Vec<u8>, AllocError>
     ensures { IfOk result (λ path. path.items ≡ path_of dir.now name.now) }
 {
@@ -23,7 +23,7 @@ fn path_of(alloc: Global, dir: &str, name: &[u8]) -> Result<Vec<u8>, AllocError>
     Ok(path)
 }
 
-// Mentions the path of each file.
+// Adds the path of each file.
 fn add_paths(alloc: Global, dir: &str, opened: &Names, names: &mut Names) -> Result<(), AllocError>
     ensures { OnOk result (names.new ≡ all_mentioned names.old (map (path_of dir.now) opened.now)) }
 {
@@ -34,7 +34,7 @@ fn add_paths(alloc: Global, dir: &str, opened: &Names, names: &mut Names) -> Res
     Ok(())
 }
 
-// Mentions each fragment.
+// Adds each fragment.
 fn add_fragments(fragments: &[String], names: &mut Names) -> Result<(), AllocError>
     ensures { OnOk result (names.new ≡ all_mentioned names.old (map string_bytes fragments.now)) }
 {
@@ -44,7 +44,7 @@ fn add_fragments(fragments: &[String], names: &mut Names) -> Result<(), AllocErr
     Ok(())
 }
 
-// Mentions the input files that `out` is made of.
+// Adds the input files of `out`.
 fn add_inputs(
     out: &[u8],
     config: &[u8],
@@ -61,15 +61,15 @@ fn add_inputs(
     Ok(())
 }
 
-/// Lists the prerequisites of `out`, which is made from the files that a tree opens and from input files, each once.
+/// Lists the prerequisites of `out`, each once: the files that a tree opens, and the input files.
 ///
-/// The tree's files come in the order of their first opening, each by the path at which it was read (`DIR/NAME`, or the
-/// name itself where it begins with `/`). Then comes the `.config`, unless `out` takes its place, and then the fragments, by
-/// their names (our own).
+/// The tree's files come in the order in which they are first opened, each by the path at which it was read
+/// (`DIR/NAME`, or the name itself if it begins with `/`). Then comes the `.config`, unless it is `out` itself, and
+/// then the fragments, by their names (our own).
 ///
 /// # Errors
 ///
-/// Its only error is to be out of memory.
+/// Fails only if there is not enough memory.
 pub fn prerequisites_of(
     alloc: Global,
     opened: &Names,

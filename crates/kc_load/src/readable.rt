@@ -1,4 +1,4 @@
-//! The names that make reads in the dependency file.
+//! The names that make can read in the dependency file.
 
 ghost use Rattle.std.specs.Prelude.{◌≡◌, false, option_map};
 ghost use Rattle.std.specs.List.{list_any};
@@ -12,21 +12,21 @@ use crate::path::begins_with_slash;
 use kc_expr::expression::SymId;
 use kc_expr::names::Names;
 
-// Whether make reads the byte as more than a part of a name, also after a `\`.
+// Whether make treats the byte as more than a part of a name, even after a `\`.
 fn is_beyond_make(byte: u8) -> bool
     ensures { result ≡ is_beyond_make byte }
 {
     matches!(byte, 0 | 9..=13 | b'=' | b';' | b'*' | b'?' | b'[')
 }
 
-// Whether such a byte is in the name.
+// Whether the name has such a byte.
 fn has_beyond_make(name: &[u8]) -> bool
     ensures { result ≡ list_any is_beyond_make name.now }
 {
     name.iter().any(|byte| is_beyond_make(*byte))
 }
 
-// Whether the last byte of the text is one of these.
+// Whether the text ends in one of these bytes.
 pub(crate) fn ends_in(bytes: &[u8], text: &[u8]) -> bool
     ensures { result ≡ ends_in bytes.now text.now }
 {
@@ -76,7 +76,7 @@ fn is_special_target(name: &[u8]) -> bool
         || name == b".WAIT".as_slice()
 }
 
-// Whether make looks for the name among its libraries.
+// Whether make searches the name among its libraries.
 fn is_library(name: &[u8]) -> bool
     ensures { result ≡ is_library name.now }
 {
@@ -86,7 +86,7 @@ fn is_library(name: &[u8]) -> bool
     }
 }
 
-// Whether the name is no home folder, no library and no special target.
+// Whether the name is not a home folder, library or special target.
 fn is_plain(name: &[u8]) -> bool
     ensures { result ≡ is_plain name.now }
 {
@@ -103,12 +103,12 @@ fn is_read_by_make(name: &[u8]) -> bool
     !has_beyond_make(name) && !ends_in(b" &)", name) && is_plain(without_dots(name))
 }
 
-/// Returns the first name in a dependency file that GNU make cannot read: `out`, or else the first such file.
+/// Returns the first name in a dependency file that GNU make cannot read: `out`, otherwise the first such file.
 ///
 /// make cannot read an empty name, a name with the byte 0, one of 9 to 13 (tab, line feed, ..), `=`, `;`, `*`, `?` or
-/// `[`, and a name that ends in a blank, `&` or `)`. It reads a `~` at the start as a home folder and `-l` as a library, and
-/// names such as `.PHONY` as special targets. It ignores each `./` before these. Some of these names it reads in some
-/// positions. They are refused in every position (our own; tested with GNU make 4.3). It takes no memory.
+/// `[`, and a name that ends in a blank, `&` or `)`. It reads a `~` at the start as a home folder and `-l` as a
+/// library, and names such as `.PHONY` as special targets. It ignores each `./` before these. Some of these names it
+/// reads in some positions. They are refused in every position (our own; tested with GNU make 4.3). Does not allocate.
 pub fn unreadable_name<'n>(out: &'n [u8], files: &'n Names) -> Option<&'n [u8]>
     ensures { option_map (λ name. name.now) result ≡ unreadable_of out.now files.now }
 {

@@ -12,7 +12,7 @@ use kc_expr::names::Names;
 use kc_language::outcome::Position;
 use std::alloc::{AllocError, Global};
 
-// Whether make reads this byte as more than a part of a name, if no `\` stands before it.
+// Whether make treats this byte as more than a part of a name, unless a `\` is before it.
 fn is_special(at: Position, byte: u8) -> bool
     ensures { result ≡ is_special at byte }
 {
@@ -52,7 +52,7 @@ fn add_byte(byte: u8, with_backslash: bool, text: &mut Vec<u8>) -> Result<(), Al
     Ok(())
 }
 
-// Adds a name as make reads it at this position.
+// Adds a name in the form in which make reads it at this position.
 fn add_escaped(at: Position, name: &[u8], text: &mut Vec<u8>) -> Result<(), AllocError>
     ensures { OnOk result (text.new.items ≡ text.old.items ++ escaped at name.now) }
 {
@@ -87,7 +87,7 @@ fn add_empty_rules(files: &Names, text: &mut Vec<u8>) -> Result<(), AllocError>
     Ok(())
 }
 
-// Ends a line so that the next one does not go on with it.
+// Ends a line so that the next one does not continue it.
 fn close(line: &mut Vec<u8>) -> Result<(), AllocError>
     ensures { OnOk result (line.new.items ≡ closed line.old.items) }
 {
@@ -97,17 +97,17 @@ fn close(line: &mut Vec<u8>) -> Result<(), AllocError>
     Ok(())
 }
 
-/// Writes the rule that makes `out` anew where one of the files is newer, and an empty rule for each file, so that make
-/// goes on where one of them went away.
+/// Writes the rule that remakes `out` if one of the files is newer, and an empty rule for each file, so that make goes
+/// on if a file is deleted.
 ///
-/// A `\` stands before each blank, tab, `#` and `:` of a name, before each `%` of a target and each `|` of a prerequisite,
-/// and before each `\` of a run that ends before one of them or at the name's end. A `$` is doubled. If the line of the
-/// prerequisites ends in `\`, ` |` follows. So GNU make 4.3 reads each name as it is, except for those that
-/// [`unreadable_name`](crate::unreadable_name) finds (our own).
+/// A `\` is written before each blank, tab, `#` and `:` of a name, before each `%` of a target and each `|` of a
+/// prerequisite, and before each `\` of a run that ends before one of them or at the name's end. A `$` is doubled. If
+/// the line of the prerequisites ends in `\`, ` |` follows. So GNU make 4.3 reads each name unchanged, except for those
+/// that [`unreadable_name`](crate::unreadable_name) finds (our own).
 ///
 /// # Errors
 ///
-/// It is out of memory.
+/// Fails if there is not enough memory.
 pub fn rule_text(alloc: Global, out: &[u8], files: &Names) -> Result<Vec<u8>, AllocError>
     ensures { IfOk result (λ text. text.items ≡ spec.rule_text out.now files.now) }
 {

@@ -1,4 +1,4 @@
--- For proofs: What is to come of bytes, as the code has it.
+-- For proofs: The remaining bytes, as the code stores them.
 use Rattle.std.specs.Prelude.{ℕ, List, Option, option_map}
 use Rattle.std.specs.Borrow.{Bor}
 use Rattle.kc_memory_device.specs.Stripped.{Seen}

@@ -1,4 +1,4 @@
--- For proofs: What the code knows of a file.
+-- For proofs: The code's view of a file.
 use Rattle.std.specs.Prelude.{option_map}
 use Rattle.kc_io.specs.Log.{Spot}
 use Rattle.kc_memory_device.specs.declared.replay.Stand.{Stand}

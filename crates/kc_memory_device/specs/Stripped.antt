@@ -1,11 +1,11 @@
--- For proofs: What is to come of bytes after their beginning.
+-- For proofs: The rest of bytes after a prefix.
 use Rattle.std.specs.Prelude.{ℕ, List, [], ◌∷◌, nat_eq, Option, None, Some, if◌then◌else◌}
 use Rattle.kc_io.specs.Log.{Spot}
 use Rattle.kc_io.specs.declared.device.Action.{Action}
 use Rattle.kc_io.specs.declared.device.Action.TheVariants.{Create, Write, Move}
 use Rattle.kc_io.specs.declared.device.Site.TheVariants.{Place, Beside}
 
--- what is to come of these bytes after those, or nothing where they do not begin so
+-- the rest of these bytes after that prefix, or nothing if they do not start with it
 abbrev pub stripped : List ℕ → List ℕ → Option (List ℕ)
 stripped bytes [] = Some bytes
 stripped [] (x ∷ xs) = None
@@ -15,7 +15,7 @@ abbrev pub stripped_of : Option (List ℕ) → List ℕ → Option (List ℕ)
 stripped_of None written = None
 stripped_of (Some bytes) written = stripped bytes written
 
--- at a place, and beside it
+-- for the file, and for the temporary file beside it
 pub record Seen : Type 0 where
   pub held : Option (List ℕ)
   pub beside : Option (List ℕ)
@@ -24,7 +24,7 @@ abbrev pub to_come : List ℕ → Option (List ℕ) → Option (List ℕ)
 to_come bytes None = None
 to_come bytes (Some written) = stripped bytes written
 
--- what is to come of the bytes at this spot
+-- the remaining bytes after the content of this file
 abbrev pub seen_at : List ℕ → Spot → Seen
 seen_at bytes spot = record { held = to_come bytes spot.held; beside = stripped bytes spot.beside }
 

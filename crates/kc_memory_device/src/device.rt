@@ -11,7 +11,8 @@ use std::alloc::{AllocError, Global};
 
 /// Files and diagnostics in memory (our own).
 ///
-/// It tells what its files held at first, and then all that was asked of it. Where there is no memory for that, it tells nothing any more.
+/// It records what its files hold at first, and then every call. If there is not enough memory for a record, it stops
+/// recording.
 #[derive(Drop)]
 pub struct MemoryDevice<'a> {
     alloc: Global,
@@ -23,7 +24,7 @@ pub struct MemoryDevice<'a> {
     turns: Turns,
 }
 
-// Writes the parts behind what was said.
+// Appends the parts to what was reported.
 fn say(said: &mut Vec<u8>, parts: &[&[u8]]) -> Result<(), AllocError>
     ensures { IfOk result (λ _. said.new.items ≡ said.old.items ++ flat_map (λ part. part.now) parts.now) }
 {
@@ -39,7 +40,7 @@ impl<'a> MemoryDevice<'a> {
     ghost use Rattle.kc_memory_device.specs.Recorded.{asked, events_of, first_held, outcome};
     ghost use Rattle.kc_memory_device.specs.Told.{log_of};
 
-    /// A device with these files, by name, of which nothing was asked. Of two files of one name it has the first.
+    /// Returns a device with these files, by name, before any call. Of two files of the same name it has the first.
     pub fn new(alloc: Global, files: &'a [(&'a str, &'a [u8])], plan: Plan) -> MemoryDevice<'a>
         ensures { log_of result ≡ Some (record { files = first_held files.now; events = []; said = [] }) }
     {
@@ -54,7 +55,7 @@ impl<'a> MemoryDevice<'a> {
         }
     }
 
-    /// What the file of this name holds now, if there is one. `AllocError` where there is no memory for it.
+    /// Returns what the file of this name holds now, if it exists. `AllocError` if there is not enough memory.
     pub fn held(&self, name: &str) -> Result<Option<Vec<u8>>, AllocError>
         ensures { IfOk result (λ bytes. Tells (log_of self.now) (λ journal. option_map (λ b. b.items) bytes ≡ held journal name.now)) }
     {
@@ -64,14 +65,15 @@ impl<'a> MemoryDevice<'a> {
         }
     }
 
-    /// What was said on the diagnostics.
+    /// Returns the diagnostics that were reported.
     pub fn diagnostics(&self) -> &[u8]
         ensures { Tells (log_of self.now) (λ journal. result.now ≡ journal.said) }
     {
         self.said.as_slice()
     }
 
-    /// What was asked, in order: each call but the diagnostics that were written, or nothing where there was no memory for it.
+    /// Returns the calls, in order, without those that wrote diagnostics; None if there was not enough memory to record
+    /// them.
     pub fn records(&self) -> Option<&[Record]>
         ensures { option_map (λ records. events_of records.now) result ≡ option_map (λ journal. journal.events) (log_of self.now) }
     {
@@ -81,17 +83,17 @@ impl<'a> MemoryDevice<'a> {
         }
     }
 
-    /// How often diagnostics were reported.
+    /// Returns how often diagnostics were reported.
     pub fn reports(&self) -> u64 {
         self.reports
     }
 
-    /// How many calls were made of those that the plan counts.
+    /// Returns the number of calls that the plan counts.
     pub fn calls(&self) -> u64 {
         self.turns.calls
     }
 
-    // One call more, with these bytes.
+    // Records one more call, with these bytes.
     fn record(&mut self, action: Action, name: &str, bytes: &[u8], fault: Option<Fault>)
         ensures log { Leads (asked action name.now bytes.now fault) [] (log_of self.old) (log_of self.new) }
         ensures open { self.new.opened ≡ self.old.opened }
@@ -100,7 +102,7 @@ impl<'a> MemoryDevice<'a> {
         self.records = recorded(self.alloc, records, action, name, bytes, fault);
     }
 
-    // One call more, which fails where the plan says so.
+    // Makes one more call, which fails if the plan says so.
     fn ask(&mut self, action: Action, name: &str, bytes: &[u8]) -> Result<(), Fault>
         ensures { Leads (outcome result action name.now bytes.now) [] (log_of self.old) (log_of self.new) }
     {
@@ -116,7 +118,7 @@ impl<'a> MemoryDevice<'a> {
         }
     }
 
-    // The file of this name, if there is one. `Fault` where there is none and it may not be missing.
+    // The file of this name, if it exists. `Fault` if it does not and must exist.
     fn find(&self, name: &str, may_be_missing: bool) -> Result<Option<Opened>, Fault>
         ensures found { IfOk result (λ file. IsFound (log_of self.now) name.now may_be_missing (is_some file)) }
         ensures file { IfOk result (λ file. IfSome file (λ opened. IsOpened (log_of self.now) name.now (open_file opened))) }
@@ -136,7 +138,7 @@ impl<'a> MemoryDevice<'a> {
         }
     }
 
-    // The same, where the call does not fail by the plan.
+    // The same, unless the call fails by the plan.
     fn find_in_turn(&mut self, name: &str, may_be_missing: bool) -> Result<Option<Opened>, Fault>
         ensures stays { log_of self.new ≡ log_of self.old }
         ensures found { IfOk result (λ file. IsFound (log_of self.old) name.now may_be_missing (is_some file)) }

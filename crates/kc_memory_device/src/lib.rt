@@ -1,9 +1,9 @@
 #![tactic(auto)]
-//! A device in memory, for tests. It records what was asked of it, splits reads and writes, and fails at a call of choice.
+//! A device in memory, for tests. It records its calls, splits reads and writes, and fails at a chosen call.
 //!
 //! - [`MemoryDevice`]: the device.
-//! - [`Plan`]: how it splits bytes and which call fails; [`SMOOTH`] fails nowhere.
-//! - [`Record`]: what was asked of it.
+//! - [`Plan`]: how it splits bytes and which call fails; with [`SMOOTH`] none fails.
+//! - [`Record`]: a call.
 
 mod device;
 mod opened;

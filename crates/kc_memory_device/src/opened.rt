@@ -1,14 +1,14 @@
-//! A file that was opened to be read.
+//! A file that was opened for reading.
 ghost use Rattle.std.specs.Prelude.{◌≡◌, ◌≤◌, length};
 
 use std::alloc::Global;
 
-/// What it holds, and how much of that was given.
+/// Its content, and how much of it was read.
 #[derive(Drop)]
 pub(crate) struct Opened {
     pub(crate) bytes: Vec<u8>,
     pub(crate) at: usize,
-    /// Whether the device told of it when it was opened.
+    /// Whether the device was recording when it was opened.
     pub(crate) is_told: bool,
     ghost within: { at ≤ length bytes.items },
 }
@@ -17,7 +17,7 @@ impl Opened {
     ghost use Rattle.kc_io.specs.Log.{ReadsOn};
     ghost use Rattle.kc_memory_device.specs.Opened.{open_file};
 
-    /// Nothing was opened.
+    /// No file is open.
     pub(crate) fn nothing(alloc: Global) -> Opened {
         Opened {
             bytes: Vec::new(alloc),
@@ -26,7 +26,7 @@ impl Opened {
         }
     }
 
-    /// Puts the next bytes at the front of the buffer, at most so many and at least one, and answers how many.
+    /// Puts the next bytes at the start of the buffer, at most `most` and at least one, and returns their number.
     pub(crate) fn read(&mut self, buffer: &mut [u8], most: usize) -> usize
         ensures within { result ≤ length buffer.old }
         ensures length { length buffer.new ≡ length buffer.old }

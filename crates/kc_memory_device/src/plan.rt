@@ -1,4 +1,4 @@
-//! In which pieces a device gives and takes bytes, and which call fails.
+//! How a device splits reads and writes, and which call fails.
 ghost use Rattle.std.specs.Prelude.{◌≤◌};
 
 use kc_io::{Action, Fault};
@@ -8,21 +8,21 @@ use kc_io::{Action, Fault};
 pub struct Plan {
     /// The most bytes that the first read of a file gives; 0 counts as 1.
     pub first_read: usize,
-    /// The most bytes of each read behind that; 0 counts as 1.
+    /// The most bytes of each later read; 0 counts as 1.
     pub later_reads: usize,
     /// The most bytes that a write takes; 0 counts as 1.
     pub piece: usize,
-    /// The bytes that writes take in all. A write for which there is no room is refused.
+    /// The total number of bytes that writes take. A write fails if no room is left.
     pub room: usize,
-    /// Of which calls one fails: those that ask this, or all where it is none. A file is asked for by `Open`, whether it is there or not.
+    /// The kind of calls that are counted, or all calls if None. `Open` is counted whether the file exists or not.
     pub counted: Option<Action>,
-    /// Which of them fails, counted from 1; 0 for none. What stands beside places is removed without a count.
+    /// The number of the call that fails, counted from 1; 0 for none. Removing temporary files is not counted.
     pub fail_at: u64,
-    /// For what cause it fails.
+    /// The fault with which it fails.
     pub fault: Fault,
 }
 
-/// A device that gives and takes all at once, and never fails.
+/// A device that reads and writes all bytes at once, and never fails.
 pub const SMOOTH: Plan = Plan {
     first_read: usize::MAX,
     later_reads: usize::MAX,
@@ -50,7 +50,7 @@ impl Turns {
         }
     }
 
-    /// Counts a call, and answers for what cause it fails, if it does.
+    /// Counts a call, and returns its fault, if it fails.
     pub(crate) fn next(&mut self, action: Action) -> Option<Fault> {
         let is_counted = match self.plan.counted {
             Some(counted) => counted == action,
@@ -67,7 +67,7 @@ impl Turns {
         }
     }
 
-    /// The most bytes of a read, where so many were given.
+    /// The most bytes of the next read, after this many bytes.
     pub(crate) fn most(&self, given: usize) -> usize {
         if given == 0 {
             self.plan.first_read
@@ -76,7 +76,7 @@ impl Turns {
         }
     }
 
-    /// How many of so many bytes a write takes: none where there is no room.
+    /// How many of these bytes a write takes: none if no room is left.
     pub(crate) fn taken(&mut self, bytes: usize) -> usize
         ensures { result ≤ bytes }
     {

@@ -1,4 +1,4 @@
-//! What was asked of a device.
+//! The record of a device's calls.
 ghost use Rattle.std.specs.Prelude.{◌≡◌, ℕ, List, [], Option, IfOk};
 ghost use Rattle.kc_io.specs.Log.{Leads};
 ghost use Rattle.kc_memory_device.specs.Recorded.{asked, told};
@@ -6,14 +6,14 @@ ghost use Rattle.kc_memory_device.specs.Recorded.{asked, told};
 use kc_io::{Action, Fault};
 use std::alloc::{AllocError, Global};
 
-/// A call that was made, with the bytes that were read or written by it, and for what cause it failed, if it did.
+/// A call, with the bytes that it read or wrote, and its fault, if it failed.
 #[derive(Drop)]
 pub struct Record {
-    /// What was asked.
+    /// The kind of call.
     pub action: Action,
-    /// The file's name; empty for the diagnostics, and where what stands beside places is removed.
+    /// The file's name; empty for the diagnostics, and when temporary files are removed.
     pub name: String,
-    /// The bytes; none were read at the end of a file.
+    /// The bytes; empty at the end of a file.
     pub bytes: Vec<u8>,
     /// Why it failed.
     pub fault: Option<Fault>,
@@ -43,7 +43,7 @@ fn with_record(
     Ok(Some(records))
 }
 
-/// The records with one more. Where there is no memory for it, nothing is told any more.
+/// Adds a record. Returns None if there is not enough memory: then nothing is recorded any more.
 pub(crate) fn recorded(
     alloc: Global,
     records: Option<Vec<Record>>,

@@ -1,4 +1,4 @@
-//! What files hold after all that was done with them.
+//! The content of files after all calls.
 ghost use Rattle.std.specs.Prelude.{◌≡◌, ◌++◌, [], IfOk, Some, fold, option_map};
 ghost use Rattle.kc_io.specs.Log.{Spot, acted, after};
 ghost use Rattle.kc_memory_device.specs.Recorded.{events_in, first_held, held_after, is_held_after};
@@ -11,14 +11,14 @@ use crate::sight::{Sight, rest_of, seen_after};
 use kc_io::{Action, Site};
 use std::alloc::{AllocError, Global};
 
-/// What the file of a name holds, and what stands beside it.
+/// The content of a file, and of the temporary file beside it.
 #[derive(Drop)]
 pub(crate) struct Stand {
     held: Option<Vec<u8>>,
     beside: Vec<u8>,
 }
 
-/// What the file of this name held at first.
+/// Returns the content of this file at first.
 pub(crate) fn first_held<'a>(first: &[(&'a str, &'a [u8])], name: &str) -> Option<&'a [u8]>
     ensures { option_map (λ bytes. bytes.now) result ≡ first_held first.now name.now }
 {
@@ -32,7 +32,7 @@ pub(crate) fn first_held<'a>(first: &[(&'a str, &'a [u8])], name: &str) -> Optio
     None
 }
 
-// What is to come of the bytes before anything was done.
+// The remaining bytes before any call.
 fn first_sight<'b>(first: &[(&str, &[u8])], name: &str, bytes: &'b [u8]) -> Sight<'b>
     ensures { seen result ≡ seen_at bytes.now (record { held = first_held first.now name.now; beside = [] }) }
 {
@@ -48,7 +48,7 @@ fn first_sight<'b>(first: &[(&str, &[u8])], name: &str, bytes: &'b [u8]) -> Sigh
     }
 }
 
-// What is to come after one call more.
+// The remaining bytes after one more call.
 fn seen_record<'b>(bytes: &'b [u8], name: &str, call: &Record, sight: Sight<'b>) -> Sight<'b>
     ensures { (spot : Spot) → seen sight.entry ≡ seen_at bytes.now spot → seen result ≡ seen_at bytes.now (fold (after name.now) spot (events_in call.now)) }
 {
@@ -61,7 +61,7 @@ fn seen_record<'b>(bytes: &'b [u8], name: &str, call: &Record, sight: Sight<'b>)
     seen_after(bytes, sight, call.action, call.bytes.as_slice())
 }
 
-/// Whether the file of this name is there after these records, and holds these bytes and no others.
+/// Whether the file of this name exists after these calls, and holds exactly these bytes.
 pub(crate) fn is_held_after(
     first: &[(&str, &[u8])],
     records: &[Record],
@@ -133,7 +133,7 @@ fn copied(alloc: Global, bytes: Option<&[u8]>) -> Result<Option<Vec<u8>>, AllocE
     }
 }
 
-/// What the file of this name holds after these records.
+/// Returns the content of the file of this name after these calls.
 pub(crate) fn held_after(
     alloc: Global,
     first: &[(&str, &[u8])],

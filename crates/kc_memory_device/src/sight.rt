@@ -1,18 +1,19 @@
-//! What is still to come of some bytes, as what is written is seen.
+//! The rest of expected bytes, while writes are replayed.
 ghost use Rattle.std.specs.Prelude.{◌≡◌};
 ghost use Rattle.kc_memory_device.specs.Sights.{bytes_of, seen};
 ghost use Rattle.kc_memory_device.specs.Stripped.{acted_seen, stripped_of};
 
 use kc_io::{Action, Site};
 
-/// What is to come of the bytes at a place and beside it, where what is there is their beginning.
+/// The bytes that remain after the content of a file, and after the temporary file beside it, if that content is their
+/// prefix.
 #[derive(Clone, Copy)]
 pub(crate) struct Sight<'b> {
     pub(crate) held: Option<&'b [u8]>,
     pub(crate) beside: Option<&'b [u8]>,
 }
 
-/// What is to come behind what was written.
+/// Returns the bytes after what was written.
 pub(crate) fn rest_of<'b>(rest: Option<&'b [u8]>, written: &[u8]) -> Option<&'b [u8]>
     ensures { bytes_of result ≡ stripped_of (bytes_of rest.entry) written.now }
 {
@@ -22,7 +23,7 @@ pub(crate) fn rest_of<'b>(rest: Option<&'b [u8]>, written: &[u8]) -> Option<&'b 
     }
 }
 
-/// What is to come after one action more.
+/// Returns the remaining bytes after one more action.
 pub(crate) fn seen_after<'b>(
     bytes: &'b [u8],
     sight: Sight<'b>,

@@ -6,7 +6,7 @@ use std::alloc::AllocError;
 
 const FIRST: &[(&str, &[u8])] = &[("config", b"A=n\n"), ("kept", b"abcdefg")];
 
-// The delivery of two texts.
+// Delivers two texts.
 fn delivered(
     rt: &HostRuntime,
     manner: Manner,
@@ -34,7 +34,7 @@ fn last<'d>(device: &'d MemoryDevice<'_>) -> Option<&'d Record> {
     }
 }
 
-// What fails where the call of this number does.
+// What fails if the call of this number fails.
 fn failing(
     rt: &HostRuntime,
     manner: Manner,

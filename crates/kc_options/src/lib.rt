@@ -1,6 +1,7 @@
-//! What is asked of a run, and how it may end.
+//! The options of a run, and its status.
 //!
-//! - [`Options`]: the files and the switches of a run. [`Delivery`] says how texts come to their files.
+//! - [`Options`]: the files and the switches of a run. [`Delivery`] is the way in which texts are written to their
+//!   files.
 //! - [`Status`]: how a run ended.
 #![tactic(auto)]
 

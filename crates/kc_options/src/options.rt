@@ -1,4 +1,4 @@
-//! What is asked of a run: parts of it.
+//! The options of a run, and parts of them.
 
 ghost use Rattle.std.specs.Prelude.{◌≡◌, [], not, slice_index_or};
 ghost use Rattle.std.specs.List.{flat_map};
@@ -9,10 +9,10 @@ ghost use Rattle.kc_options.specs.Asked.{may_at};
 use kc_config_file::prefix::Prefix;
 use kc_language::outcome;
 
-/// What is asked of a run.
+/// The options of a run.
 pub type Options = outcome::Options<Prefix>;
 
-/// What each diagnostic begins with that is not about a line of the `.config`, in two parts (our own).
+/// The start of each diagnostic that is not about a line of the `.config`, in two parts (our own).
 pub fn lead(options: &Options) -> [&[u8]; 2]
     ensures { flat_map (λ part. part.now) result ≡ lead options.now }
 {
@@ -23,7 +23,8 @@ pub fn lead(options: &Options) -> [&[u8]; 2]
     }
 }
 
-/// The name of an input file: 0 is the `.config`, n the n-th fragment. It is empty where there is none (our own).
+/// Returns the name of an input file: 0 is the `.config`, n the n-th fragment. It is empty if there is no such file
+/// (our own).
 pub fn input_file(options: &Options, i: usize) -> &str
     ensures { result.now ≡ slice_index_or (input_files options.now) i [] }
 {
@@ -43,14 +44,14 @@ pub fn may_be_missing(options: &Options, i: usize) -> bool
     i == 0 && !options.must_exist
 }
 
-/// Whether the warnings of the input files are said only once all are read (our own).
+/// Whether the warnings of the input files are held back until all of them are read (our own).
 pub fn holds_warnings(options: &Options) -> bool
     ensures { result ≡ holds_warnings options.now }
 {
     options.strict || options.strict_tree
 }
 
-/// Whether the texts are made of the tree's sources too: its lines and its files (our own).
+/// Whether the texts use the tree's sources: its lines and its files (our own).
 pub fn wants_sources(options: &Options) -> bool
     ensures { result ≡ wants_sources options.now }
 {
@@ -59,7 +60,7 @@ pub fn wants_sources(options: &Options) -> bool
         || options.with_help && options.list_new.is_some()
 }
 
-/// The file that a dependency file's rule makes; empty where no full `.config` is written (our own).
+/// The target of the dependency file's rule; empty if no full `.config` is written (our own).
 pub fn target(options: &Options) -> &str
     ensures { result.now ≡ target options.now }
 {

@@ -1,4 +1,4 @@
-//! Arguments of the command line, and what they ask for (kc_words).
+//! Arguments of the command line, and what they request (kc_words).
 use kc_conf::{Delivery, Options};
 use kc_words::{Each, Request, UsageError, request_of};
 use std::alloc::{AllocError, Global};
@@ -14,7 +14,7 @@ fn words_into(alloc: Global, line: &str, words: &mut Vec<String>) -> Result<(), 
     Ok(())
 }
 
-// The options that are wanted: names, and the flags that are given, one after another.
+// The expected options: names, and the flags that are set, one after another.
 struct Want {
     root: &'static str,
     config: &'static str,
@@ -34,7 +34,7 @@ struct Want {
     flags: &'static str,
 }
 
-// The options of a command line that is one name, `Kconfig`.
+// The options of a command line with only one name, `Kconfig`.
 const PLAIN: Want = Want {
     root: ".",
     config: ".config",
@@ -54,7 +54,7 @@ const PLAIN: Want = Want {
     flags: "",
 };
 
-// The same where three symbols are to be explained.
+// The same if three symbols are to be explained.
 const EXPLAINED: Want = Want {
     out: None,
     explanation: Some("/dev/stdout"),
@@ -79,7 +79,7 @@ fn are_names(names: &[String], want: &[&str]) -> bool {
     names.len() == want.len()
 }
 
-// Adds the flags that are given.
+// Adds the flags that are set.
 fn flags_into(options: &Options, text: &mut String) -> Result<(), AllocError> {
     let flags = [
         (options.must_exist, "must-exist "),
@@ -143,7 +143,7 @@ fn gives(alloc: Global, line: &str, want: &Want) -> bool {
     words_into(alloc, line, &mut words).is_ok() && words_give(alloc, &words, want)
 }
 
-// Arguments, and the options that they give.
+// Arguments and their options.
 const OPTIONS: &[(&str, Want)] = &[
     ("Kconfig", PLAIN),
     (
@@ -279,14 +279,14 @@ fn each_option_has_its_value_or_its_default(rt: HostRuntime) {
     }
 }
 
-// The configurations that are wanted, the list of more of them, and what is wanted for each.
+// The expected configurations, their list, and the options of each.
 struct WantEach {
     configurations: &'static [&'static str],
     list: Option<&'static str>,
     options: Want,
 }
 
-// What is wanted for each configuration of a command line that is one name, `Kconfig`, beside `--each`.
+// The options of each configuration for a command line with only one name, `Kconfig`, and `--each`.
 const EACH: Want = Want {
     config: "",
     out: None,
@@ -308,13 +308,13 @@ fn words_give_each(alloc: Global, words: &[String], want: &WantEach) -> bool {
     }
 }
 
-// Whether the arguments between the `|` ask for these configurations.
+// Whether the arguments between the `|` request these configurations.
 fn gives_each(alloc: Global, line: &str, want: &WantEach) -> bool {
     let mut words = Vec::new(alloc);
     words_into(alloc, line, &mut words).is_ok() && words_give_each(alloc, &words, want)
 }
 
-// Arguments, and the configurations that they ask for.
+// Arguments and the configurations that they request.
 const CONFIGURATIONS: &[(&str, WantEach)] = &[
     (
         "--each|Kconfig",
@@ -401,13 +401,13 @@ fn words_ask_for(alloc: Global, words: &[String], want: &str) -> bool {
     }
 }
 
-// Whether the arguments between the `|` are bad, or ask for this.
+// Whether the arguments between the `|` are wrong, or request this.
 fn asks_for(alloc: Global, line: &str, want: &str) -> bool {
     let mut words = Vec::new(alloc);
     words_into(alloc, line, &mut words).is_ok() && words_ask_for(alloc, &words, want)
 }
 
-// Arguments that are bad, and arguments that ask for something else than a run.
+// Wrong arguments, and arguments that do not request a run.
 const OTHERS: &[(&str, &str)] = &[
     ("", "bad"),
     ("--root|d", "bad"),
@@ -485,7 +485,7 @@ fn are_answered_by(alloc: Global, words: &[String], part: &str) -> bool {
     }
 }
 
-// Whether the arguments are answered by a text with this part.
+// Whether the text for these arguments contains this part.
 fn answers(alloc: Global, line: &str, part: &str) -> bool {
     let mut words = Vec::new(alloc);
     words_into(alloc, line, &mut words).is_ok() && are_answered_by(alloc, &words, part)

@@ -1,4 +1,4 @@
-//! A run over texts that may be made by code, and what it leaves.
+//! A run over texts that may be generated, and its results.
 use crate::texts::{EMPTY, Text, text_of};
 use crate::trial::{is_left, is_made, options_of, run_over};
 use kc_conf::{FileMap, Options, Status};
@@ -6,7 +6,7 @@ use kc_memory_device::{MemoryDevice, Plan, SMOOTH};
 use std::alloc::{AllocError, Global};
 use std::test::Fail;
 
-/// A tree, its `.config`, how the run goes, and what it leaves.
+/// A tree, its `.config`, the options and device of the run, and its results.
 #[derive(Clone, Copy)]
 pub(crate) struct Case {
     /// What the case shows.
@@ -19,29 +19,30 @@ pub(crate) struct Case {
     pub others: &'static [(&'static str, Text)],
     /// The `.config`.
     pub settings: Text,
-    /// The least length of its first piece; each from here up to `to` is tried.
+    /// The smallest length of its first chunk; each length from here up to `to` is tried.
     pub from: usize,
-    /// One more than the greatest one.
+    /// One more than the greatest length.
     pub to: usize,
-    /// How the device behaves besides.
+    /// How the device behaves otherwise.
     pub plan: Plan,
-    /// How it ends.
+    /// The status.
     pub status: Status,
-    /// How many calls there are of those that the plan counts, where that is looked at.
+    /// The number of calls that the plan counts, if it is checked.
     pub calls: Option<u64>,
-    /// The `.config` that is written, where one is created.
+    /// The written `.config`, if one is created.
     pub config: Option<Text>,
-    /// The minimal file, where one is created.
+    /// The minimal file, if one is created.
     pub minimal: Option<Text>,
     /// The diagnostics.
     pub diagnostics: Text,
-    /// In how many calls they are written, where that is looked at.
+    /// The number of calls that write them, if it is checked.
     pub reports: Option<u64>,
-    /// Whether the `.config` that is written is written again by a run on it.
+    /// Whether a run on the written `.config` writes it again.
     pub is_stable: bool,
 }
 
-/// A run with its `.config` in one piece, without header, minimal file and dependency file; it is done, and writes nothing.
+/// A run with its `.config` in one chunk, without header, minimal file and dependency file. It succeeds and writes
+/// nothing.
 pub(crate) const PLAIN_CASE: Case = Case {
     name: "",
     arguments: "Kconfig",
@@ -97,7 +98,7 @@ fn files_of(alloc: Global, case: &Case) -> Result<FileMap, AllocError> {
     Ok(files)
 }
 
-// Whether the file was made and holds this text, or was not made.
+// Whether the file was created and holds this text, or was not created.
 fn has_text(device: &MemoryDevice<'_>, name: &str, wanted: &Option<Text>, text: &str) -> bool {
     match wanted {
         Some(_) => is_left(device, name, text.as_bytes()),
@@ -105,7 +106,7 @@ fn has_text(device: &MemoryDevice<'_>, name: &str, wanted: &Option<Text>, text: 
     }
 }
 
-// Whether the device was left as the case says, and no header was made.
+// Whether the device was left as expected, and no header was created.
 fn has_left(device: &MemoryDevice<'_>, case: &Case, texts: &Texts) -> bool {
     device.records().is_some()
         && has_text(device, ".config", &case.config, &texts.config)
@@ -116,7 +117,7 @@ fn has_left(device: &MemoryDevice<'_>, case: &Case, texts: &Texts) -> bool {
         && (case.reports.is_none() || case.reports == Some(device.reports()))
 }
 
-// Whether the run leaves what the case says, where the first piece of the `.config` has so many bytes.
+// Whether the run has the expected results, if the first chunk of the `.config` has this many bytes.
 fn leaves(
     alloc: Global,
     case: &Case,
@@ -134,7 +135,7 @@ fn leaves(
     Ok(status == case.status && has_left(&device, case, texts))
 }
 
-// Whether a run on the `.config` that is written writes it again.
+// Whether a run on the written `.config` writes it again.
 fn is_written_again(
     alloc: Global,
     case: &Case,

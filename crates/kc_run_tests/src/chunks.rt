@@ -1,4 +1,4 @@
-//! Input files in pieces, and writes that take little: neither changes what a run leaves.
+//! Input files in chunks, and writes that take few bytes: neither changes the results of a run.
 use crate::trees::{TURNS, Turn};
 use crate::trial::{ALL, options_of};
 use crate::turns::{are_texts, run_turn};
@@ -7,7 +7,7 @@ use kc_memory_device::{MemoryDevice, Plan, SMOOTH};
 use std::alloc::Global;
 use std::test::Fail;
 
-// Whether the run over the turn by this plan leaves its texts.
+// Whether the run over the tree with this plan writes its texts.
 fn leaves_texts(alloc: Global, turn: &Turn, plan: Plan) -> Result<bool, Fail> {
     let files = [(".config", turn.settings)];
     let mut device = MemoryDevice::new(alloc, &files, plan);

@@ -1,4 +1,4 @@
-//! A tree that is cut after each byte.
+//! A tree that is cut off after each byte.
 use crate::trees::MENUS;
 use crate::trial::{ALL, is_made, one_file, options_of, run_over};
 use kc_conf::{Options, Status};
@@ -10,14 +10,14 @@ fn line_ends(text: &[u8]) -> usize {
     text.iter().filter(|byte| **byte == b'\n').count()
 }
 
-// Whether all outputs are made; the dependency file is not looked at.
+// Whether all outputs are created; the content of the dependency file is not checked.
 fn has_all(device: &MemoryDevice<'_>) -> bool {
     ["out.h", "min.config", ".config"]
         .iter()
         .all(|name| is_made(device, name))
 }
 
-// Whether one line says why the tree is refused, and nothing was read or made.
+// Whether one line reports why the tree is refused, and nothing was read or created.
 fn is_refused_in_one_line(device: &MemoryDevice<'_>) -> bool {
     let said = device.diagnostics();
     said.starts_with(b"Kconfig:")
@@ -26,7 +26,7 @@ fn is_refused_in_one_line(device: &MemoryDevice<'_>) -> bool {
         && matches!(device.records(), Some([]))
 }
 
-// Whether the run over this tree is done, where it is; none where it is neither that nor refused in one line.
+// Whether the run over this tree succeeds; None if it neither succeeds nor is refused in one line.
 fn is_accepted(alloc: Global, tree: &[u8], options: &Options) -> Result<Option<bool>, Fail> {
     let files = [(".config", b"".as_slice())];
     let mut device = MemoryDevice::new(alloc, &files, SMOOTH);

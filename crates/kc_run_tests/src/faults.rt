@@ -1,4 +1,4 @@
-//! Single faults, and the texts that are left.
+//! Single faults, and the files that are left.
 use crate::case::{Case, PLAIN_CASE, holds};
 use crate::limits::TWO_CONFIG;
 use crate::texts::{EMPTY, Text};
@@ -8,7 +8,7 @@ use kc_io::{Action, Site};
 use kc_memory_device::{Plan, SMOOTH};
 use std::test::Fail;
 
-// A tree of two symbols, whose `.config` comes in small pieces, and a fault.
+// A tree of two symbols, whose `.config` comes in small chunks, and a fault.
 const STRUCK: Case = Case {
     kconfig: Text {
         before: TWO,

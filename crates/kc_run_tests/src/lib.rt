@@ -1,6 +1,6 @@
-//! Tests of runs over memory, of what cases of files cannot show: input files in pieces, writes that take little, each call of a
-//! device that fails, limits whose inputs are made by code, a tree cut after each byte, and that each line of the minimal file
-//! is needed. Beside them the arguments of the command line.
+//! Tests of runs in memory, which cover what cases of files cannot show: input files in chunks, writes that take few
+//! bytes, each call of a device that fails, limits whose inputs are generated, a tree cut off after each byte, and that
+//! each line of the minimal file is needed. Also the arguments of the command line.
 #![tactic(auto)]
 
 #[cfg(test)]

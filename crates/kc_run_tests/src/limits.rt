@@ -7,7 +7,7 @@ use kc_io::Action;
 use kc_memory_device::{Plan, SMOOTH};
 use std::test::Fail;
 
-// A `.config` without a symbol: its heading.
+// A `.config` without a symbol: only its heading.
 const HEADING: Text = Text {
     before: "#\n\
         # Automatically generated file; DO NOT EDIT.\n\
@@ -32,13 +32,13 @@ const THREE: &str = "config A\n\
     \tbool\n\
     \tdefault y\n";
 
-// So many bytes `x`, which are no line of a `.config`.
+// This many bytes `x`, which are not a line of a `.config`.
 const LINE: Text = Text {
     line: &[Part::Plain("x")],
     ..EMPTY
 };
 
-// A line of 65,535 bytes is read, and what is written then stays.
+// A line of 65,535 bytes is read, and writing its text again gives the same.
 const READ: Case = Case {
     name: "a line may have 65535 bytes",
     kconfig: Text {
@@ -74,7 +74,7 @@ const TOO_LONG: Case = Case {
     ..READ
 };
 
-// Each read gives one byte, and reads are counted.
+// Each read returns one byte, and reads are counted.
 const BYTE_BY_BYTE: Plan = Plan {
     later_reads: 1,
     counted: Some(Action::Read),
@@ -132,7 +132,7 @@ const NEWLINES: Text = Text {
     ..EMPTY
 };
 
-// A root file that sources `a` twice, where that is so many empty lines.
+// A root file that sources `a` twice; `a` has this many empty lines.
 const MILLION: Case = Case {
     name: "the files may have a million lines",
     kconfig: Text {
@@ -151,7 +151,7 @@ const MILLION: Case = Case {
     ..PLAIN_CASE
 };
 
-// The definitions of so many symbols without a type.
+// The definitions of this many symbols without a type.
 const UNTYPED: Text = Text {
     line: &[Part::Plain("config S"), Part::Number, Part::Plain("\n")],
     ..EMPTY
@@ -179,7 +179,7 @@ const SYMBOLS: Case = Case {
     ..PLAIN_CASE
 };
 
-// Symbols of which each takes the value of the next one; the last is y. The minimal file has no line.
+// Symbols each of which has the value of the next one; the last is y. The minimal file has no line.
 const CHAIN: Case = Case {
     name: "a chain of 20000 defaults is no loop",
     kconfig: Text {
@@ -342,7 +342,7 @@ fn a_tree_may_be_large(rt: HostRuntime) -> Result<(), Fail> {
     Ok(())
 }
 
-// This takes longer than the others, so it stands alone.
+// This takes longer than the others, so it is separate.
 const TOO_LONG_AND_CUT: &[Case] = &[Case {
     name: "a line that is too long may be cut",
     from: 1,

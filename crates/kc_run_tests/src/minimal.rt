@@ -1,5 +1,5 @@
-//! Runs on what a run wrote: the minimal file restores it and each of its lines is needed, and reports of lost values change
-//! no file.
+//! Runs on written files: the minimal file restores the `.config` and needs each of its lines, and reports of lost
+//! values change no file.
 use crate::trees::{TURNS, Turn};
 use crate::trial::{ALL, is_left, options_of};
 use crate::turns::{are_files, run_turn};
@@ -8,7 +8,7 @@ use kc_memory_device::{MemoryDevice, SMOOTH};
 use std::alloc::{AllocError, Global};
 use std::test::Fail;
 
-// Whether the run over the turn's tree on these lines leaves this `.config`, and all files of the turn where that is asked.
+// Whether the run over the tree with these lines writes this `.config`, and on request all files.
 fn leaves_on(
     alloc: Global,
     turn: &Turn,
@@ -49,7 +49,7 @@ fn without_line_into(text: &[u8], line: usize, left: &mut Vec<u8>) -> Result<(),
     Ok(())
 }
 
-// Whether the minimal file gives another `.config` without its line of this number.
+// Whether the minimal file without its line of this number gives a different `.config`.
 fn needs_line(alloc: Global, turn: &Turn, line: usize) -> Result<bool, Fail> {
     let mut left = Vec::new(alloc);
     without_line_into(turn.minimal, line, &mut left)?;

@@ -2,16 +2,16 @@
 use std::alloc::{AllocError, Global};
 use std::fmt::Write;
 
-/// A text: what comes first, lines that are numbered from 0, and what comes last.
+/// A text: its start, lines that are numbered from 0, and its end.
 #[derive(Clone, Copy)]
 pub(crate) struct Text {
-    /// What stands before the lines.
+    /// The text before the lines.
     pub before: &'static str,
-    /// How many lines there are.
+    /// The number of lines.
     pub count: u32,
-    /// What each line is made of.
+    /// The parts of each line.
     pub line: &'static [Part],
-    /// What stands after the lines.
+    /// The text after the lines.
     pub after: &'static str,
 }
 
@@ -26,7 +26,7 @@ pub(crate) enum Part {
     Next,
 }
 
-/// Nothing.
+/// The empty text.
 pub(crate) const EMPTY: Text = Text {
     before: "",
     count: 0,

@@ -1,4 +1,4 @@
-//! Trees with all that a run over them writes.
+//! Trees with all files that a run over them writes.
 
 /// A tree, its `.config`, and the texts of a run with header and minimal file.
 pub(crate) struct Turn {

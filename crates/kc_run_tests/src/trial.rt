@@ -6,10 +6,10 @@ use kc_words::{Request, request_of};
 use std::alloc::{AllocError, Global};
 use std::test::Fail;
 
-/// Arguments that ask for all files.
+/// Arguments that request all files.
 pub(crate) const ALL: &str = "--header out.h --savedefconfig min.config --depfile out.d Kconfig";
 
-/// The options that arguments ask for, which stand between blanks.
+/// The options of these arguments, which are separated by blanks.
 pub(crate) fn options_of(alloc: Global, arguments: &str) -> Result<Options, Fail> {
     let mut words = Vec::new(alloc);
     for word in arguments.split(' ') {
@@ -31,7 +31,7 @@ pub(crate) fn one_file(alloc: Global, kconfig: &[u8]) -> Result<FileMap, AllocEr
     Ok(files)
 }
 
-/// The run over these files and this device, which keeps no tree.
+/// Runs over these files and this device, without keeping a tree.
 pub(crate) fn run_over(
     alloc: Global,
     files: FileMap,
@@ -42,7 +42,7 @@ pub(crate) fn run_over(
     run(alloc, files, options, device, &mut kept)
 }
 
-/// Whether the file of this name was made.
+/// Whether the file of this name was created.
 pub(crate) fn is_made(device: &MemoryDevice<'_>, name: &str) -> bool {
     match device.records() {
         Some(records) => records.iter().any(|record| {
@@ -52,7 +52,7 @@ pub(crate) fn is_made(device: &MemoryDevice<'_>, name: &str) -> bool {
     }
 }
 
-/// Whether the file of this name was made and holds these bytes.
+/// Whether the file of this name was created and holds these bytes.
 pub(crate) fn is_left(device: &MemoryDevice<'_>, name: &str, bytes: &[u8]) -> bool {
     is_made(device, name) && device.holds(name, bytes)
 }

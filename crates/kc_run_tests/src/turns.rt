@@ -1,4 +1,5 @@
-//! Each call of a device fails in turn: each that opens, reads, makes, writes, closes or moves a file, or writes diagnostics.
+//! Each call of a device fails in turn: each call that opens, reads, creates, writes, closes or moves a file, or writes
+//! diagnostics.
 use crate::trees::{TURNS, Turn};
 use crate::trial::{ALL, is_left, one_file, options_of, run_over};
 use kc_conf::{Options, Status};
@@ -7,7 +8,7 @@ use kc_memory_device::{MemoryDevice, Plan, Record, SMOOTH};
 use std::alloc::{AllocError, Global};
 use std::test::Fail;
 
-/// The run over the turn's tree with these options.
+/// Runs over the tree with these options.
 pub(crate) fn run_turn(
     alloc: Global,
     turn: &Turn,
@@ -18,10 +19,10 @@ pub(crate) fn run_turn(
     Ok(run_over(alloc, tree, options, device))
 }
 
-// The dependency file of each turn: its tree is one file.
+// The dependency file for each tree, which is one file.
 const DEPFILE: &[u8] = b".config: \\\n ./Kconfig\n\n./Kconfig:\n";
 
-/// Whether the files were made and hold the texts of the turn.
+/// Whether the files were created and hold the texts of the tree.
 pub(crate) fn are_files(device: &MemoryDevice<'_>, turn: &Turn) -> bool {
     is_left(device, ".config", turn.config)
         && is_left(device, "out.h", turn.header)
@@ -29,7 +30,7 @@ pub(crate) fn are_files(device: &MemoryDevice<'_>, turn: &Turn) -> bool {
         && is_left(device, "out.d", DEPFILE)
 }
 
-/// Whether the files and the diagnostics hold the texts of the turn.
+/// Whether the files and the diagnostics hold the texts of the tree.
 pub(crate) fn are_texts(device: &MemoryDevice<'_>, turn: &Turn) -> bool {
     are_files(device, turn) && device.diagnostics() == turn.diagnostics
 }
@@ -41,7 +42,7 @@ fn is_same(record: &Record, other: &Record) -> bool {
         && record.fault == other.fault
 }
 
-// How the error line of a call that failed begins; the name of its file stands behind it where the flag says so.
+// The start of the error line of a call that failed, and whether the name of its file follows.
 fn line_of(action: Action, fault: Fault) -> (&'static [u8], bool) {
     match (action, fault) {
         (Action::Report, _) => (b"", false),
@@ -51,7 +52,7 @@ fn line_of(action: Action, fault: Fault) -> (&'static [u8], bool) {
     }
 }
 
-// What stands before the error line of this call; none where the diagnostics do not end with it.
+// The diagnostics before the error line of this call; None if they do not end with it.
 fn said_before<'d>(said: &'d [u8], failed: &Record, fault: Fault) -> Option<&'d [u8]> {
     match line_of(failed.action, fault) {
         (line, false) => said.strip_suffix(line),
@@ -62,7 +63,7 @@ fn said_before<'d>(said: &'d [u8], failed: &Record, fault: Fault) -> Option<&'d 
     }
 }
 
-// Whether all was said before this call.
+// Whether this call comes after all diagnostics.
 fn comes_last(action: Action) -> bool {
     matches!(
         action,
@@ -70,7 +71,7 @@ fn comes_last(action: Action) -> bool {
     )
 }
 
-// Whether this call is the next one of the whole run; diagnostics are no record there.
+// Whether this call is the next one of the complete run; diagnostics have no record there.
 fn is_next(failed: &Record, whole: &[Record]) -> bool {
     match whole.first() {
         Some(next) => failed.action == next.action && failed.name.as_str() == next.name.as_str(),
@@ -78,7 +79,7 @@ fn is_next(failed: &Record, whole: &[Record]) -> bool {
     }
 }
 
-// Whether nothing comes behind the call that failed, or what stands beside places is removed.
+// Whether nothing comes after the call that failed, or only the removal of temporary files.
 fn is_end(failed: &Record, behind: &[Record], replaces: bool) -> bool {
     match behind {
         [] => !(replaces && comes_last(failed.action)),
@@ -87,8 +88,8 @@ fn is_end(failed: &Record, behind: &[Record], replaces: bool) -> bool {
     }
 }
 
-// Whether the run was the whole one up to a call that failed for this cause, the error line is that of the call, and nothing was
-// done behind it.
+// Whether the run is the complete one up to a call that failed with this fault, the error line is that of the call, and
+// nothing was done afterwards.
 fn is_struck(
     whole: &MemoryDevice<'_>,
     struck: &MemoryDevice<'_>,
@@ -121,7 +122,7 @@ struct Way {
     arguments: &'static str,
     replaces: bool,
     status: Status,
-    // A number that there are more calls of in the runs over all turns.
+    // The runs over all trees make more calls than this number.
     least: u64,
 }
 
@@ -146,7 +147,7 @@ const WAYS: &[Way] = &[
     },
 ];
 
-// Small pieces, in which a call fails.
+// Small chunks, and a call that fails.
 fn plan_of(fail_at: u64, fault: Fault) -> Plan {
     Plan {
         first_read: 6,
@@ -158,7 +159,7 @@ fn plan_of(fail_at: u64, fault: Fault) -> Plan {
     }
 }
 
-// How many calls the run makes, where each leaves what it is to leave when it fails for this cause.
+// The number of calls of the run; None if it has wrong results when one of them fails with this fault.
 fn calls_fail(
     alloc: Global,
     turn: &Turn,
@@ -182,7 +183,7 @@ fn calls_fail(
     Ok(Some(whole.calls()))
 }
 
-// How many calls the runs over all turns make; none where one leaves something else than it is to leave.
+// The number of calls of the runs over all trees; None if one of them has wrong results.
 fn calls_of_all(alloc: Global, way: &Way, fault: Fault) -> Result<Option<u64>, Fail> {
     let options = options_of(alloc, way.arguments)?;
     let mut calls = 0_u64;

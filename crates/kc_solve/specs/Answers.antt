@@ -1,4 +1,4 @@
--- Trusted: What a solution answers of symbols, conditions, entries and choices.
+-- Trusted: What a solution returns for symbols, conditions, entries and choices.
 use Rattle.std.specs.Prelude.{◌≡◌, ℕ, Bool, List, Option, Some, None}
 use Rattle.std.specs.List.{flat_map}
 use Rattle.kc_language.specs.Expressions.{SymbolValue, truth_of_value}
@@ -24,11 +24,11 @@ tri_of s id = truth_of_value (known s id)
 abbrev pub text_of : Solution → SymId → List ℕ
 text_of s id = text_of_value (known s id)
 
--- the modules symbol, by which a lone m of a condition counts
+-- the modules symbol; a plain m in a condition depends on it
 abbrev pub modules_of : Solution → Option SymId
 modules_of s = s.tree.modules
 
--- the three before tell what is known
+-- the three definitions above give what is known
 abbrev pub TellsKnown : Solution → Type 0
 TellsKnown s = (id : SymId) → values_by (type_of s) (tri_of s) (text_of s) id ≡ known s id
 
@@ -36,19 +36,19 @@ abbrev pub visibility_by : TreeFacts → (SymId → SymbolValue) → Option Symb
 visibility_by tree known None = N
 visibility_by tree known (Some f) = values.visibility tree known f
 
--- the greatest condition of a symbol's prompts (kconfiglib's `visibility`); a name that is not defined has none
+-- the greatest condition of a symbol's prompts (kconfiglib's `visibility`); an undefined name has none
 abbrev pub visibility : Solution → SymId → Tri
 visibility s id = visibility_by s.tree (known s) (facts s.tree id)
 
--- the same in any type, m staying m
+-- the same for any type, but m stays m
 abbrev pub prompts_condition : Solution → SymId → Tri
 prompts_condition s id = conditions s.tree (known s) (flat_map (λ f. f.prompts) (listed (facts s.tree id)))
 
--- what a condition is worth
+-- the value of a condition
 abbrev pub truth : Solution → Condition → Tri
 truth s when = values.condition s.tree (known s) when
 
--- when an entry is shown: a menu or comment under its condition
+-- whether an entry is shown: the condition of a menu or comment
 abbrev pub shown : Solution → Option Shown → Tri
 shown s None = Y
 shown s (Some (SymbolShown id)) = Y
@@ -60,7 +60,7 @@ shown s (Some (CommentShown text when)) = truth s when
 abbrev pub written : Solution → SymId → Bool
 written s id = values.written s.tree (known s) id
 
--- the selection of a choice, and the one without the user's member
+-- the selection of a choice, with and without the user's member
 abbrev pub selection : Solution → ℕ → Option SymId
 selection s c = values.selection s.tree (place_at s.places) (value_of s) c
 

@@ -1,4 +1,4 @@
--- For proofs: The table as it is computed, node by node.
+-- For proofs: The table while it is computed, node by node.
 use Rattle.std.specs.Prelude.{◌≡◌, ◌≢◌, ◌<◌, ℕ, List, length, Option, Some, None, slice_index_or, take}
 use Rattle.std.specs.List.{Contains}
 use Rattle.kc_language.specs.Expressions.{symbol, SymbolValue}
@@ -37,7 +37,7 @@ pub record IsNodeOrder (tree : TreeFacts) (layout : Layout) (nodes : List ℕ) :
   pub rows : AreNodeRows tree layout graph
   pub orders : Orders graph.rows nodes
 
--- nothing that is computed reads the symbol with a number
+-- no computed context or selection reads the symbol of this number
 pub record IsUnreadIn (tree : TreeFacts) (layout : Layout) (context_values : List (Option Tri)) (choice_selections : List (Option (Option SymId))) (s : ℕ) : Type 0 where
   pub contexts : (i : ℕ) (x : Tri) → slice_index_or context_values i None ≡ Some x → Contains (condition_names tree (condition_in layout.tables.contexts i)) (symbol s) → ⊥
   pub selections : (c : ℕ) (x : Option SymId) → slice_index_or choice_selections c None ≡ Some x → Contains (names_of_choice tree (choice_at tree c)) (symbol s) → ⊥
@@ -45,20 +45,20 @@ pub record IsUnreadIn (tree : TreeFacts) (layout : Layout) (context_values : Lis
 abbrev pub IsUnread : Table → ℕ → Type 0
 IsUnread t s = IsUnreadIn t.tree.now t.layout.now t.contexts.items t.selections.items s
 
--- the tree and the layout stay
+-- the tree and the layout stay the same
 pub record KeepsTree (old new : Table) : Type 0 where
   pub tree : new.tree ≡ old.tree
   pub layout : new.layout ≡ old.layout
 
--- what a place says of a symbol of a type and a name
+-- the value in a place, for a symbol of this type and name
 abbrev pub place_value : SymbolType → List ℕ → Option Value → SymbolValue
 place_value symbol_type name x = value_by_type symbol_type (tri_in x) (text_in x name)
 
--- what the equation of a symbol gives under the values of a table, by its row
+-- what the equation of a symbol gives under the values of a table, read from its row
 abbrev pub equation_at : Table → SymId → Symbol → Option GivenValue → List (Option SymId) → SymbolValue
 equation_at t id row given chosen = by_choice t.tree.now (known_at t) id (facts_in t id row) (facts_in t id row).choice (given_for row.choice given chosen)
 
--- a symbol has the value that its equation gives, and no other place changes
+-- the symbol has the value of its equation, and no other place changes
 pub record AreComputedValues (tree : TreeFacts) (given : List (Option UserValue)) (chosen : List (Option SymId)) (id : SymId) (old new : List (Option Value)) : Type 0 where
   pub here : known_in tree new id ≡ rhs tree id.0 (places given chosen (user_place tree id.0)) (valuation tree old)
   pub others : (s : SymId) → s.0 ≢ id.0 → known_in tree new s ≡ known_in tree old s
@@ -70,7 +70,7 @@ pub record IsComputedSymbol (given : List (Option UserValue)) (chosen : List (Op
   pub contexts : new.contexts ≡ old.contexts
   pub selections : new.selections ≡ old.selections
 
--- only the place with a number changes
+-- only the place of this number changes
 pub record OnlyAt {A : Type 0} (i : ℕ) (old new : List (Option A)) : Type 0 where
   pub others : (j : ℕ) → j ≢ i → slice_index_or new j None ≡ slice_index_or old j None
   pub count : length new ≡ length old
@@ -82,7 +82,7 @@ pub record IsComputedContext (i : ℕ) (old new : Table) : Type 0 where
   pub contexts : OnlyAt i old.contexts.items new.contexts.items
   pub selections : new.selections ≡ old.selections
 
--- where the selection of a choice is computed, it is the selection under this member of the user's
+-- if the selection of a choice is computed, it is the selection for this user's member
 abbrev pub IsSelection : TreeFacts → List (Option Value) → List (Option (Option SymId)) → ℕ → Option SymId → Type 0
 IsSelection tree values selections c user =
     (x : Option SymId) → slice_index_or selections c None ≡ Some x → x ≡ selected tree (known_in tree values) (choice_at tree c) (member_place user)
@@ -95,7 +95,7 @@ pub record IsComputedSelection (chosen : List (Option SymId)) (c : ℕ) (old new
   pub here : IsSelection old.tree.now old.values new.selections.items c (slice_index_or chosen c None)
   pub selections : OnlyAt c old.selections.items new.selections.items
 
--- after the first k nodes: each symbol among them has its value, and what is computed is among them
+-- after the first k nodes: each symbol among them has its value, and only contexts and choices among them are computed
 pub record IsComputedTo (tree : TreeFacts) (layout : Layout) (given : List (Option UserValue)) (chosen : List (Option SymId)) (nodes : List ℕ) (k : ℕ)
     (values : List (Option Value)) (contexts : List (Option Tri)) (selections : List (Option (Option SymId))) : Type 0 where
   pub laid : IsLayoutOf tree layout

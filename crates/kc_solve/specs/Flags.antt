@@ -1,4 +1,4 @@
--- For proofs: The visibility of a symbol, whether it differs, by the selections of the choices, and whether it is written.
+-- For proofs: The visibility of a symbol, whether it differs given the selections of the choices, and whether it is written.
 use Rattle.std.specs.Prelude.{◌≡◌, ℕ, Bool, not, ◌&&◌, List, map, length, Option, Some, None, is_some, slice_index_or}
 use Rattle.std.specs.List.{range_with_len}
 use Rattle.kc_language.specs.Expressions.{symbol, SymbolValue}
@@ -20,7 +20,7 @@ differs_by tree known s f None selections defaults = not (same_value (known s) (
 differs_by tree known s f (Some c) selections defaults =
     is_symbol_of s (slice_index_or selections c None) && not (is_symbol_of s (slice_index_or defaults c None))
 
--- whether a symbol differs, by its row
+-- whether a symbol differs, read from its row
 abbrev pub row_differs : Table → SymId → Symbol → List (Option SymId) → List (Option SymId) → Bool
 row_differs t id row selections defaults = differs_by t.tree.now (known_at t) id (facts_in t id row) (facts_in t id row).choice selections defaults
 
@@ -29,11 +29,11 @@ abbrev pub IsSolvedOwn : TreeFacts → (SymId → SymbolValue) → SymId → Sym
 IsSolvedOwn tree known s f None given = known s ≡ by_type tree known s f f.symbol_type given
 IsSolvedOwn tree known s f (Some c) given = Unit {0}
 
--- the same, by its row
+-- the same, read from its row
 abbrev pub IsSolvedRow : Table → SymId → Symbol → Option GivenValue → Type 0
 IsSolvedRow t id row given = IsSolvedOwn t.tree.now (known_at t) id (facts_in t id row) (facts_in t id row).choice given
 
--- whether a member is new for which nothing was given, and whether a symbol is, by its row
+-- whether a member without a user value is new; whether a symbol is new, read from its row
 abbrev pub member_is_new : Table → Places → Symbol → ℕ → Bool
 member_is_new t user row c =
     is_visible t row && (not (is_chosen (selected t c (place_at user (ChoicePlace c))) (place_at user (ChoicePlace c))) && has_other t c)
@@ -43,11 +43,11 @@ row_is_new t user id row =
     not (is_some (place_at user (SymbolPlace id.0)))
     && is_new_by t.tree.now (known_at t) (place_at user) id (facts_in t id row) (facts_in t id row).choice
 
--- the visibility of the symbol of a number, under a valuation
+-- the visibility of the symbol of this number, under a valuation
 abbrev pub visibility_at : TreeFacts → (ℕ → SymbolValue) → ℕ → Tri
 visibility_at tree V i = visibility_by tree (known_from tree V) (facts tree (symbol i))
 
--- whether the symbol of a number has a line in the .config, under a valuation
+-- whether the symbol of this number has a line in the .config, under a valuation
 abbrev pub is_written : TreeFacts → (ℕ → SymbolValue) → ℕ → Bool
 is_written tree V i = written tree (known_from tree V) (symbol i)
 
@@ -55,14 +55,14 @@ is_written tree V i = written tree (known_from tree V) (symbol i)
 abbrev pub values_in : Table → ℕ → SymbolValue
 values_in t = valuation t.tree.now t.values
 
--- Of each choice what it selects, with the user's member and without it.
+-- the selection of each choice, with the user's member and without it
 abbrev pub selected_by : Table → Places → List (Option SymId)
 selected_by t user = map (selection t.tree.now (place_at user) (values_in t)) (range_with_len 0 (length t.tree.now.choices))
 
 abbrev pub selected_by_default : Table → List (Option SymId)
 selected_by_default t = map (default_selection t.tree.now (values_in t)) (range_with_len 0 (length t.tree.now.choices))
 
--- of each symbol its visibility, whether it differs, and whether it has a line
+-- the visibility of each symbol, whether it differs, and whether it has a line
 abbrev pub visibilities_in : Table → List Tri
 visibilities_in t = map (visibility_at t.tree.now (values_in t)) (range_with_len 0 (name_count t.tree.now))
 

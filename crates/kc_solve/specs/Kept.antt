@@ -1,4 +1,4 @@
--- Trusted: What is kept of a solution: the table of its values, and what was found from them.
+-- Trusted: The parts of a solution that are stored: the table of its values, and what was computed from them.
 use Rattle.std.specs.Prelude.{◌≡◌, ℕ, Bool, List, map, length, Option}
 use Rattle.std.specs.List.{range_with_len}
 use Rattle.kc_language.specs.Symbols.{Warning, TreeFacts}
@@ -15,7 +15,7 @@ use Rattle.kc_values.specs.declared.table.Value.{Value}
 use Rattle.kc_solve.specs.Answers.{visibility_by}
 use Rattle.kc_language.specs.Texts.{Solution}
 
--- the valuation that a table holds, by number
+-- the valuation in a table, by symbol number
 abbrev pub valuation : TreeFacts → List (Option Value) → ℕ → SymbolValue
 valuation tree values i = known_in tree values (symbol i)
 
@@ -27,8 +27,8 @@ solution_in tree places table = record {
   values = map (valuation tree table) (range_with_len 0 (name_count tree));
 }
 
--- What is kept of a solution: the full table, the selections, the default selections, the visibilities, which symbols
--- differ, which are written, the warnings.
+-- The stored parts of a solution: the full table, the selections, the default selections, the visibilities, which symbols differ, which are written,
+-- the warnings.
 pub record IsSolved (tree : TreeFacts) (places : Places) (table : List (Option Value)) (selections defaults : List (Option SymId))
     (visibilities : List Tri) (differing written : List Bool) (warnings : List Warning) : Type 0 where
   pub accepted : IsAccepted tree

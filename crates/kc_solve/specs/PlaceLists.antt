@@ -1,4 +1,4 @@
--- For proofs: A user's places as lists.
+-- For proofs: A user's values as lists.
 use Rattle.std.specs.Prelude.{List, Option, Some, None, slice_index_or}
 use Rattle.kc_language.specs.declared.expressions.SymId.{SymId}
 use Rattle.kc_language.specs.Values.{GivenValue, UserPlace, SymbolPlace, ChoicePlace}
@@ -10,7 +10,7 @@ abbrev pub given_at : Option UserValue → Option GivenValue
 given_at None = None
 given_at (Some u) = Some (given_of_value u)
 
--- what was given for each symbol, and the member chosen for each choice
+-- the user value of each symbol, and the member chosen for each choice
 abbrev pub places : List (Option UserValue) → List (Option SymId) → UserPlace → Option GivenValue
 places given chosen (SymbolPlace i) = given_at (slice_index_or given i None)
 places given chosen (ChoicePlace c) = member_given chosen c

@@ -6,6 +6,6 @@ use Rattle.kc_read.specs.RefusalView.{refusal_view}
 use Rattle.kc_read.specs.declared.refusal.Refusal.{Refusal}
 use Rattle.kc_language.specs.declared.diagnostics.Cause.TheVariants as cause
 
--- where it is not out of memory, the refusal names the loop
+-- if memory is not the cause, the refusal names the loop
 abbrev pub NamesLoop : TreeFacts → Refusal → Type 0
 NamesLoop tree r = r.cause ≢ cause.Memory → (text : List ℕ) × IsLoopText tree text × (refusal_view r ≡ loop_refused text)

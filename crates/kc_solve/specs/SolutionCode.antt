@@ -1,4 +1,4 @@
--- For proofs: How the logic stores a solution, by which a model may have it as its value.
+-- For proofs: How the logic stores a solution, so that a model can have it as its value.
 use Rattle.std.specs.Prelude.{List, refl}
 use Rattle.std.specs.Coded.{Coded, code_by, coded×, coded_list}
 use Rattle.kc_expr.specs.SymbolValueCode.{symbol_value_code}

@@ -1,4 +1,4 @@
-//! The table of values, computed once along an order.
+//! The table of values, computed once in an order of the nodes.
 
 ghost use Rattle.std.specs.Prelude.{◌≡◌, ◌<◌, length, slice_get, Some, IfOk, OnOk};
 ghost use Rattle.kc_language.specs.Values.{Solves, name_count, equations};
@@ -33,8 +33,8 @@ pub(crate) fn symbol_row(layout: &Layout, id: SymId) -> &Symbol
     }
 }
 
-// The value to keep for a symbol: what its equation gives. A symbol without a type is worth its name. An empty place says the
-// same, so no value is kept for it.
+// The value to store for a symbol: what its equation gives. A symbol without a type has its name as its value. An empty
+// place means the same, so nothing is stored for it.
 fn kept_value(
     alloc: Global,
     table: &Table<'_>,
@@ -76,7 +76,7 @@ fn compute_symbol(
     Ok(())
 }
 
-// Computes what the next context is worth.
+// Computes the value of the next context.
 fn compute_context(table: &mut Table<'_>, id: ContextId)
     requires { id.0 < length table.old.contexts.items }
     ensures { IsComputedContext id.0 table.old table.new }
@@ -85,7 +85,7 @@ fn compute_context(table: &mut Table<'_>, id: ContextId)
     table.contexts[id.0 as usize] = Some(value);
 }
 
-// Computes what the next choice selects.
+// Computes the selection of the next choice.
 fn compute_selection(table: &mut Table<'_>, id: ChoiceId, chosen: &[Option<SymId>])
     requires there { id.0 < length table.old.selections.items }
     requires chosen { id.0 < length chosen.now }
@@ -96,8 +96,8 @@ fn compute_selection(table: &mut Table<'_>, id: ChoiceId, chosen: &[Option<SymId
     table.selections[place] = Some(selection);
 }
 
-/// The values of a tree's symbols, computed along an order of them and of the contexts and choices between them, each once:
-/// the table that solves the equations under what was given for each symbol and the member that was chosen for each choice.
+/// Computes the values of a tree's symbols in an order of them and of their contexts and choices, each once. The
+/// resulting table solves the equations for the user values and the member chosen for each choice.
 pub(crate) fn compute<'t>(
     alloc: Global,
     laid: &LaidTree<'t>,

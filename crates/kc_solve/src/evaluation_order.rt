@@ -1,4 +1,4 @@
-//! An order of a tree's symbols, or the dependency loop that is named.
+//! An order of a tree's symbols, or the reported dependency loop.
 
 ghost use Rattle.std.specs.Prelude.{◌≡◌, ◌≢◌, ◌<◌, ◌++◌, length, map, All, IfOk, IfErr, OnOk};
 ghost use Rattle.kc_language.specs.Needs.{needs_in, arrows, loop_text, needs, IsAccepted};
@@ -24,9 +24,9 @@ use kc_values::table::name;
 use std::alloc::{AllocError, Global};
 use std::marker::Model;
 
-/// All symbols of a tree in an order in which what each needs stands before it, with the contexts and choices between them. What
-/// it shows is the graph of needs that it was made for (our own; the kernel's kconfig-language document asks of a tree that
-/// its dependencies don't recur).
+/// All symbols of a tree, in an order in which each comes after all that it needs, with the contexts and choices
+/// between them. Its visible content is the graph of needs that it orders (our own; the kernel's kconfig-language
+/// document forbids recursive dependencies).
 #[derive(Drop)]
 pub struct EvaluationOrder {
     inner: kc_order::Order,
@@ -41,15 +41,15 @@ impl Model for EvaluationOrder {
 }
 
 impl EvaluationOrder {
-    /// An order of the tree's symbols.
+    /// Computes an order of the tree's symbols.
     ///
     /// # Errors
     ///
-    /// `Loop` exactly where some symbol has no place in any order (is unordered): a walk along what is needed goes on for
-    /// ever. It has no location, and its cause has the loop that is named: the names of its symbols and its first again,
-    /// joined by ` -> `, where the walk goes from the first unordered symbol always on to the first unordered symbol that
-    /// is needed. The first of several symbols is the one that is defined first (our own rule). `Memory` where no memory was
-    /// to be had.
+    /// `Loop` if and only if some symbol is in a dependency loop or needs one (is unordered): a walk along its needs
+    /// never ends. The refusal has no location. Its cause is the reported loop: the names of the loop's symbols and the
+    /// first one again, joined by ` -> `. The walk starts at the first unordered symbol, and always goes on to the
+    /// first unordered symbol that is needed. The first of several symbols is the one that is defined first (our own
+    /// rule). `Memory` if there is not enough memory.
     pub fn of(alloc: Global, laid: &LaidTree<'_>) -> Result<EvaluationOrder, Refusal>
         ensures same { IfOk result (IsGraphOf laid.now) }
         ensures accepted { OnOk result (IsAccepted laid.now.tree.now) }
@@ -64,7 +64,8 @@ impl EvaluationOrder {
         }
     }
 
-    /// The nodes of the graph of needs in order, by number: the symbols, and the contexts and choices between them.
+    /// The numbers of the nodes of the graph of needs, in order: the symbols, and the contexts and choices between
+    /// them.
     pub fn nodes(&self) -> &[u32]
         ensures { Orders self.now.rows result.now }
     {
@@ -85,9 +86,9 @@ fn loop_refusal(text: Vec<u8>) -> Refusal
 // Why a tree has no order.
 #[derive(Debug, Drop)]
 enum LoopFault {
-    // Some symbol is unordered: the names of the loop that is named and its first again, joined by ` -> `.
+    // Some symbol is unordered. Holds the names of the reported loop and its first one again, joined by ` -> `.
     Loop(Vec<u8>),
-    // No memory was to be had.
+    // There was not enough memory.
     Memory,
 }
 
@@ -102,7 +103,7 @@ impl From<AllocError> for LoopFault {
     }
 }
 
-// ` -> NAME` for each symbol, behind what stands in the text.
+// Appends ` -> NAME` to the text for each symbol.
 fn arrows_into(tree: &Tree, symbols: &[u32], text: &mut Vec<u8>) -> Result<(), AllocError>
     ensures { OnOk result (text.new.items ≡ text.old.items ++ arrows tree.now symbols.now) }
 {
@@ -113,7 +114,7 @@ fn arrows_into(tree: &Tree, symbols: &[u32], text: &mut Vec<u8>) -> Result<(), A
     Ok(())
 }
 
-// The names of a loop and its first again.
+// The names of a loop and its first one again.
 fn loop_text(alloc: Global, tree: &Tree, symbols: &[u32]) -> Result<Vec<u8>, AllocError>
     ensures { IfOk result (λ v. v.items ≡ loop_text tree.now symbols.now) }
 {
@@ -140,8 +141,8 @@ fn first_numbers(alloc: Global, layout: &Layout) -> Result<Vec<u32>, AllocError>
     Ok(numbers)
 }
 
-// An order of the symbols of a tree in which what each needs stands before it. Fails where some symbol is unordered, with
-// the text of the loop that is named, and for being out of memory.
+// An order of the symbols of a tree in which each symbol comes after all that it needs. Fails if some symbol is
+// unordered, with the text of the reported loop, or if there is not enough memory.
 fn tree_order(alloc: Global, laid: &LaidTree<'_>) -> Result<kc_order::Order, LoopFault>
     ensures same { IfOk result (IsGraphOf laid.now) }
     ensures accepted { OnOk result (IsAccepted laid.now.tree.now) }

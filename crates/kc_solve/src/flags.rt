@@ -1,4 +1,4 @@
-//! What each choice selects, and what is said of each symbol, under the values of a full table.
+//! The selections of choices and the flags of symbols, under the values of a full table.
 
 ghost use Rattle.std.specs.Prelude.{◌≡◌, ◌<◌, false, length, map, slice_index_or, None, Some, true, IfOk, IfSome};
 ghost use Rattle.kc_language.specs.declared.expressions.Tri.TheVariants.{N};
@@ -29,14 +29,14 @@ use kc_values::warnings::warnings_into;
 use kc_values::written::written as is_written;
 use std::alloc::{AllocError, Global};
 
-/// How many choices a tree has.
+/// The number of choices in a tree.
 pub(crate) fn choice_count(tree: &Tree) -> usize
     ensures { result ≡ length tree.now.choices }
 {
     tree.choices().len()
 }
 
-// The selection of a choice without the user's member, by the one with it, which is the same where none was given.
+// The selection of a choice without the user's member. It is the given selection if the user chose no member.
 fn default_of(
     table: &Table,
     choice: ChoiceId,
@@ -52,17 +52,17 @@ fn default_of(
     }
 }
 
-/// What each choice selects, by number.
+/// The selection of each choice, by number.
 #[derive(Drop)]
 pub(crate) struct ChoiceSelections {
     /// The selection.
     pub selected: Vec<Option<SymId>>,
-    /// The default selection: that without the user's member.
+    /// The default selection: the one without the user's member.
     pub default: Vec<Option<SymId>>,
 }
 
-/// What each choice selects under the values of a full table and a user's places of that tree. What the table has computed is
-/// not found again.
+/// Returns the selection of each choice under the values of a full table and the user values of that tree. Uses what
+/// the table has computed.
 pub(crate) fn selections(
     alloc: Global,
     table: &Table,
@@ -87,7 +87,7 @@ pub(crate) fn selections(
     Ok(ChoiceSelections { selected, default })
 }
 
-/// The selection at the place of a choice.
+/// The selection of a choice in the list.
 pub(crate) fn at_choice(selections: &[Option<SymId>], choice: ChoiceId) -> Option<SymId>
     requires { choice.0 < length selections.now }
     ensures { result ≡ slice_index_or selections.now choice.0 None }
@@ -95,14 +95,14 @@ pub(crate) fn at_choice(selections: &[Option<SymId>], choice: ChoiceId) -> Optio
     selections[choice.0 as usize]
 }
 
-/// The flag at the place of a symbol, or false where there is none.
+/// The flag of a symbol in the list, or false if it has none.
 pub(crate) fn at_symbol(flags: &[bool], id: SymId) -> bool
     ensures { result ≡ slice_index_or flags.now id.0 false }
 {
     id.0 < flags.len() && flags[id.0]
 }
 
-/// The visibility at the place of a symbol, or n where there is none.
+/// The visibility of a symbol in the list, or n if it has none.
 pub(crate) fn visibility_at(visibilities: &[Tri], id: SymId) -> Tri
     ensures { result ≡ slice_index_or visibilities.now id.0 N }
 {
@@ -112,8 +112,7 @@ pub(crate) fn visibility_at(visibilities: &[Tri], id: SymId) -> Tri
     }
 }
 
-// Whether a symbol differs. One for which nothing counts that was given does not: its value is what its equation gives
-// without it.
+// Whether a symbol differs. A symbol whose user value has no effect does not: its equation gives its value without it.
 fn symbol_differs(
     alloc: Global,
     table: &Table,
@@ -147,8 +146,8 @@ fn symbol_differs(
     }
 }
 
-// Whether the choice of this visible member has a visible member beside its default selection, which the caller owes. Any other
-// member is one itself, so the members are looked through for the default selection alone: once for each choice.
+// Whether the choice of this visible member has a visible member other than the given default selection. Any other
+// member is one itself. So the members are searched only for the default selection: once for each choice.
 fn has_other_by(
     table: &Table,
     id: SymId,
@@ -168,7 +167,7 @@ fn has_other_by(
     }
 }
 
-// Whether the selection of a choice is the member that the user gave.
+// Whether a choice selects the member that the user chose.
 fn is_chosen(given: Option<SymId>, selected: Option<SymId>) -> bool
     ensures { result ≡ is_chosen selected (member_place given) }
 {
@@ -178,7 +177,7 @@ fn is_chosen(given: Option<SymId>, selected: Option<SymId>) -> bool
     }
 }
 
-// Whether a member is new for which nothing was given. The caller owes the selection of its choice and the default selection.
+// Whether a member without a user value is new. The caller passes its choice's selection and default selection.
 fn member_is_new(
     table: &Table,
     user: &User,
@@ -200,8 +199,8 @@ fn member_is_new(
         && has_other_by(table, id, symbol, choice, default)
 }
 
-/// Whether a symbol is new under the values of a full table and a user's places of that tree: no line answered its question. The
-/// caller owes the selections and the default selections.
+/// Whether a symbol is new under the values of a full table and the user values of that tree: no line answered its
+/// question. The caller passes the selections and the default selections.
 pub(crate) fn symbol_is_new(
     table: &Table,
     user: &User,
@@ -236,20 +235,20 @@ pub(crate) fn symbol_is_new(
     }
 }
 
-/// What the values of a full table say of each symbol, by number.
+/// The flags of each symbol under the values of a full table, by number.
 #[derive(Drop)]
 pub(crate) struct Flags {
     /// Its visibility.
     pub visibilities: Vec<Tri>,
-    /// Whether it differs: its value is not what its equation gives without what was given for it; a member: it is selected
-    /// and is not the default selection.
+    /// Whether it differs: its value is not what its equation gives without its user value. A member differs if it is
+    /// selected and is not the default selection.
     pub differing: Vec<bool>,
     /// Whether it has a line in the `.config`.
     pub written: Vec<bool>,
 }
 
-/// What the values of a full table that solves say of the symbols under a user's places of that tree, with the selections
-/// under them. The visibility of each symbol is found once, and serves all that asks for it.
+/// Returns the flags of the symbols under the values of a full table that solves, the user values of that tree, and the
+/// selections. Computes the visibility of each symbol once, for all flags.
 pub(crate) fn flags_of(
     alloc: Global,
     table: &Table,
@@ -289,8 +288,8 @@ pub(crate) fn flags_of(
     })
 }
 
-/// The warnings of the defined symbols under the values of a full table and a user's places of that tree, in the order of the
-/// symbols' first definitions. The caller owes the visibilities.
+/// Returns the warnings of the defined symbols under the values of a full table and the user values of that tree, in
+/// the order of first definitions. The caller passes the visibilities.
 pub(crate) fn warnings_of(
     alloc: Global,
     table: &Table,

@@ -1,8 +1,8 @@
 #![tactic(auto)]
-//! The solver: an order of the symbols of a tree, and the one solution of its equations under the user values.
+//! The solver: an order of the symbols of a tree, and the one solution of its equations for the user values.
 //!
 //! - [`EvaluationOrder`]: an order in which each value comes after those that it needs, or the dependency loop.
-//! - [`solve`]: the values, computed once along that order.
+//! - [`solve`]: the values, each computed once in that order.
 //! - [`Solved`]: the solution, and what follows from it: which symbols are written, which differ, and the warnings.
 
 mod compute;

@@ -21,7 +21,7 @@ use kc_values::laws::accepted_have_one_solution;
 use kc_values::table::Table;
 use std::alloc::{AllocError, Global};
 
-// The values of the symbols of a tree under a user's places, computed along the order, each once.
+// Computes the values of the symbols of a tree for the user values, in order, each once.
 fn full_table<'t>(
     alloc: Global,
     laid: &LaidTree<'t>,
@@ -47,9 +47,9 @@ fn full_table<'t>(
     Ok(table)
 }
 
-/// Solves a tree under a user's places: the one solution of the equations of its symbols, one for each (the kernel's
-/// kconfig-language document; where that is vague, kconfiglib's documented rules). Each value is computed once, along
-/// the order. The caller owes an order that was made for that tree, and places of it. Fails only when it is out of memory.
+/// Solves a tree for the user values: returns the one solution of the equations of its symbols (the kernel's
+/// kconfig-language document; where that is vague, kconfiglib's documented rules). Computes each value once, in the
+/// given order. The caller must pass an order and user values of that tree. Fails only if there is not enough memory.
 pub fn solve<'a>(
     alloc: Global,
     laid: &LaidTree<'a>,

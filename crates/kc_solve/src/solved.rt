@@ -1,4 +1,4 @@
-//! The solution of a tree's equations under a user's places, and what follows from it.
+//! The solution of a tree's equations for the user values, and what follows from it.
 
 ghost use Rattle.std.specs.Prelude.{◌≡◌, ◌<◌, length, map, option_and_then, slice_get, IfSome};
 ghost use Rattle.kc_expr.specs.PartsOfExpressions.{text_of_value};
@@ -31,8 +31,8 @@ use kc_values::numbers::{Interval, active_range};
 use kc_values::table::Table;
 use std::marker::Model;
 
-/// The one solution of a tree's equations under a user's places, as [`crate::solve::solve`] finds it, with the flags and
-/// warnings that follow from it. No call takes memory.
+/// The one solution of a tree's equations for the user values, as returned by [`crate::solve::solve`], with the flags
+/// and warnings that follow from it. Its methods do not allocate.
 #[derive(Drop)]
 pub struct Solved<'a> {
     pub(crate) table: Table<'a>,
@@ -63,42 +63,43 @@ impl<'a> Model for Solved<'a> {
 }
 
 impl<'a> Solved<'a> {
-    /// The tree that it is a solution for.
+    /// The tree that this is a solution of.
     pub fn tree(&self) -> &'a Tree
         ensures { result.now ≡ self.now.tree }
     {
         self.table.tree
     }
 
-    /// The user's places that it was solved from.
+    /// The user values that this is the solution for.
     pub fn user(&self) -> &'a User
         ensures { result.now ≡ self.now.places }
     {
         self.user
     }
 
-    /// What every solution is: its values solve the equations of its tree under its places, and no others do.
+    /// Law of every solution: its values solve the equations of its tree for its user values, and no other values do.
     pub fn is_solution(&self)
         ensures { IsSolution self.now }
     {
         let _ = &self.table;
     }
 
-    /// The tree is accepted: no symbol needs itself, through others or not.
+    /// The tree is accepted: no symbol needs itself, directly or through others.
     pub fn is_accepted(&self)
         ensures { IsAccepted self.now.tree }
     {
         let _ = &self.table;
     }
 
-    /// What it answers as [`Values`] is what its valuation says of each symbol.
+    /// Its methods of [`Values`] return what its valuation gives for each symbol.
     pub fn tells_known(&self)
         ensures { TellsKnown self.now }
     {
         let _ = &self.table;
     }
 
-    /// The lines of the symbols that differ give the values again, and no nonempty set of them can go (our own).
+    /// The lines of the symbols that differ restore the values, and no nonempty set of these lines can be left out (our
+    /// own).
     pub fn is_minimal(&self)
         ensures { IsMinimal self.now }
     {
@@ -106,9 +107,9 @@ impl<'a> Solved<'a> {
         let _count = self.table.tree.name_count();
     }
 
-    /// With the written values that are allowed as the user's, the values solve again exactly where no symbol outside a
-    /// choice has the type tristate, is visible, and is greater than both its visibility and what it is selected to (our
-    /// own).
+    /// The allowed written values, as user values, restore the solution if and only if no symbol changes on rereading.
+    /// A symbol changes if it is outside a choice, has the type tristate, is visible, and its value is greater than
+    /// both its visibility and what it is selected to (our own).
     pub fn is_idempotent_where(&self)
         ensures { IdempotentWhere self.now }
     {
@@ -116,8 +117,9 @@ impl<'a> Solved<'a> {
         let _count = self.table.tree.name_count();
     }
 
-    /// When the entry of this number is shown, a menu or comment: the least of what the enclosing blocks and its own lines ask
-    /// for, and of the mode of the enclosing choice (the kernel's kconfig-language document). Another entry is y.
+    /// Returns the condition under which the menu or comment of this number is shown: the least of the conditions of
+    /// the enclosing blocks, its own lines, and the mode of the enclosing choice (the kernel's kconfig-language
+    /// document). Other entries are y.
     pub fn shown(&self, index: usize) -> Tri
         ensures { result ≡ spec.shown self.now (slice_get self.now.tree.entries index) }
     {
@@ -130,7 +132,7 @@ impl<'a> Solved<'a> {
         }
     }
 
-    /// The visibility of a symbol: the greatest condition of its prompts, m being y where the symbol can't be m
+    /// The visibility of a symbol: the greatest condition of its prompts, with y for m if the symbol can't be m
     /// (kconfiglib's `visibility`).
     pub fn visibility(&self, id: SymId) -> Tri
         ensures { result ≡ spec.visibility self.now id }
@@ -138,24 +140,25 @@ impl<'a> Solved<'a> {
         visibility_at(&self.visibilities, id)
     }
 
-    /// The greatest condition of the symbol's prompts as they are written, m where m is the greatest even if the symbol can't be m; n
-    /// where the tree has no such symbol (our own). It is found when it is asked for.
+    /// The greatest condition of the symbol's prompts as written: m stays m even if the symbol can't be m; n if the
+    /// tree has no such symbol (our own). It is computed on each call.
     pub fn prompts_condition(&self, id: SymId) -> Tri
         ensures { result ≡ spec.prompts_condition self.now id }
     {
         prompts_condition_at(&self.table, id)
     }
 
-    /// Whether the symbol has a line in the `.config`: it is visible; or, outside a choice, a bool or tristate whose
-    /// default, what it is selected to, or what it is implied to within its dependency is not n, or a string, int or hex one of whose
-    /// defaults counts. A symbol without a type has none (kconfiglib's `config_string`).
+    /// Whether the symbol has a line in the `.config`. It has one if it is visible. Outside a choice, a bool or
+    /// tristate has one if its default, what it is selected to, or what it is implied to within its dependency is not
+    /// n. A string, int or hex has one if one of its defaults applies. A symbol without a type has none (kconfiglib's
+    /// `config_string`).
     pub fn written(&self, id: SymId) -> bool
         ensures { result ≡ spec.written self.now id }
     {
         at_symbol(&self.written, id)
     }
 
-    /// The selected member of a choice: where its mode is not n the user's member if it is visible, else the default
+    /// The selected member of a choice, if its mode is not n: the user's member if it is visible, otherwise the default
     /// selection (kconfiglib's `selection`).
     pub fn selection(&self, choice: ChoiceId) -> Option<SymId>
         requires { choice.0 < length self.now.tree.choices }
@@ -164,8 +167,8 @@ impl<'a> Solved<'a> {
         at_choice(&self.selections, choice)
     }
 
-    /// The selection of a choice without the user's member: the first default whose condition is not n and that names a
-    /// visible member, else the first visible member (the kernel's kconfig-language document on choices).
+    /// The selection of a choice without the user's member: that of the first default whose condition is not n and
+    /// whose member is visible, otherwise the first visible member (the kernel's kconfig-language document on choices).
     pub fn default_selection(&self, choice: ChoiceId) -> Option<SymId>
         requires { choice.0 < length self.now.tree.choices }
         ensures { result ≡ spec.default_selection self.now choice.0 }
@@ -173,9 +176,9 @@ impl<'a> Solved<'a> {
         at_choice(&self.default_selections, choice)
     }
 
-    /// Whether the symbol has a line in the minimal file: its value is not what its equation gives without what the user
-    /// gave for it, under the same values of all others; a member: it is selected and is not the default selection (our
-    /// own).
+    /// Whether the symbol has a line in the minimal file: its value is not what its equation gives without its user
+    /// value, if all other values stay the same. A member has one if it is selected and is not the default selection
+    /// (our own).
     pub fn differs(&self, id: SymId) -> bool
         requires { id.0 < name_count self.now.tree }
         ensures { result ≡ spec.differs self.now id }
@@ -183,10 +186,10 @@ impl<'a> Solved<'a> {
         at_symbol(&self.differing, id)
     }
 
-    /// Whether the symbol is new: no line answered its question. None gave it a value, and an answer would change its value; a
-    /// member: none gave it a value, none chose the selection of its choice, it is visible, and a member could be selected in place
-    /// of the selection (our own). It is found when it is asked for. The members of a choice are looked through for its default selection
-    /// alone, so asking for each symbol once takes time linear in the tree.
+    /// Whether the symbol is new: no line answered its question (our own). No line gave it a value, and an answer would
+    /// change its value. A member is new if no line gave it a value or chose the selection of its choice, it is
+    /// visible, and another member could be selected. It is computed on each call. The members of a choice are searched
+    /// only for its default selection, so asking for each symbol once takes time linear in the tree.
     pub fn is_new(&self, id: SymId) -> bool
         requires { id.0 < name_count self.now.tree }
         ensures { result ≡ spec.is_new self.now id }
@@ -202,8 +205,8 @@ impl<'a> Solved<'a> {
         )
     }
 
-    /// Where the value of the symbol comes from (our own): a `select` that raises it, the user, an `imply`, a default, or none; of
-    /// a member, how its choice selects. It is found when it is asked for.
+    /// Where the value of the symbol comes from (our own): a `select` that raises it, the user, an `imply`, a default,
+    /// or none; for a member, how its choice selects. It is computed on each call.
     pub fn source(&self, id: SymId) -> Source
         requires { id.0 < name_count self.now.tree }
         ensures { result ≡ source self.now id }
@@ -212,8 +215,8 @@ impl<'a> Solved<'a> {
         symbol_source(&self.table, self.user, id, symbol, &self.selections)
     }
 
-    /// The active range of the symbol: the first whose condition is not n (the kernel's kconfig-language document, "Menu
-    /// attributes": numerical ranges). It is found when it is asked for.
+    /// The active range of the symbol: the first range whose condition is not n (the kernel's kconfig-language
+    /// document, "Menu attributes": numerical ranges). It is computed on each call.
     pub fn active_range(&self, id: SymId) -> Option<Interval>
         requires { id.0 < name_count self.now.tree }
         ensures range { result ≡ option_and_then (active_range self.now.tree (known self.now)) (facts self.now.tree id) }
@@ -223,16 +226,16 @@ impl<'a> Solved<'a> {
         active_range(&self.table, symbol)
     }
 
-    /// The mode of the choice of this number: y where its prompt's condition is not n, else n; n where there is no such choice
-    /// (kconfiglib's `tri_value` of a choice).
+    /// The mode of the choice of this number: y if the condition of its prompt is not n, otherwise n; n if there is no
+    /// such choice (kconfiglib's `tri_value` of a choice).
     pub fn mode(&self, choice: usize) -> Tri
         ensures { result ≡ mode_of self.now.tree (known self.now) (choice_at self.now.tree choice) }
     {
         mode_at(&self.table, choice)
     }
 
-    /// The warnings of the values, in the order of the symbols' first definitions: selected above its dependency (K11), a
-    /// visible user value outside the active range (K12), a default that was clamped (K13) (our own).
+    /// The warnings about values, in the order of first definitions: a symbol is selected above its dependency (K11), a
+    /// visible user value is outside the active range (K12), a default was clamped (K13) (our own).
     pub fn value_warnings(&self) -> &[Warning<Vec<u8>>]
         ensures { map owned_warning result.now ≡ value_warnings self.now }
     {
@@ -251,7 +254,7 @@ fn title_at(layout: &Layout, index: usize) -> Option<&Title>
     }
 }
 
-// The text of what is known of a symbol: `n`, `m` or `y` of a bool or tristate.
+// The text of a symbol's value: `n`, `m` or `y` for a bool or tristate.
 fn known_text<'t>(table: &'t Table, id: SymId) -> &'t [u8]
     ensures { result.now ≡ text_of_value (known_at table.now id) }
 {

@@ -1,4 +1,4 @@
-//! Where values come from, the conditions of prompts, and the modes of choices, under the values of a full table.
+//! Sources of values, conditions of prompts, and modes of choices, under the values of a full table.
 
 ghost use Rattle.std.specs.Prelude.{◌≡◌, ◌<◌, length};
 ghost use Rattle.std.specs.List.{flat_map};
@@ -20,8 +20,8 @@ use kc_values::sources::{member_source, own_source};
 use kc_values::table::Table;
 use kc_values::truths::prompts_condition;
 
-/// Where the value of a symbol comes from under the values of a full table and a user's places of that tree. The caller owes the
-/// selections.
+/// Where the value of a symbol comes from under the values of a full table and the user values of that tree. The caller
+/// passes the selections.
 pub(crate) fn symbol_source(
     table: &Table,
     user: &User,
@@ -46,7 +46,7 @@ pub(crate) fn symbol_source(
     }
 }
 
-/// The mode of the choice of this number, n where there is none.
+/// The mode of the choice of this number; n if there is none.
 pub(crate) fn mode_at(table: &Table, choice: usize) -> Tri
     ensures { result ≡ at.mode_of table.now choice }
 {
@@ -58,7 +58,7 @@ pub(crate) fn mode_at(table: &Table, choice: usize) -> Tri
     }
 }
 
-/// The greatest condition of the prompts of the symbol of this number, n where there is none.
+/// The greatest condition of the prompts of the symbol of this number; n if there is none.
 pub(crate) fn prompts_condition_at(table: &Table, id: SymId) -> Tri
     ensures { result ≡ at.conditions table.now (flat_map (λ f. f.prompts) (listed (facts table.now.tree.now id))) }
 {

@@ -1,4 +1,4 @@
--- Trusted: What the equations say under the values of a table, of its rows.
+-- Trusted: What the equations give under the values of a table, read from the table's rows.
 use Rattle.std.specs.Prelude.{ℕ, Bool, List, Option, Some, false, not, ◌&&◌}
 use Rattle.std.specs.Option.{option_map_or}
 use Rattle.kc_language.specs.Symbols.{Warning, ChoiceFacts, Condition, Guarded, SymbolFacts}
@@ -26,7 +26,7 @@ use Rattle.kc_values.specs.PartsOfValues.{text_equation as lookup_text_equation}
 use Rattle.kc_values.specs.PartsOfValues.{unselected as lookup_unselected}
 
 module _ (t : Table) where
-  -- what the rows of a definition and of a choice say, and what a symbol's own lines say
+  -- the facts in the rows of a definition and of a choice, and in a symbol's own lines
   abbrev pub definition_in : Definition → DefinitionFacts
   definition_in d = definition_facts t.layout.now.tables d
 
@@ -68,7 +68,7 @@ module _ (t : Table) where
   abbrev pub upgraded : SymbolType → Tri → Tri
   upgraded symbol_type x = lookup.upgraded t.tree.now (known_at t) symbol_type x
 
-  -- what a symbol's own lines make
+  -- what a symbol's own lines give
   abbrev pub visibility : Symbol → Tri
   visibility s = lookup.visibility t.tree.now (known_at t) (own_lines s)
 
@@ -93,7 +93,7 @@ module _ (t : Table) where
   abbrev pub active_range : Symbol → Option Interval
   active_range s = lookup.active_range t.tree.now (known_at t) (own_lines s)
 
-  -- what the lines that select and imply a symbol make, with its own
+  -- what the `select` and `imply` lines of a symbol give, together with its own lines
   abbrev pub selector_values : List (Guarded SymId) → Tri
   selector_values gs = lookup.selector_values t.tree.now (known_at t) gs
 
@@ -122,7 +122,7 @@ module _ (t : Table) where
   abbrev pub equation : SymId → Symbol → Option GivenValue → SymbolValue
   equation id s given = by_choice t.tree.now (known_at t) id (facts_in t id s) (facts_in t id s).choice given
 
-  -- what a choice selects: by its row, and by its number
+  -- the selection of a choice: by its row, and by its number
   abbrev pub visible : SymId → Bool
   visible id = lookup.visible t.tree.now (known_at t) id
 
@@ -176,7 +176,7 @@ module _ (t : Table) where
   abbrev pub has_other : ℕ → Bool
   has_other c = option_map_or (lookup.has_other t.tree.now (known_at t)) (lookup.choice_at t.tree.now c) false
 
-  -- what a symbol is warned of
+  -- the warnings of a symbol
   abbrev pub select_warnings : List ℕ → SymId → Symbol → List Warning
   select_warnings name id s = warning.select_warnings t.tree.now (known_at t) name (facts_in t id s)
 

@@ -1,4 +1,4 @@
--- For proofs: What was found among the rows that a table is asked of.
+-- For proofs: What a search in the rows of a table has found.
 use Rattle.std.specs.Prelude.{◌≡◌, Option, Some, None}
 use Rattle.std.specs.Borrow.{Bor}
 use Rattle.kc_language.specs.Expressions.{Form}
@@ -13,17 +13,17 @@ use Rattle.kc_values.specs.declared.table.Table.{Table}
 use Rattle.kc_values.specs.TableFacts.{definition_row, known_at}
 use Rattle.kc_language.specs.Values.{condition}
 
--- the row of a definition that there is
+-- the table has this row of a definition
 abbrev pub IsDefinitionAt : Table → Definition → Type 0
 IsDefinitionAt t d = (id : DefinitionId) × (definition_row t id ≡ Some d)
 
--- what was found is this default, with its condition's value
+-- the search found this default, with the value of its condition
 abbrev pub IsMetDefault : Table → Option (Guarded Form) → Option (Bor SymbolDefault × Tri) → Type 0
 IsMetDefault t None o = o ≡ None
 IsMetDefault t (Some g) None = ⊥
 IsMetDefault t (Some g) (Some found) = (form_of found.0.now.value.value ≡ g.what) × (found.1 ≡ condition t.tree.now (known_at t) g.when)
 
--- what was found is this range
+-- the search found this range
 abbrev pub IsMetRange : Table → Option (Guarded Bounds) → Option (Bor SymbolRange) → Type 0
 IsMetRange t None o = o ≡ None
 IsMetRange t (Some g) None = ⊥

@@ -1,4 +1,4 @@
--- Trusted: The lines that values give to the user: those of the minimal file, and those of all that is written.
+-- Trusted: The lines that give values back as user values: those of the minimal file, and those of all written symbols.
 use Rattle.std.specs.Prelude.{◌≡◌, ℕ, ◌<◌, ◌&&◌, Bool, false, true, find, Option, Some, None, if◌then◌else◌, option_map}
 use Rattle.kc_language.specs.Expressions.{symbol, SymbolValue}
 use Rattle.kc_language.specs.Symbols.{TreeFacts}
@@ -8,19 +8,19 @@ use Rattle.std.specs.Option.{option_map_or}
 use Rattle.kc_language.specs.Values.{GivenValue, Member, UserPlace, SymbolPlace, ChoicePlace, is_new, is_yes, differs, given_of, selection, choice_at, name_count, known_from, user_place, written}
 use Rattle.kc_user.specs.Places.{allowed, members_of}
 
--- Under the user's places and values V.
+-- For the user values `user` and the values V.
 module _ (tree : TreeFacts) (user : UserPlace → Option GivenValue) (V : ℕ → SymbolValue) where
-  -- a test that tells exactly the places of the symbols that differ
+  -- a test that holds for exactly the places of the symbols that differ
   pub record TellsDiffering (keep : UserPlace → Bool) : Type 0 where
     pub differing : (p : UserPlace) → keep p ≡ true → (i : ℕ) × (i < name_count tree) × (user_place tree i ≡ p) × (differs tree user V i ≡ true)
     pub every : (i : ℕ) → i < name_count tree → differs tree user V i ≡ true → keep (user_place tree i) ≡ true
 
-  -- the minimal file's lines: the values, and the selected members
+  -- the lines of the minimal file: values, and selected members
   abbrev pub minimal_line : UserPlace → Option GivenValue
   minimal_line (SymbolPlace i) = Some (given_of (V i))
   minimal_line (ChoicePlace c) = option_map Member (selection tree user V c)
 
-  -- a new symbol with a line in the list of new symbols; what the places hold after that list is read
+  -- a new symbol that has a line in the list of new symbols; the user values after that list is read
   abbrev pub is_listed : SymId → Bool
   is_listed s = is_new tree (known_from tree V) user s && has_value (V s.0)
 
@@ -29,14 +29,14 @@ module _ (tree : TreeFacts) (user : UserPlace → Option GivenValue) (V : ℕ �
   listed_place (ChoicePlace c) =
       let found = selection tree user V c in if option_map_or is_listed found false then option_map Member found else user (ChoicePlace c)
 
--- Under values V alone.
+-- For the values V alone.
 module _ (tree : TreeFacts) (V : ℕ → SymbolValue) where
-  -- the value of a symbol, where it is written and `allowed` accepts it
+  -- the value of a symbol, if it is written and `allowed` accepts it
   abbrev pub reread_value : ℕ → Option GivenValue
   reread_value i =
       if written tree (known_from tree V) (symbol i) && allowed tree (symbol i) (given_of (V i)) then Some (given_of (V i)) else None
 
-  -- the places that the written lines give, where `allowed` accepts their values
+  -- the user values that the written lines give, if `allowed` accepts them
   abbrev pub reread_places : UserPlace → Option GivenValue
   reread_places (SymbolPlace i) = reread_value i
   reread_places (ChoicePlace c) = option_map Member (find (λ m. written tree (known_from tree V) m && is_yes (given_of (V m.0))) (members_of (choice_at tree c)))

@@ -1,4 +1,4 @@
--- For proofs: A row of the graph of needs in the making.
+-- For proofs: A row of the graph of needs while it is built.
 use Rattle.std.specs.Prelude.{◌≡◌, ℕ, ◌<◌, List, ◌++◌, filter, map, length, nat_lt, Some, slice_get}
 use Rattle.kc_language.specs.declared.expressions.SymId.{SymId}
 use Rattle.kc_tree.specs.declared.layout.Layout.{Layout}
@@ -6,19 +6,19 @@ use Rattle.kc_language.specs.declared.symbols.ChoiceId.{ChoiceId}
 use Rattle.kc_tree.specs.declared.rows.Symbol.{Symbol}
 use Rattle.kc_values.specs.declared.needs.NeedRow.{NeedRow}
 
--- a row in the making holds these nodes and names
+-- the row under construction holds these nodes and names
 pub record IsRow (nodes : List ℕ) (names : List SymId) (row : NeedRow) : Type 0 where
   pub nodes_are : row.nodes.items ≡ nodes
   pub names_are : row.names.items ≡ names
 
--- it holds these besides
+-- the new row holds these in addition
 abbrev pub Adds : NeedRow → NeedRow → List ℕ → List SymId → Type 0
 Adds old new nodes names = IsRow (old.nodes.items ++ nodes) (old.names.items ++ names) new
 
--- a row as it stands in the graph of so many symbols: the nodes, and the numbers of the symbols among the names
+-- the row in a graph of so many symbols: the nodes, and the numbers of the symbols among the names
 abbrev pub row_of : ℕ → NeedRow → List ℕ
 row_of count row = row.nodes.items ++ map (λ (s : SymId). s.0) (filter (λ (s : SymId). nat_lt s.0 count) row.names.items)
 
--- the choices of members are there
+-- the choices of all members exist
 abbrev pub AreChoicesThere : Layout → Type 0
 AreChoicesThere l = (i : ℕ) (s : Symbol) (k : ChoiceId) → slice_get l.symbols.items i ≡ Some s → s.choice ≡ Some k → k.0 < length l.tables.choices.items

@@ -1,4 +1,4 @@
--- For proofs: What the members of choices are, of a well-formed tree.
+-- For proofs: The members of choices in a well-formed tree.
 use Rattle.std.specs.Prelude.{◌≡◌, ℕ, ◌<◌, Some}
 use Rattle.std.specs.List.{Contains}
 use Rattle.kc_language.specs.declared.expressions.SymId.{SymId}

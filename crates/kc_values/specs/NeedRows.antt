@@ -1,4 +1,4 @@
--- Trusted: The rows of the graph of needs as they are made: for each node the contexts and choices that it needs, and the names.
+-- Trusted: The rows of the graph of needs: for each node the contexts and choices that it needs, and the names.
 use Rattle.std.specs.Prelude.{◌≡◌, ℕ, ◌<◌, ◌==◌, ◌&&◌, ◌||◌, if◌then◌else◌, Bool, true, false, List, [], ◌∷◌, ◌++◌, filter, map, length, nat_lt, is_some, Option, Some, None, slice_get, slice_index_or}
 use Rattle.std.specs.Option.{option_and_then}
 use Rattle.std.specs.List.{filter_map, flat_map, range_with_len}
@@ -29,7 +29,7 @@ use Rattle.kc_language.specs.Symbols.{TreeFacts}
 use Rattle.kc_values.specs.PartsOfNeeds.{type_names}
 use Rattle.kc_values.specs.Nodes.{choice_number, context_number, node_count}
 
--- names, where this is the modules symbol
+-- names, if this is the modules symbol
 module _ (modules : Option SymId) where
   abbrev pub when_names : Option Form → List SymId
   when_names None = []
@@ -43,11 +43,11 @@ module _ (modules : Option SymId) where
   names_of_choice None = []
   names_of_choice (Some c) = prompt_names c.prompt
 
-  -- of a definition, those of its prompt alone
+  -- the names in the prompt of a definition
   abbrev pub entry_names : Definition → List SymId
   entry_names d = prompt_names d.prompt
 
-  -- of a line that selects or implies
+  -- the names in a `select` or `imply` line
   abbrev pub source_names : Selector → Option Definition → List SymId
   source_names r None = []
   source_names r (Some d) = d.symbol ∷ when_names (when_view r.when)
@@ -77,13 +77,13 @@ is_truth Str = false
 is_truth Int = false
 is_truth Hex = false
 
--- something, where a list has an element
+-- these numbers, if the list has an element
 abbrev pub where_some : {X : Type 0} → List X → List ℕ → List ℕ
 where_some [] nodes = []
 where_some (x ∷ xs) nodes = nodes
 
 module _ (l : Layout) where
-  -- a context, but for the top
+  -- a context, unless it is the top one
   abbrev pub context_nodes : ℕ → List ℕ
   context_nodes c = if c == 0 then [] else context_number l c ∷ []
 
@@ -107,7 +107,7 @@ module _ (l : Layout) where
   abbrev pub mode_names : Option ChoiceId → List SymId
   mode_names o = names_of_choice l.modules (choice_row o)
 
-  -- what a context asks for besides the one outside it
+  -- what a context requires in addition to its outer context
   abbrev pub context_row_nodes : Context → List ℕ
   context_row_nodes c = context_nodes c.outer.0 ++ (if is_some c.own_condition then [] else mode_nodes c.mode)
 
@@ -127,7 +127,7 @@ module _ (l : Layout) where
   abbrev pub ranges_of : Definition → List SymbolRange
   ranges_of d = slice_of l.tables.ranges.items d.ranges
 
-  -- of their prompts alone
+  -- the nodes of their prompts alone
   abbrev pub entry_nodes : Definition → List ℕ
   entry_nodes d = (if is_some d.prompt then context_nodes d.within.0 else []) ++ prompt_nodes d.prompt
 
@@ -143,7 +143,7 @@ module _ (l : Layout) where
   abbrev pub prompts_names : Symbol → List SymId
   prompts_names s = prompts_names_of (definition_ids s)
 
-  -- the equation of a symbol of this type reads what a definition of it depends on
+  -- the equation of a symbol of this type reads the dependency of its definition
   abbrev pub is_read : SymbolType → Definition → Bool
   is_read symbol_type d = is_truth symbol_type || (is_some d.prompt || (nat_lt 0 (length (defaults_of d)) || (is_number symbol_type && nat_lt 0 (length (ranges_of d)))))
 
@@ -166,7 +166,7 @@ module _ (l : Layout) where
   abbrev pub definitions_names : Symbol → List SymId
   definitions_names s = definitions_names_of s.symbol_type (definition_ids s)
 
-  -- lines that select or imply, from one on
+  -- the `select` or `imply` lines, from this one on
   abbrev pub selector_row : ℕ → Option Selector
   selector_row i = slice_get l.tables.selector_rows.lines.items i
 
@@ -226,7 +226,7 @@ module _ (l : Layout) where
   abbrev pub choice_names : Choice → List SymId
   choice_names c = members_names c.members.items ++ prompt_names l.modules c.prompt ++ flat_map (choice_default_names l.modules) c.defaults.items
 
-  -- the numbers of the symbols among names
+  -- the numbers of the symbols among these names
   abbrev pub numbers : List SymId → List ℕ
   numbers names = map (λ (s : SymId). s.0) (filter (λ (s : SymId). nat_lt s.0 (length l.symbols.items)) names)
 
@@ -259,17 +259,16 @@ module _ (tree : TreeFacts) (l : Layout) where
   abbrev pub symbol_rows : List (List ℕ)
   symbol_rows = map (λ i. symbol_row i (slice_get l.symbols.items i)) (range_with_len 0 (length l.symbols.items))
 
--- a row of a context: of one that asks for nothing, as the top, none; else there is a context of that number that asks for
--- what the row has
+-- the row of a context: empty if it requires nothing, like the top; otherwise a context with that number requires what the row holds
 pub data IsContextRow (l : Layout) (i : ℕ) (row : List ℕ) : Type 0 where
   of_top : condition_in l.tables.contexts i ≡ top → row ≡ [] → IsContextRow l i row
   of_inner : (c : Context) → IsContextAt l.tables.contexts i c → row ≡ context_row_nodes l c ++ numbers l (context_row_names l c) → IsContextRow l i row
 
--- the rows of the contexts: of each what a context of that number asks for
+-- the rows of the contexts: each one holds what the context of that number requires
 abbrev pub AreContextRows : Layout → List (List ℕ) → Type 0
 AreContextRows l rows = (length rows ≡ length l.tables.contexts) × ((i : ℕ) → i < length rows → IsContextRow l i (slice_index_or rows i []))
 
--- the graph of a tree's needs: the symbols, the contexts, the choices
+-- the graph of a tree's needs: its symbols, contexts and choices
 pub record AreNodeRows (tree : TreeFacts) (l : Layout) (g : Nodes) : Type 0 where
   pub symbols_are : g.symbols ≡ length l.symbols.items
   pub count : length g.rows ≡ node_count l

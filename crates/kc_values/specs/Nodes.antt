@@ -16,7 +16,7 @@ context_number l c = length l.symbols.items + c
 abbrev pub choice_number : Layout → ℕ → ℕ
 choice_number l k = first_choice l + k
 
--- the node with a number
+-- the node that has this number
 abbrev pub IsNode : Layout → ℕ → Node → Type 0
 IsNode l n (node.Symbol s) = (n ≡ s.0) × (s.0 < length l.symbols.items)
 IsNode l n (node.Context c) = (n ≡ context_number l c.0) × (c.0 < length l.tables.contexts)

@@ -1,4 +1,4 @@
--- Trusted: Parts of the definitions of Needs, by names of their own.
+-- Trusted: Names for parts of the definitions of Needs.
 use Rattle.std.specs.List.{filter, flat_map}
 use Rattle.std.specs.Prelude.{List, None, Option, Some, [], map, ℕ, ◌++◌, ◌∷◌}
 use Rattle.kc_language.specs.Expressions.{leaf_symbols}
@@ -20,7 +20,7 @@ abbrev pub bounds_names : Bounds → List SymId
 bounds_names r = leaf_symbols r.low ++ leaf_symbols r.high
 
 module _ (tree : TreeFacts) where
-  -- a mode names what the choice's prompt condition names
+  -- a mode names what the prompt condition of its choice names
   abbrev pub prompt_names : Option ChoiceFacts → List SymId
   prompt_names None = []
   prompt_names (Some c) = conjunct_names tree c.prompt

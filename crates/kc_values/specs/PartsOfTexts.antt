@@ -1,4 +1,4 @@
--- Trusted: Parts of the definitions of Texts, by names of their own.
+-- Trusted: Names for parts of the definitions of Texts.
 use Rattle.std.specs.List.{flat_map}
 use Rattle.std.specs.Prelude.{List, None, Option, Some, [], ℕ}
 use Rattle.kc_language.specs.Expressions.{Form, SymbolValue, symbol, tri_text}
@@ -24,7 +24,7 @@ abbrev pub default_warning : SymbolType → Interval → List ℕ → List ℕ �
 default_warning symbol_type r name t =
     warning.DefaultOutside name t (number_text symbol_type r.low) (number_text symbol_type r.high) (clamped symbol_type (Some r) t)
 
--- the text of the met default, if there is one
+-- the text of the first default whose condition is not n, if there is one
 abbrev pub met_text : (SymId → SymbolValue) → Option (Guarded Form) → Option (List ℕ)
 met_text known None = None
 met_text known (Some g) = Some (single_text known g.what)
@@ -38,6 +38,6 @@ module _ (tree : TreeFacts) (user : UserPlace → Option GivenValue) (V : ℕ �
   abbrev pub warnings_at : ℕ → List Warning
   warnings_at i = warnings_of tree (known_from tree V) (name tree (symbol i)) (facts tree (symbol i)) (user (SymbolPlace i))
 
-  -- In order of first definition.
+  -- in the order of first definitions
   abbrev pub warnings_of_values : List Warning
   warnings_of_values = flat_map (λ s. warnings_at s.0) tree.defined

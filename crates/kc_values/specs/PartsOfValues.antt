@@ -1,4 +1,4 @@
--- Trusted: Parts of the definitions of Values, by names of their own.
+-- Trusted: Names for parts of the definitions of Values.
 use Rattle.std.specs.List.{find}
 use Rattle.std.specs.Option.{is_some, option_or}
 use Rattle.std.specs.Prelude.{Bool, List, None, Option, Some, false, if◌then◌else◌, nat_lt, not, option_map, unwrap_or, ℕ, ◌&&◌, ◌||◌}
@@ -18,18 +18,18 @@ abbrev pub what_of : Option (Guarded SymId) → Option SymId
 what_of None = None
 what_of (Some g) = Some g.what
 
--- An `imply` raises the default, up to the direct dependency (the order is our own).
+-- An `imply` raises the default, at most to the direct dependency (the order is our own).
 abbrev pub implied : Tri → Tri → Tri → Tri
 implied d implied_to direct = if is_n implied_to then d else lesser (greater d implied_to) direct
 
--- Under what is known of the symbols alone.
+-- For known symbol values alone.
 module _ (known : SymId → SymbolValue) where
   -- the bounds of a range as numbers
   abbrev pub interval : SymbolType → Option (Guarded Bounds) → Option Interval
   interval symbol_type None = None
   interval symbol_type (Some r) = Some (record { low = number_or_zero symbol_type (text known r.what.low); high = number_or_zero symbol_type (text known r.what.high) })
 
--- Under a tree and what is known of its symbols.
+-- For a tree and the known values of its symbols.
 module _ (tree : TreeFacts) (known : SymId → SymbolValue) where
   abbrev pub prompt_value : Option Condition → Tri
   prompt_value None = N
@@ -50,7 +50,7 @@ module _ (tree : TreeFacts) (known : SymId → SymbolValue) where
   abbrev pub first_visible : List SymId → Option SymId
   first_visible ms = find (visible tree known) ms
 
-  -- the user's member, if it is visible; without it the first default that names a visible member, else the first visible member
+  -- the user's member if it is visible; otherwise the first default that names a visible member, otherwise the first visible member
   abbrev pub chosen_member : ChoiceFacts → Option GivenValue → Option SymId
   chosen_member c user = elim user [ Some (Member m) ↦ if visible_member tree known c m then Some m else None | _ ↦ None ]
 
@@ -59,7 +59,7 @@ module _ (tree : TreeFacts) (known : SymId → SymbolValue) where
       (option_map (λ g. g.what) (find (λ g. not (is_n (condition tree known g.when)) && visible_member tree known c g.what) c.defaults))
       (find (visible tree known) c.members)
 
-  -- String: the user's text, else the default's, else nothing (kconfiglib's `str_value`).
+  -- String: the user's text, otherwise the default's, otherwise empty (kconfiglib's `str_value`).
   abbrev pub text_equation : SymbolFacts → Option GivenValue → List ℕ
   text_equation f user = unwrap_or (visible_text user (visibility tree known f)) (default_text known (first_met tree known f.defaults))
 
@@ -67,17 +67,17 @@ module _ (tree : TreeFacts) (known : SymId → SymbolValue) where
   by_choice s f (Some c) user = Truth (if is_symbol_of s (selected tree known (choice_at tree c) user) then Y else N)
   by_choice s f None user = by_type tree known s f f.symbol_type user
 
-  -- A member is y where it is selected, which is visible, else n; its own defaults have no effect.
+  -- A member is y if it is selected (so it is visible), otherwise n. Its own defaults have no effect.
   abbrev pub member_equation : SymId → ℕ → Option GivenValue → Tri
   member_equation s c user = if is_symbol_of s (selected tree known (choice_at tree c) user) then Y else N
 
--- Under what is known of the symbols.
+-- For the known values of the symbols.
 module _ (tree : TreeFacts) (known : SymId → SymbolValue) where
-  -- a string, int or hex: visible, or a default's condition is not n
+  -- a string, int or hex: it is visible, or the condition of a default is not n
   abbrev pub written_text : SymbolFacts → Bool
   written_text f = is_visible tree known f || is_some (first_met tree known f.defaults)
 
-  -- a member is written where it is visible
+  -- a member is written if it is visible
   abbrev pub written_by_choice : SymbolFacts → Option ℕ → Bool
   written_by_choice f (Some c) = is_visible tree known f
   written_by_choice f None = written_by_type tree known f f.symbol_type

@@ -1,4 +1,4 @@
--- Trusted: Where a value comes from, under the values of a table, of its rows.
+-- Trusted: Where a value comes from, under the values of a table, read from its rows.
 use Rattle.std.specs.Prelude.{ℕ, Bool, List, Option, Some, false, true, if◌then◌else◌, ◌&&◌}
 use Rattle.kc_language.specs.Expressions.{SymbolValue}
 use Rattle.kc_language.specs.Explanations as source
@@ -12,7 +12,8 @@ use Rattle.kc_values.specs.AtTable as at
 use Rattle.kc_values.specs.TableFacts.{facts_in, known_at}
 use Rattle.kc_values.specs.declared.table.Table.{Table}
 
--- whether a truth value was given and the symbol is visible; the source of a bool or tristate without it, and with it, that no `select` raises
+-- whether the user gave a truth value and the symbol is visible; the source of a bool or tristate without that value; and with it, if no `select`
+-- raises it
 module _ (tree : TreeFacts) (known : SymId → SymbolValue) where
   abbrev pub is_truth_used_of : SymbolFacts → Option GivenValue → Bool
   is_truth_used_of f user = lookup.is_visible tree known f && elim user [ Some (GivenTruth u) ↦ true | _ ↦ false ]
@@ -26,7 +27,7 @@ module _ (tree : TreeFacts) (known : SymId → SymbolValue) where
   unselected_source_of f user = if is_truth_used_of f user then Source.User else implied_source_of f
 
 module _ (t : Table) where
-  -- the default that applied; what a bool or tristate is without a `select`, and with it; a string, int or hex
+  -- the default that applied; the source of a bool or tristate without a `select`, and with it; the source of a string, int or hex
   abbrev pub default_source : Symbol → Source
   default_source s = source.default_source t.tree.now (known_at t) (at.own_lines t s)
 
@@ -48,11 +49,11 @@ module _ (t : Table) where
   abbrev pub number_source : Symbol → Option GivenValue → Source
   number_source s given = text_source s (lookup.if_within_range s.symbol_type (at.active_range t s) (lookup.visible_text given (at.visibility t s)))
 
-  -- a symbol outside a choice
+  -- the source of a symbol outside a choice
   abbrev pub own_source : SymId → Symbol → Option GivenValue → Source
   own_source id s given = source.source_by_type t.tree.now (known_at t) (facts_in t id s) s.symbol_type given
 
-  -- whether the user's member of a choice is the selected one; a member of the choice
+  -- whether the choice selects the user's member; the source of a member
   abbrev pub is_of_user : ℕ → Option GivenValue → Bool
   is_of_user c user = elim user [ Some (Member m) ↦ is_symbol_of m (at.selected t c (Some (Member m))) | _ ↦ false ]
 

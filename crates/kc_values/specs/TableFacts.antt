@@ -1,4 +1,4 @@
--- Trusted: What a table tells, and the rows that it is asked of.
+-- Trusted: What a table says, and the rows that it is asked about.
 use Rattle.std.specs.Prelude.{◌≡◌, ℕ, List, Option, Some, None, slice_get, slice_index_or, option_map}
 use Rattle.std.specs.Option.{option_and_then}
 use Rattle.std.specs.Borrow.{Bor}
@@ -16,7 +16,7 @@ use Rattle.kc_user.specs.PartsOfConfigFile.{member_place}
 use Rattle.kc_values.specs.declared.table.Table.{Table}
 use Rattle.kc_values.specs.Table.{known_in}
 
--- what a table tells of each symbol
+-- what a table says about each symbol
 abbrev pub known_at : Table → SymId → SymbolValue
 known_at t = known_in t.tree.now t.values
 
@@ -28,7 +28,7 @@ condition_at t i = condition_in t.layout.now.tables.contexts i
 abbrev pub definition_row : Table → DefinitionId → Option Definition
 definition_row t id = slice_get t.layout.now.tables.definitions.items id.0
 
--- the definition of a symbol with a number, if there is one
+-- the definition of a symbol with this number, if there is one
 abbrev pub IsDefinitionOf : Table → Symbol → ℕ → Option (Bor Definition) → Type 0
 IsDefinitionOf t s i o = option_map (λ (d : Bor Definition). d.now) o ≡ option_and_then (definition_row t) (slice_get (definition_ids s) i)
 
@@ -36,7 +36,7 @@ IsDefinitionOf t s i o = option_map (λ (d : Bor Definition). d.now) o ≡ optio
 abbrev pub IsRowOf : Table → SymId → Symbol → Type 0
 IsRowOf t id s = slice_get t.layout.now.symbols.items id.0 ≡ Some s
 
--- what a symbol's row says
+-- the facts in a symbol's row
 abbrev pub facts_in : Table → SymId → Symbol → SymbolFacts
 facts_in t id s = facts_of t.layout.now id.0 s
 
@@ -44,11 +44,11 @@ facts_in t id s = facts_of t.layout.now id.0 s
 abbrev pub own_value : Table → SymId → Symbol → Option GivenValue → SymbolValue
 own_value t id s given = by_type t.tree.now (known_at t) id (facts_in t id s) s.symbol_type given
 
--- where the selection of a choice is computed, it is the selection under this member of the user's
+-- if the selection of a choice is computed, it is the selection for this user's member
 abbrev pub IsSelected : Table → ℕ → Option SymId → Type 0
 IsSelected t c user =
     (x : Option SymId) → slice_index_or t.selections.items c None ≡ Some x → x ≡ selected t.tree.now (known_at t) (choice_at t.tree.now c) (member_place user)
 
--- the same of each choice
+-- the same for each choice
 abbrev pub AreSelected : Table → List (Option SymId) → Type 0
 AreSelected t users = (c : ℕ) → IsSelected t c (slice_index_or users c None)

@@ -1,4 +1,4 @@
--- Trusted: What a user gave, as the code holds it.
+-- Trusted: User values as the code holds them.
 use Rattle.std.specs.Prelude.{Option, Some, None}
 use Rattle.std.specs.Borrow.{Bor}
 use Rattle.kc_language.specs.Values.{GivenValue}

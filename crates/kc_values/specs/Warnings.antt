@@ -1,4 +1,4 @@
--- Trusted: What the values are warned of (our own).
+-- Trusted: The warnings about values (our own).
 use Rattle.std.specs.Prelude.{ℕ, List, map}
 use Rattle.std.specs.declared.alloc.Global.{Global}
 use Rattle.std.specs.declared.vec.Vec.{Vec}
@@ -6,6 +6,6 @@ use Rattle.kc_diagnostics.specs.Warnings.{owned_warning}
 use Rattle.kc_language.specs.Symbols.{Warning}
 use Rattle.kc_language.specs.declared.diagnostics.Warning as declared
 
--- the warnings that are held
+-- the warnings in a list of the code
 abbrev pub held : List (declared.Warning (Vec ℕ Global)) → List Warning
 held warnings = map owned_warning warnings

@@ -1,4 +1,4 @@
-//! Which symbols an answer of the user would change.
+//! Which symbols would change if the user answered.
 
 ghost use Rattle.std.specs.Prelude.{◌≡◌, None, int_lt, not, true};
 ghost use Rattle.std.specs.Option.{option_map_or};
@@ -17,7 +17,7 @@ use kc_expr::values::truth_of;
 use kc_tree::rows::{Choice, ChoiceId, Symbol};
 use kc_user::value::UserValue;
 
-// Whether a truth value as the user's would change the value of a bool or tristate symbol outside a choice.
+// Whether this truth value as the user value would change the value of a bool or tristate symbol outside a choice.
 fn changes(table: &Table<'_>, id: SymId, symbol: &Symbol, answer: Tri) -> bool
     ensures { result ≡ spec.changes table.now id symbol.now answer }
 {
@@ -25,7 +25,7 @@ fn changes(table: &Table<'_>, id: SymId, symbol: &Symbol, answer: Tri) -> bool
     truth_equation(table, id, symbol, Some(&given)) != truth_of(id, table)
 }
 
-// Whether some number is inside the range.
+// Whether the range contains a number.
 fn has_room(range: Option<Interval>) -> bool
     ensures { result ≡ option_map_or (λ (r : Interval). not (int_lt r.high r.low)) range true }
 {
@@ -35,16 +35,16 @@ fn has_room(range: Option<Interval>) -> bool
     }
 }
 
-/// Whether a symbol is visible: a prompt of it has a condition that is not n (kconfiglib's `visibility`).
+/// Whether a symbol is visible: the condition of one of its prompts is not n (kconfiglib's `visibility`).
 pub fn is_visible(table: &Table<'_>, symbol: &Symbol) -> bool
     ensures { result ≡ spec.is_visible table.now symbol.now }
 {
     !is_n(visibility(table, symbol))
 }
 
-/// Whether some answer of the user would change the value of a symbol outside a choice, under the same values of all others
-/// (our own): of a bool y or n, of a tristate y, m or n; of a string a text, of an int or hex a number. A number can be written
-/// with more zeros in front, so one would if it is visible, and its active range, if there is one, has room.
+/// Whether some user value would change the value of a symbol outside a choice, if all other values stay the same (our
+/// own). A bool can be y or n, a tristate y, m or n, a string any text, an int or hex a number. A number can have more
+/// leading zeros. So a visible int or hex can change unless its active range is empty.
 pub fn can_change(table: &Table<'_>, id: SymId, symbol: &Symbol) -> bool
     ensures { result ≡ spec.can_change table.now id symbol.now }
 {
@@ -65,7 +65,7 @@ pub fn can_change(table: &Table<'_>, id: SymId, symbol: &Symbol) -> bool
     }
 }
 
-// Whether one of the members is visible and is not the selected one.
+// Whether a member is visible and is not the selected one.
 fn is_other_visible(table: &Table<'_>, selected: SymId, members: &[SymId]) -> bool
     ensures { result ≡ list_any (spec.is_other table.now selected) members.now }
 {
@@ -77,7 +77,7 @@ fn is_other_visible(table: &Table<'_>, selected: SymId, members: &[SymId]) -> bo
     false
 }
 
-// Whether a choice has a visible member beside its default selection.
+// Whether a choice has a visible member other than its default selection.
 fn has_other_member(table: &Table<'_>, choice: &Choice, default: Option<SymId>) -> bool
     requires { default ≡ spec.selected_by table.now choice.now None }
     ensures { result ≡ spec.has_other_member table.now choice.now }
@@ -88,8 +88,8 @@ fn has_other_member(table: &Table<'_>, choice: &Choice, default: Option<SymId>) 
     }
 }
 
-/// Whether a choice has a visible member beside its default selection, which the user could select in its place (our own). The
-/// caller owes the default selection, so that it is not found again.
+/// Whether a choice has a visible member other than its default selection, which the user could select instead (our
+/// own). The caller passes the default selection, so that it is not computed twice.
 pub fn has_other(table: &Table<'_>, choice: ChoiceId, default: Option<SymId>) -> bool
     requires { default ≡ spec.selected table.now choice.0 None }
     ensures { result ≡ spec.has_other table.now choice.0 }

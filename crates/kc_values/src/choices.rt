@@ -1,4 +1,4 @@
-//! What a choice selects.
+//! The selections of choices.
 
 ghost use Rattle.std.specs.Prelude.{◌≡◌, Some};
 ghost use Rattle.std.specs.List.{list_any};
@@ -14,7 +14,7 @@ use crate::truths::prompts_condition;
 use kc_expr::expression::{SymId, Tri};
 use kc_tree::rows::{Choice, ChoiceId};
 
-/// Whether a prompt of the symbol has a condition that is not n; a name that is not defined has none (kconfiglib's
+/// Whether the condition of one of the symbol's prompts is not n. An undefined name has no prompts (kconfiglib's
 /// `visibility`).
 pub(crate) fn visible(table: &Table<'_>, id: SymId) -> bool
     ensures { result ≡ spec.visible table.now id }
@@ -25,7 +25,7 @@ pub(crate) fn visible(table: &Table<'_>, id: SymId) -> bool
     }
 }
 
-// Whether it is a member of the choice with a visible prompt.
+// Whether the symbol is a visible member of the choice.
 fn visible_member(table: &Table<'_>, choice: &Choice, id: SymId) -> bool
     ensures { result ≡ spec.visible_member table.now choice.now id }
 {
@@ -38,7 +38,7 @@ fn is_among(id: SymId, members: &[SymId]) -> bool
     members.iter().any(|member| id.0 == member.0)
 }
 
-// The first default whose condition is not n and that names a visible member.
+// The member of the first default whose condition is not n and whose member is visible.
 fn first_default(table: &Table<'_>, choice: &Choice) -> Option<SymId>
     ensures { result ≡ spec.first_default table.now choice.now }
 {
@@ -63,7 +63,7 @@ fn first_visible(table: &Table<'_>, members: &[SymId]) -> Option<SymId>
     None
 }
 
-// The default selection: that default, else the first visible member.
+// The default selection: that member, otherwise the first visible member.
 fn unselected(table: &Table<'_>, choice: &Choice) -> Option<SymId>
     ensures { result ≡ spec.unselected table.now choice.now }
 {
@@ -73,8 +73,8 @@ fn unselected(table: &Table<'_>, choice: &Choice) -> Option<SymId>
     }
 }
 
-// The selection of a choice: none where its mode is n; else the user's member where it is a visible member of that choice,
-// else the first default whose condition is not n and that names a visible member, else the first visible member.
+// The selection of a choice; none if its mode is n. It is the user's member if that is a visible member of the choice.
+// Otherwise it is the default selection.
 fn selected(table: &Table<'_>, id: ChoiceId, choice: &Choice, user: Option<SymId>) -> Option<SymId>
     requires { choice_at table.now.tree.now id.0 ≡ Some (spec.choice_in table.now choice.now) }
     ensures { result ≡ spec.selected_by table.now choice.now (member_place user) }
@@ -88,9 +88,10 @@ fn selected(table: &Table<'_>, id: ChoiceId, choice: &Choice, user: Option<SymId
     }
 }
 
-/// The selection of a choice under the user's member: none where its mode is n or there is no such choice; else the user's
-/// member where it is a visible member of that choice, else the first default whose condition is not n and that names a visible
-/// member, else the first visible member (kconfiglib's `selection`; the kernel's kconfig-language document on choices).
+/// Returns the selection of a choice for this user's member; none if its mode is n or there is no such choice. It is
+/// the user's member if that is a visible member of the choice. Otherwise it is the member of the first default whose
+/// condition is not n and whose member is visible, otherwise the first visible member (kconfiglib's `selection`; the
+/// kernel's kconfig-language document on choices).
 pub fn selected_in(table: &Table<'_>, choice: ChoiceId, user: Option<SymId>) -> Option<SymId>
     ensures { result ≡ spec.selected table.now choice.0 (member_place user) }
 {
@@ -100,7 +101,8 @@ pub fn selected_in(table: &Table<'_>, choice: ChoiceId, user: Option<SymId>) -> 
     }
 }
 
-/// The same, where one that is computed is not found again (our own). The caller owes that it was computed under this member.
+/// Like `selected_in`, but uses the selection that the table has computed, if there is one (our own). The caller must
+/// have computed it for this member.
 pub fn selection(table: &Table<'_>, choice: ChoiceId, user: Option<SymId>) -> Option<SymId>
     requires { IsSelected table.now choice.0 user }
     ensures { result ≡ spec.selected table.now choice.0 (member_place user) }
@@ -111,8 +113,8 @@ pub fn selection(table: &Table<'_>, choice: ChoiceId, user: Option<SymId>) -> Op
     }
 }
 
-/// The value of a member: y where it is selected, else n; its own defaults count for nothing (the kernel's kconfig-language
-/// document on choices). `user` is the member that was given for the choice.
+/// The value of a member: y if it is selected, otherwise n. Its own defaults have no effect (the kernel's
+/// kconfig-language document on choices). `user` is the member that the user chose.
 pub(crate) fn member_equation(
     table: &Table<'_>,
     id: SymId,

@@ -1,4 +1,4 @@
-//! Conditions under the values so far.
+//! Conditions under the values computed so far.
 
 ghost use Rattle.std.specs.Prelude.{◌≡◌};
 ghost use Rattle.kc_language.specs.Expressions.{lesser};
@@ -16,7 +16,7 @@ use kc_expr::values::{eval, lesser};
 use kc_tree::rows::{Choice, ChoiceId, ContextId, EntryPrompt, Title};
 use std::rc::Rc;
 
-/// The tristate upgrade: m as y, which counts where m can't be (kconfiglib, of symbols that are not tristate).
+/// Changes m to y, for a symbol that can't be m (kconfiglib, of symbols that are not tristate).
 pub fn upgrade(value: Tri) -> Tri
     ensures { result ≡ spec.upgrade value }
 {
@@ -26,7 +26,7 @@ pub fn upgrade(value: Tri) -> Tri
     }
 }
 
-/// Whether it is n, by which a condition fails (the kernel's kconfig-language document, "Menu dependencies").
+/// Whether the value is n. A condition that is n fails (the kernel's kconfig-language document, "Menu dependencies").
 pub(crate) fn is_n(value: Tri) -> bool
     ensures { result ≡ spec.is_n value }
 {
@@ -36,7 +36,7 @@ pub(crate) fn is_n(value: Tri) -> bool
     }
 }
 
-/// The value of an `if`, y where there is none.
+/// The value of an `if` condition; y if there is no `if`.
 pub(crate) fn if_value(when: &Option<Rc<Expr>>, table: &Table<'_>) -> Tri
     ensures { result ≡ at.when_value table.now (when_view when.now) }
 {
@@ -46,7 +46,7 @@ pub(crate) fn if_value(when: &Option<Rc<Expr>>, table: &Table<'_>) -> Tri
     }
 }
 
-// The least of a value and of what the contexts from this one outwards ask for, up to one that is computed.
+// The least of a value and of the conditions of this context and those outside it. Stops at the first computed context.
 fn enclosing_least(table: &Table<'_>, within: ContextId, first: Tri) -> Tri
     requires { lesser first (at.mode_value table.now (condition_at table.now within.0).mode) ≡ first }
     ensures { result ≡ lesser first (at.and_value table.now (condition_at table.now within.0).conjuncts) }
@@ -63,7 +63,7 @@ fn enclosing_least(table: &Table<'_>, within: ContextId, first: Tri) -> Tri
     least
 }
 
-// The condition of the prompt of a choice, n without one.
+// The condition of the prompt of a choice; n without a prompt.
 fn choice_prompt(table: &Table<'_>, choice: &Choice) -> Tri
     requires { IsChoiceThere table.now.layout.now.tables.contexts choice.now }
     ensures { result ≡ at.prompt_value table.now choice.now }
@@ -77,8 +77,9 @@ fn choice_prompt(table: &Table<'_>, choice: &Choice) -> Tri
     }
 }
 
-/// The mode of a choice: y where its prompt's condition is not n, else n; n without a prompt, and where there is no such choice
-/// (kconfiglib's `tri_value` of a choice; that its members are bools and that m counts as y is our own).
+/// The mode of a choice: y if the condition of its prompt is not n, otherwise n. It is n without a prompt, and if there
+/// is no such choice (kconfiglib's `tri_value` of a choice; that its members are bools and that m counts as y is our
+/// own).
 pub fn mode_of(table: &Table<'_>, id: ChoiceId) -> Tri
     ensures { result ≡ at.mode_of table.now id.0 }
 {
@@ -88,7 +89,7 @@ pub fn mode_of(table: &Table<'_>, id: ChoiceId) -> Tri
     }
 }
 
-// The value of the mode that counts in a context.
+// The value of the mode that applies in a context.
 fn mode_value(table: &Table<'_>, mode: Option<ChoiceId>) -> Tri
     ensures { result ≡ at.mode_value table.now (mode_view mode) }
 {
@@ -98,8 +99,8 @@ fn mode_value(table: &Table<'_>, mode: Option<ChoiceId>) -> Tri
     }
 }
 
-/// What a context is worth: the `&&` of what it and those outside ask for, and of the mode of the enclosing choice (the
-/// kernel's kconfig-language document, "Menu dependencies").
+/// Returns the value of a context: the `&&` of its own condition, those outside it, and the mode of the enclosing
+/// choice (the kernel's kconfig-language document, "Menu dependencies").
 #[inline(always)]
 pub fn context(table: &Table<'_>, within: ContextId) -> Tri
     ensures { result ≡ at.condition table.now (condition_at table.now within.0) }
@@ -110,7 +111,7 @@ pub fn context(table: &Table<'_>, within: ContextId) -> Tri
     }
 }
 
-// A value up to an `if`, which is looked at only where the value is not n.
+// The lesser of a value and an `if` condition. Evaluates the `if` only if the value is not n.
 fn guarded(first: Tri, when: &Option<Rc<Expr>>, table: &Table<'_>) -> Tri
     ensures { result ≡ lesser first (at.when_value table.now (when_view when.now)) }
 {
@@ -121,14 +122,14 @@ fn guarded(first: Tri, when: &Option<Rc<Expr>>, table: &Table<'_>) -> Tri
     }
 }
 
-/// What a line is worth that depends on a context and on its own `if`.
+/// Returns the condition of a line, from its context and its own `if`.
 pub(crate) fn condition(table: &Table<'_>, within: ContextId, when: &Option<Rc<Expr>>) -> Tri
     ensures { result ≡ at.condition table.now (with_when (condition_at table.now within.0) (when_view when.now)) }
 {
     guarded(context(table, within), when, table)
 }
 
-/// The condition of a prompt, whose entry depends on a context.
+/// The condition of a prompt whose entry is in this context.
 pub(crate) fn prompt_condition(table: &Table<'_>, within: ContextId, prompt: &EntryPrompt) -> Tri
     requires { HasNoMode table.now.layout.now.tables.contexts prompt.now.visible.0 }
     ensures { result ≡ at.condition table.now (prompt_view table.now.layout.now.tables.contexts (condition_at table.now within.0) prompt.now) }
@@ -137,7 +138,7 @@ pub(crate) fn prompt_condition(table: &Table<'_>, within: ContextId, prompt: &En
     guarded(first, &prompt.when, table)
 }
 
-/// When a menu or comment is shown.
+/// The condition under which a menu or comment is shown.
 pub fn title_condition(table: &Table<'_>, title: &Title) -> Tri
     requires { HasNoMode table.now.layout.now.tables.contexts title.now.visible.0 }
     ensures { result ≡ at.condition table.now (title_condition table.now.layout.now.tables title.now) }

@@ -1,4 +1,4 @@
-//! Which symbols differ from what they would be without the user.
+//! Which symbols differ from their values without the user.
 
 ghost use Rattle.std.specs.Prelude.{◌≡◌, ◌&&◌, None, not, IfOk};
 ghost use Rattle.std.specs.Option.{is_some};
@@ -19,8 +19,8 @@ use kc_tree::rows::Symbol;
 use kc_user::value::UserValue;
 use std::alloc::{AllocError, Global};
 
-/// Whether the value of a symbol outside a choice is not what its equation gives, under the same values of all others,
-/// without what the user gave for it (our own rule of the minimal file). Fails only when it is out of memory.
+/// Whether the value of a symbol outside a choice differs from what its equation gives without its user value, if all
+/// other values stay the same (our own rule of the minimal file). Fails only if there is not enough memory.
 pub fn own_differs(
     alloc: Global,
     table: &Table<'_>,
@@ -40,15 +40,15 @@ pub fn own_differs(
     }
 }
 
-/// Whether what the user gave for a symbol of this visibility can count: it is visible, and something was given. Where it
-/// can't, the equation gives the same value without it, so that the symbol does not differ (kconfiglib's `visibility`).
+/// Whether a user value can have an effect on a symbol of this visibility: there is one, and the symbol is visible.
+/// Otherwise the equation gives the same value without it, so the symbol does not differ (kconfiglib's `visibility`).
 pub fn can_count(user: Option<&UserValue>, visibility: Tri) -> bool
     ensures { result ≡ (is_some (given_in user.entry) && not (value.is_n visibility)) }
 {
     user.is_some() && !is_n(visibility)
 }
 
-/// Whether a selection is the symbol.
+/// Whether the symbol is the selection.
 pub(crate) fn selects(selection: Option<SymId>, id: SymId) -> bool
     ensures { result ≡ is_symbol_of id selection }
 {
@@ -58,7 +58,7 @@ pub(crate) fn selects(selection: Option<SymId>, id: SymId) -> bool
     }
 }
 
-/// Whether a member is selected, and is not the default selection (our own rule of the minimal file).
+/// Whether a member is selected and is not the default selection (our own rule of the minimal file).
 pub fn member_differs(selection: Option<SymId>, default: Option<SymId>, id: SymId) -> bool
     ensures { result ≡ (is_symbol_of id selection && not (is_symbol_of id default)) }
 {

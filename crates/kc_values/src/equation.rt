@@ -1,4 +1,4 @@
-//! The equation of any symbol.
+//! The equation of a symbol of any kind.
 
 ghost use Rattle.std.specs.Prelude.{◌≡◌, None, slice_index_or, IfOk};
 ghost use Rattle.kc_values.specs.AtTable as spec;
@@ -17,9 +17,9 @@ use kc_tree::rows::{ChoiceId, Symbol};
 use kc_user::value::UserValue;
 use std::alloc::{AllocError, Global};
 
-/// The value that the equation of a symbol outside a choice gives, by its type (the kernel's kconfig-language document,
-/// "Menu attributes"; kconfiglib's `tri_value` and `str_value`). Without a type, as of a name that is not defined, it is the
-/// symbol's name (kconfiglib). Fails only when it is out of memory.
+/// Evaluates the equation of a symbol outside a choice, by its type (the kernel's kconfig-language document, "Menu
+/// attributes"; kconfiglib's `tri_value` and `str_value`). A symbol without a type, such as an undefined name, has its
+/// name as its value (kconfiglib). Fails only if there is not enough memory.
 pub fn own_equation(
     alloc: Global,
     table: &Table<'_>,
@@ -51,7 +51,7 @@ pub fn own_equation(
     }
 }
 
-// The member that was given for a choice.
+// The member that the user chose for a choice.
 fn given_member(users: &[Option<SymId>], choice: ChoiceId) -> Option<SymId>
     ensures { result ≡ slice_index_or users.now choice.0 None }
 {
@@ -61,9 +61,9 @@ fn given_member(users: &[Option<SymId>], choice: ChoiceId) -> Option<SymId>
     }
 }
 
-/// The value that the equation of a symbol gives: `user` is what was given for it, `users` what was given for each choice
-/// (the kernel's kconfig-language document; where that is vague, kconfiglib's documented rules). What the table has
-/// computed is not found again. Fails only when it is out of memory.
+/// Evaluates the equation of a symbol. `user` is its user value, and `users` holds the user's member of each choice
+/// (the kernel's kconfig-language document; where that is vague, kconfiglib's documented rules). Uses what the table
+/// has already computed. Fails only if there is not enough memory.
 pub fn equation(
     alloc: Global,
     table: &Table<'_>,

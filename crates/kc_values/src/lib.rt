@@ -1,16 +1,16 @@
 #![tactic(auto)]
-//! What the symbols of a tree are worth: the equations of the language, one for each symbol, and what holds of them.
+//! The values of the symbols of a tree: one equation for each symbol, and the laws of these equations.
 //!
-//! - [`equation`]: the equation of any symbol; by type those of [`truths`] (bool and tristate), [`texts`] (string) and
-//!   [`numbers`] (int and hex); those of choices and their members in [`choices`].
+//! - [`equation`]: the equation of any symbol. By type: [`truths`] (bool and tristate), [`texts`] (string) and
+//!   [`numbers`] (int and hex). [`choices`] has those of choices and their members.
 //! - [`conditions`]: conditions under the values that are known so far.
 //! - [`table`]: the values that are known so far.
-//! - [`needs`] and [`nodes`]: which values each equation asks for, as a graph.
-//! - [`written`] and [`differs`]: which symbols a file shows, and which a minimal file needs.
-//! - [`answers`]: which symbols an answer of the user would change.
+//! - [`needs`] and [`nodes`]: the graph of the values that each equation needs.
+//! - [`written`] and [`differs`]: which symbols a file shows, and which ones a minimal file needs.
+//! - [`answers`]: which symbols would change if the user answered.
 //! - [`sources`]: where a value comes from.
 //! - [`warnings`]: the warnings about values.
-//! - [`laws`]: what holds of the equations of every tree.
+//! - [`laws`]: laws of the equations of every tree.
 
 pub mod answers;
 pub mod choices;

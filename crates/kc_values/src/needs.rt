@@ -1,4 +1,4 @@
-//! What the equation of each symbol names: its needs, be it through contexts and choices.
+//! The needs of each symbol: what its equation names, directly or through contexts and choices.
 
 ghost use Rattle.std.specs.Prelude.{◌≡◌, ℕ, List, ◌<◌, ◌^◌, ◌++◌, ◌∷◌, [], length, IfOk, IfSome, OnOk};
 ghost use Rattle.std.specs.List.{flat_map};
@@ -27,7 +27,7 @@ use kc_tree::tree::Tree;
 use std::alloc::{AllocError, Global};
 use std::rc::Rc;
 
-// The row of one node in the making: the nodes of contexts and choices, and the names. Its room serves all nodes.
+// The row of one node under construction: its contexts and choices, and the names. Its memory is reused for each node.
 #[derive(Drop)]
 struct NeedRow {
     nodes: Vec<u32>,
@@ -48,7 +48,7 @@ fn if_names_into(
     }
 }
 
-// Adds a context, but for the top, which names nothing.
+// Adds a context, unless it is the top one, which names nothing.
 fn context_into(layout: &Layout, id: ContextId, out: &mut NeedRow) -> Result<(), AllocError>
     requires there { id.0 < length layout.now.tables.contexts }
     ensures { OnOk result (Adds out.old out.new (rows.context_nodes layout.now id.0) []) }
@@ -59,7 +59,7 @@ fn context_into(layout: &Layout, id: ContextId, out: &mut NeedRow) -> Result<(),
     Ok(())
 }
 
-// Adds a prompt, where there is one, but for what its entry depends on.
+// Adds a prompt, if there is one, without the context of its entry.
 fn prompt_into(
     layout: &Layout,
     prompt: &Option<EntryPrompt>,
@@ -77,7 +77,7 @@ fn prompt_into(
     }
 }
 
-// Adds the prompt of a choice, where there is one.
+// Adds the prompt of a choice, if there is one.
 fn choice_prompt_into(layout: &Layout, choice: &Choice, out: &mut NeedRow) -> Result<(), AllocError>
     requires there { IsChoiceThere layout.now.tables.contexts choice.now }
     ensures { OnOk result (Adds out.old out.new (rows.choice_prompt_nodes layout.now choice.now) (rows.prompt_names layout.now.modules choice.now.prompt)) }
@@ -101,8 +101,8 @@ fn mode_into(layout: &Layout, mode: Option<ChoiceId>, out: &mut NeedRow) -> Resu
     }
 }
 
-// Adds what a context asks for besides the one outside it, and that one: a context that asks for nothing of its own is that of
-// a choice's members, which asks for its mode.
+// Adds the outer context of a context, and what the context itself requires. A context without a condition of its own
+// is that of a choice's members and requires the choice's mode.
 fn context_row_into(layout: &Layout, context: &Context, out: &mut NeedRow) -> Result<(), AllocError>
     requires there { context.now.outer.0 < length layout.now.tables.contexts }
     ensures { OnOk result (Adds out.old out.new (rows.context_row_nodes layout.now context.now) (rows.context_row_names layout.now context.now)) }
@@ -129,7 +129,7 @@ fn prompts_into(layout: &Layout, symbol: &Symbol, out: &mut NeedRow) -> Result<(
     Ok(())
 }
 
-// Adds the defaults of a definition, but for what it depends on.
+// Adds the defaults of a definition, without its context.
 fn defaults_into(
     layout: &Layout,
     defaults: &[SymbolDefault],
@@ -166,7 +166,7 @@ fn range_into(layout: &Layout, range: &SymbolRange, out: &mut NeedRow) -> Result
     if_names_into(layout, &range.when, out)
 }
 
-// Adds the ranges of a definition, but for what it depends on.
+// Adds the ranges of a definition, without its context.
 fn ranges_into(layout: &Layout, ranges: &[SymbolRange], out: &mut NeedRow) -> Result<(), AllocError>
     ensures { OnOk result (Adds out.old out.new [] (flat_map (rows.range_names layout.now.modules) ranges.now)) }
 {
@@ -176,15 +176,15 @@ fn ranges_into(layout: &Layout, ranges: &[SymbolRange], out: &mut NeedRow) -> Re
     Ok(())
 }
 
-// The value of a symbol of this type is a number.
+// Whether the value of a symbol of this type is a number.
 fn is_number(symbol_type: SymbolType) -> bool
     ensures { result ≡ rows.is_number symbol_type }
 {
     matches!(symbol_type, SymbolType::Int | SymbolType::Hex)
 }
 
-// Whether the equation of a symbol of this type reads what one of its definitions depends on: of a bool or tristate it does, of
-// the others where a line counts that depends on it.
+// Whether the equation of a symbol of this type reads the context of one of its definitions. For a bool or tristate it
+// does. For other types it does if the definition has a line that counts.
 fn is_read(layout: &Layout, symbol_type: SymbolType, definition: &Definition) -> bool
     ensures { result ≡ rows.is_read layout.now symbol_type definition.now }
 {
@@ -194,7 +194,7 @@ fn is_read(layout: &Layout, symbol_type: SymbolType, definition: &Definition) ->
         || (is_number(symbol_type) && !layout.ranges(definition).is_empty())
 }
 
-// Adds a definition of a symbol of this type: what it depends on once, whatever its lines are.
+// Adds a definition of a symbol of this type. Adds its context once, for all of its lines.
 fn definition_into(
     layout: &Layout,
     symbol_type: SymbolType,
@@ -228,7 +228,7 @@ fn definitions_into(layout: &Layout, symbol: &Symbol, out: &mut NeedRow) -> Resu
     Ok(())
 }
 
-// Adds the symbols that select or imply, and what those lines depend on, from the last line on.
+// Adds the symbols of `select` or `imply` lines, and the contexts of these lines, from the last line on.
 fn selectors_into(
     layout: &Layout,
     last: Option<SelectorId>,
@@ -283,7 +283,7 @@ fn truth_into(
     modules_into(laid.tree, symbol.symbol_type, out)
 }
 
-// Adds what the equation of a symbol names: of a member of a choice what its selection does.
+// Adds what the equation of a symbol names. For a member of a choice, adds what the choice's selection names.
 fn symbol_into(
     laid: &LaidTree<'_>,
     id: SymId,
@@ -340,7 +340,7 @@ fn choice_into(layout: &Layout, choice: &Choice, out: &mut NeedRow) -> Result<()
     choice_defaults_into(layout, choice, out)
 }
 
-// Adds the row as it stands to the graph of so many symbols, and makes it empty: the nodes, and the symbols among the names.
+// Adds the row to the graph of so many symbols (the nodes, and the symbols among the names), and empties it.
 fn close_row(count: usize, row: &mut NeedRow, graph: &mut Graph) -> Result<(), AllocError>
     requires few { count < 2 ^ 32 }
     ensures graph { OnOk result (graph.new ≡ record graph.old { rows = graph.old.rows ++ row_of count row.old ∷ [] }) }
@@ -357,7 +357,7 @@ fn close_row(count: usize, row: &mut NeedRow, graph: &mut Graph) -> Result<(), A
     Ok(())
 }
 
-// Adds the nodes of the symbols. One that is not defined needs nothing.
+// Adds the nodes of the symbols. An undefined symbol needs nothing.
 fn add_symbols(laid: &LaidTree<'_>, row: &mut NeedRow, graph: &mut Graph) -> Result<(), AllocError>
     requires choices { AreChoicesThere laid.now.layout.now }
     requires row { IsRow [] [] row.old }
@@ -403,17 +403,17 @@ fn add_choices(layout: &Layout, row: &mut NeedRow, graph: &mut Graph) -> Result<
     Ok(())
 }
 
-/// What each symbol of a tree needs: the symbols that its equation names (the kernel's kconfig-language document
-/// forbids recursive dependencies and does not say which count). What contexts and choices name stands once, in their own nodes,
-/// so that nothing grows with the square of the symbols in a block or of a choice's members (our own). Fails only when it is out
-/// of memory.
+/// Returns the graph of what each symbol of a tree needs: the symbols that its equation names (the kernel's
+/// kconfig-language document forbids recursive dependencies and does not say which count). What contexts and choices
+/// name is stored once, in nodes of their own. So the graph does not grow with the square of the symbols in a block or
+/// of a choice's members (our own). Fails only if there is not enough memory.
 pub fn tree_needs(alloc: Global, laid: &LaidTree<'_>) -> Result<Graph, AllocError>
     ensures graph { IfOk result IsGraph }
     ensures few { IfOk result (λ g. length g.rows < 2 ^ 32) }
     ensures alike { IfOk result (λ g. AreAlike (needs_of g) (spec.needs laid.now.tree.now)) }
     ensures nodes { IfOk result (rows.AreNodeRows laid.now.tree.now laid.now.layout.now) }
 {
-    // The choices that the symbols name are there: `name_count` says so.
+    // The choices that the symbols name exist: this follows from `name_count`.
     let _ = laid.tree.name_count();
     let layout = laid.layout;
     let mut graph = Graph::with_room(alloc, layout.symbols().len(), node_count(layout))?;

@@ -8,8 +8,8 @@ use kc_expr::expression::SymId;
 use kc_tree::layout::Layout;
 use kc_tree::rows::{ChoiceId, ContextId};
 
-/// A node of the graph of what symbols need: a symbol, or what many of them need alike: a context with what it asks for, or the
-/// selection of a choice (our own).
+/// A node of the graph of needs: a symbol, or needs that many symbols share (a context with its conditions, or the
+/// selection of a choice) (our own).
 #[derive(Clone, Copy, PartialEq, Eq, Debug)]
 pub enum Node {
     Symbol(SymId),
@@ -17,14 +17,14 @@ pub enum Node {
     Choice(ChoiceId),
 }
 
-// The number of the first choice: the symbols come first, one for each name, then the contexts, and then the choices.
+// The number of the first choice. The symbols come first, one for each name, then the contexts, then the choices.
 fn first_choice(layout: &Layout) -> usize
     ensures { result ≡ spec.first_choice layout.now }
 {
     layout.symbols().len() + layout.context_count()
 }
 
-/// How many nodes there are.
+/// The number of nodes.
 pub fn node_count(layout: &Layout) -> usize
     ensures { result ≡ spec.node_count layout.now }
 {
@@ -47,7 +47,7 @@ pub fn choice_number(layout: &Layout, id: ChoiceId) -> u32
     first_choice(layout) as u32 + id.0
 }
 
-/// The node with a number.
+/// The node that has this number.
 pub fn node_of(layout: &Layout, number: u32) -> Node
     ensures { IsNode layout.now number result }
 {

@@ -21,8 +21,8 @@ use kc_tree::rows::{Definition, Symbol, SymbolRange};
 use kc_user::value::UserValue;
 use std::alloc::{AllocError, Global};
 
-/// The number that a text writes, read by the type: decimal for int, with or without `0x` for hex; none for another type or
-/// text (our own limits, 64 bits each).
+/// Parses a number by its type: decimal for int, with or without `0x` for hex. Returns none for another type or text
+/// (our own limits, 64 bits each).
 pub(crate) fn number_as(symbol_type: SymbolType, text: &[u8]) -> Option<i128>
     ensures { result ≡ digits.number_as symbol_type text.now }
 {
@@ -33,7 +33,7 @@ pub(crate) fn number_as(symbol_type: SymbolType, text: &[u8]) -> Option<i128>
     }
 }
 
-// The number of a text, or 0.
+// The number that a text holds; 0 if it holds none.
 #[tactic(auto, using(crate::proofs::SmallNumbers::number_or_zero_below))]
 fn number_or_zero(symbol_type: SymbolType, text: &[u8]) -> i128
     ensures number { result ≡ digits.number_or_zero symbol_type text.now }
@@ -65,8 +65,8 @@ fn first_met<'t>(table: &Table<'t>, definition: &Definition) -> Option<&'t Symbo
     None
 }
 
-/// The active range of a symbol: the first whose condition is not n (the kernel's kconfig-language document, "Menu
-/// attributes": numerical ranges). A bound that is no number counts as 0 (our own).
+/// The active range of a symbol: the first range whose condition is not n (the kernel's kconfig-language document,
+/// "Menu attributes": numerical ranges). A bound that is not a number counts as 0 (our own).
 pub fn active_range(table: &Table<'_>, symbol: &Symbol) -> Option<Interval>
     ensures range { result ≡ spec.active_range table.now symbol.now }
     ensures small { IfSome result HasSmallBounds }
@@ -81,8 +81,8 @@ pub fn active_range(table: &Table<'_>, symbol: &Symbol) -> Option<Interval>
     None
 }
 
-/// Whether the number of a text is inside the range, both bounds included; where there is no range it is (kconfiglib's
-/// `str_value`). What is no number counts as 0 (our own).
+/// Whether the number of a text is inside the range, both bounds included; true without a range (kconfiglib's
+/// `str_value`). A text that is not a number counts as 0 (our own).
 pub fn is_within_range(symbol_type: SymbolType, range: Option<Interval>, text: &[u8]) -> bool
     ensures { result ≡ digits.is_within_range symbol_type range text.now }
 {
@@ -95,7 +95,8 @@ pub fn is_within_range(symbol_type: SymbolType, range: Option<Interval>, text: &
     }
 }
 
-/// The user's text where its number is inside the range; another is dropped and not clamped (kconfiglib's `str_value`).
+/// The user's text if its number is inside the range. Any other text is dropped, not clamped (kconfiglib's
+/// `str_value`).
 pub fn if_within_range(
     symbol_type: SymbolType,
     range: Option<Interval>,
@@ -109,8 +110,8 @@ pub fn if_within_range(
     }
 }
 
-/// A number as it is written: decimal for int, `0x` and lower-case digits for hex (kconfiglib's `str_value`). Fails only when
-/// it is out of memory.
+/// Formats a number: decimal for int, `0x` and lower-case digits for hex (kconfiglib's `str_value`). Fails only if
+/// there is not enough memory.
 pub fn number_text(
     alloc: Global,
     symbol_type: SymbolType,
@@ -129,8 +130,9 @@ pub fn number_text(
     Ok(text.into_bytes())
 }
 
-/// The text where its number is inside the range, else the bound that it passes, the low one first (kconfiglib's
-/// `str_value` of a default outside its range). What is no number counts as 0 (our own). Fails only when it is out of memory.
+/// Returns the text if its number is inside the range. Otherwise returns the bound that it violates, checking the low
+/// one first (kconfiglib's `str_value` of a default outside its range). A text that is not a number counts as 0 (our
+/// own). Fails only if there is not enough memory.
 pub fn clamped(
     alloc: Global,
     symbol_type: SymbolType,
@@ -155,9 +157,9 @@ pub fn clamped(
     Ok(copy)
 }
 
-/// The value of an int or hex symbol outside a choice: the visible user text that is inside the active range, in exactly its
-/// text, else the first default's text, clamped (kconfiglib's `str_value`); without both it is empty (our own). Fails only when
-/// it is out of memory.
+/// The value of an int or hex symbol outside a choice: the user's text, unchanged, if the symbol is visible and the
+/// number is inside the active range. Otherwise it is the first default's text, clamped (kconfiglib's `str_value`);
+/// without a default it is empty (our own). Fails only if there is not enough memory.
 pub(crate) fn number_equation(
     alloc: Global,
     table: &Table<'_>,
@@ -177,8 +179,8 @@ pub(crate) fn number_equation(
     Ok(value)
 }
 
-/// Whether a text is another than the value of an int or hex symbol outside a choice without the user's: the first default's
-/// text, clamped (our own rule of the minimal file). Fails only when it is out of memory.
+/// Whether a text differs from the value of an int or hex symbol outside a choice without its user value, which is the
+/// first default's text, clamped (our own rule of the minimal file). Fails only if there is not enough memory.
 #[tactic(auto, using(crate::proofs::SmallNumbers::inside_keeps))]
 pub(crate) fn differs_from_default(
     alloc: Global,

@@ -20,7 +20,7 @@ use kc_language::explanations::Source;
 use kc_tree::rows::{ChoiceId, Symbol};
 use kc_user::value::UserValue;
 
-// The default that applied, as it is or moved into the active range.
+// The default that applied, either unchanged or moved into the active range.
 fn default_source(table: &Table<'_>, symbol: &Symbol) -> Source
     ensures { result ≡ spec.default_source table.now symbol.now }
 {
@@ -45,7 +45,8 @@ fn is_truth_used(table: &Table<'_>, symbol: &Symbol, user: Option<&UserValue>) -
     }
 }
 
-// The source of a bool or tristate symbol without the user and a `select`: an `imply` that raises the default, else the default.
+// The source of a bool or tristate symbol without user value and `select`: an `imply` that raises the default,
+// otherwise the default.
 fn implied_source(table: &Table<'_>, id: SymId, symbol: &Symbol) -> Source
     ensures { result ≡ spec.implied_source table.now id symbol.now }
 {
@@ -56,7 +57,8 @@ fn implied_source(table: &Table<'_>, id: SymId, symbol: &Symbol) -> Source
     }
 }
 
-// The source of a bool or tristate symbol without a `select`: the user where the symbol is visible, else what the rest is.
+// The source of a bool or tristate symbol without a `select`: the user if the symbol is visible, otherwise
+// `implied_source`.
 fn unselected_source(
     table: &Table<'_>,
     id: SymId,
@@ -72,7 +74,7 @@ fn unselected_source(
     }
 }
 
-// The source of a bool or tristate symbol: a `select` that raises it above the rest, or what the rest is.
+// The source of a bool or tristate symbol: a `select` that raises its value, otherwise `unselected_source`.
 fn truth_source(table: &Table<'_>, id: SymId, symbol: &Symbol, user: Option<&UserValue>) -> Source
     ensures { result ≡ spec.truth_source table.now id symbol.now (given_in user.entry) }
 {
@@ -85,7 +87,7 @@ fn truth_source(table: &Table<'_>, id: SymId, symbol: &Symbol, user: Option<&Use
     }
 }
 
-// The source of a string, int or hex symbol: the user's text where one is used, else the default.
+// The source of a string, int or hex symbol: the user's text if it is used, otherwise the default.
 fn text_source(table: &Table<'_>, symbol: &Symbol, used: Option<&[u8]>) -> Source
     ensures { result ≡ spec.text_source table.now symbol.now (option_copied used.entry) }
 {
@@ -95,7 +97,7 @@ fn text_source(table: &Table<'_>, symbol: &Symbol, used: Option<&[u8]>) -> Sourc
     }
 }
 
-// The source of an int or hex symbol, whose range the user's text has to be inside.
+// The source of an int or hex symbol. The user's text must be inside its range.
 fn number_source(table: &Table<'_>, symbol: &Symbol, user: Option<&UserValue>) -> Source
     ensures { result ≡ spec.number_source table.now symbol.now (given_in user.entry) }
 {
@@ -108,10 +110,11 @@ fn number_source(table: &Table<'_>, symbol: &Symbol, user: Option<&UserValue>) -
     )
 }
 
-/// Where the value of a symbol outside a choice comes from (our own). Of a bool or tristate a `select` that raises it above the
-/// rest, else the user's truth value if it is visible, else an `imply` that raises the default; of a string the user's text if it
-/// is visible, of an int or hex if it is in the active range too. Else the default that applied, which the active range may have
-/// moved, or none. Without a type it is none of these.
+/// Where the value of a symbol outside a choice comes from (our own). For a bool or tristate: a `select` that raises
+/// the value, otherwise the user's truth value if the symbol is visible, otherwise an `imply` that raises the default.
+/// For a string: the user's text if the symbol is visible. For an int or hex the text must also be in the active range.
+/// Otherwise: the default that applied, which the active range may have moved, or none. A symbol without a type has no
+/// source.
 pub fn own_source(table: &Table<'_>, id: SymId, symbol: &Symbol, user: Option<&UserValue>) -> Source
     ensures { result ≡ spec.own_source table.now id symbol.now (given_in user.entry) }
 {
@@ -125,7 +128,7 @@ pub fn own_source(table: &Table<'_>, id: SymId, symbol: &Symbol, user: Option<&U
     }
 }
 
-// Whether the selection of a choice is the user's member.
+// Whether a choice selects the user's member.
 fn is_of_user(
     table: &Table<'_>,
     choice: ChoiceId,
@@ -141,8 +144,9 @@ fn is_of_user(
     }
 }
 
-/// Where the values of the members of a choice come from (our own): the choice's mode is n, or it selects the user's member, or a
-/// default or the first visible member. The caller owes the selection under the user's member, so that it is not found again.
+/// Where the values of the members of a choice come from (our own): the choice's mode is n, or it selects the user's
+/// member, or a default or the first visible member. The caller passes the selection for the user's member, so that it
+/// is not computed twice.
 pub fn member_source(
     table: &Table<'_>,
     choice: ChoiceId,

@@ -1,4 +1,4 @@
-//! The values found so far: those of the symbols, of the contexts and of the choices, by their numbers.
+//! The values computed so far: those of the symbols, contexts and choices, by number.
 
 ghost use Rattle.std.specs.Prelude.{◌≡◌, None, length, replicate, slice_index_or, IfOk};
 ghost use Rattle.std.specs.Option.{option_copied};
@@ -18,16 +18,17 @@ use kc_tree::tree::Tree;
 use kc_user::sparse::SparseVec;
 use std::alloc::{AllocError, Global};
 
-/// The value of a symbol: a truth of a bool or tristate, a text of the others (kconfiglib's `tri_value` and `str_value`).
+/// The value of a symbol: a truth value for a bool or tristate, a text for other types (kconfiglib's `tri_value` and
+/// `str_value`).
 #[derive(Debug, Drop)]
 pub enum Value {
-    /// Of a bool or tristate.
+    /// For a bool or tristate.
     Truth(Tri),
-    /// Of a string, int or hex as it is spelled, and of a symbol without a type its name.
+    /// For a string, int or hex: its text as it is spelled. For a symbol without a type: its name.
     Text(Vec<u8>),
 }
 
-/// The name of a symbol, or no byte where the tree has no such name (our own).
+/// Returns the name of a symbol; empty if the tree has no such symbol (our own).
 pub fn name(tree: &Tree, id: SymId) -> &[u8]
     ensures { result.now ≡ lookup.name tree.now id }
 {
@@ -38,21 +39,21 @@ pub fn name(tree: &Tree, id: SymId) -> &[u8]
     }
 }
 
-/// The values of the symbols of a tree: each name that the tree mentions is one. Some places may still be empty. As `Values`
-/// an empty place is n, and as a text the symbol's name, which is also what a symbol without a type is worth (kconfiglib).
-/// Beside them stand the values of its contexts and the selections of its choices that are computed, so that each is found
-/// once, whoever asks for it; one that is not computed is found anew.
+/// The values of the symbols of a tree. Each name in the tree is a symbol. Some places may still be empty. As `Values`,
+/// an empty place reads as n, or as the symbol's name if a text is wanted, which is also the value of a symbol without
+/// a type (kconfiglib). The table also keeps the values of contexts and the selections of choices, once computed, so
+/// that each is computed once. One that is not kept is computed at each use.
 #[derive(Drop)]
 pub struct Table<'t> {
-    /// The tree that the symbols are of.
+    /// The tree of these symbols.
     pub tree: &'t Tree,
-    /// How it is laid out.
+    /// Its layout.
     pub layout: &'t Layout,
     /// A place for each symbol, by number.
     pub values: SparseVec<Value>,
-    /// What each context is worth, if that is computed.
+    /// The value of each context, if computed.
     pub contexts: Vec<Option<Tri>>,
-    /// What each choice selects, if that is computed; no member can be selected too.
+    /// The selection of each choice, if computed; it may be no member.
     pub selections: Vec<Option<Option<SymId>>>,
     ghost laid: { ∥ IsLayoutOf tree.now layout.now ∥₁ },
     ghost formed: { ∥ IsWellFormed tree.now ∥₁ },
@@ -60,7 +61,7 @@ pub struct Table<'t> {
 }
 
 impl<'t> Table<'t> {
-    /// A table of empty places, where nothing is computed. Fails only when it is out of memory.
+    /// Returns a table of empty places, where nothing is computed. Fails only if there is not enough memory.
     pub fn empty(alloc: Global, laid: &LaidTree<'t>) -> Result<Table<'t>, AllocError>
         ensures tree { IfOk result (λ t. t.tree.now ≡ laid.now.tree.now) }
         ensures layout { IfOk result (λ t. t.layout.now ≡ laid.now.layout.now) }
@@ -81,7 +82,7 @@ impl<'t> Table<'t> {
         })
     }
 
-    /// What a context is worth, if that is computed.
+    /// The value of a context, if computed.
     pub(crate) fn computed_context(&self, id: ContextId) -> Option<Tri>
         ensures { result ≡ slice_index_or self.now.contexts.items id.0 None }
     {
@@ -91,7 +92,7 @@ impl<'t> Table<'t> {
         }
     }
 
-    /// What a choice selects, if that is computed.
+    /// The selection of a choice, if computed.
     pub(crate) fn computed_selection(&self, id: ChoiceId) -> Option<Option<SymId>>
         ensures { result ≡ slice_index_or self.now.selections.items id.0 None }
     {
@@ -102,7 +103,7 @@ impl<'t> Table<'t> {
     }
 }
 
-/// The value of a symbol, if it is found (our own).
+/// The value of a symbol, if computed (our own).
 pub fn value_of(values: &SparseVec<Value>, id: SymId) -> Option<&Value>
     ensures { option_copied result ≡ value_in values.now id }
 {

@@ -17,7 +17,7 @@ use kc_tree::rows::Symbol;
 use kc_user::value::UserValue;
 use std::alloc::{AllocError, Global};
 
-/// The text of a default that is one operand, no byte of any other (the kernel's kconfig-language document, "Menu
+/// The text of a default that is one operand; empty for any other (the kernel's kconfig-language document, "Menu
 /// attributes"; that it must be one operand is our own).
 pub fn single_text<'a, V: Values>(expr: &'a Expr, values: &'a V) -> &'a [u8]
     ensures { result.now ≡ spec.single_text (values_by (V.type_of values.now) (V.tri_of values.now) (V.text_of values.now)) (form_of expr.now) }
@@ -43,15 +43,15 @@ pub(crate) fn met_text<'a>(table: &'a Table<'_>, symbol: &Symbol) -> Option<&'a 
     }
 }
 
-/// The text of the first default whose condition is not n, or nothing (the kernel's kconfig-language document, "Menu
-/// attributes": default value).
+/// The text of the first default whose condition is not n; empty if there is none (the kernel's kconfig-language
+/// document, "Menu attributes": default value).
 pub(crate) fn default_text<'a>(table: &'a Table<'_>, symbol: &Symbol) -> &'a [u8]
     ensures { result.now ≡ at.default_text table.now symbol.now }
 {
     met_text(table, symbol).unwrap_or(b"")
 }
 
-/// The user's text where the symbol is visible (kconfiglib's `str_value`).
+/// The user's text if the symbol is visible (kconfiglib's `str_value`).
 pub(crate) fn visible_text(user: Option<&UserValue>, visibility: Tri) -> Option<&[u8]>
     ensures { option_copied result ≡ spec.visible_text (given_in user.entry) visibility }
 {
@@ -64,7 +64,7 @@ pub(crate) fn visible_text(user: Option<&UserValue>, visibility: Tri) -> Option<
     }
 }
 
-/// The same of a symbol, whose visibility is looked at only where the user gave a text (kconfiglib's `str_value`).
+/// Like `visible_text`, but computes the symbol's visibility only if the user gave a text (kconfiglib's `str_value`).
 pub(crate) fn visible_text_of<'a>(
     table: &Table<'_>,
     symbol: &Symbol,
@@ -78,8 +78,9 @@ pub(crate) fn visible_text_of<'a>(
     }
 }
 
-/// The value of a string symbol outside a choice: the user's text where it is visible, else the text of the first default
-/// whose condition is not n, else nothing (kconfiglib's `str_value`). Fails only when it is out of memory.
+/// The value of a string symbol outside a choice: the user's text if the symbol is visible, otherwise the text of the
+/// first default whose condition is not n, otherwise empty (kconfiglib's `str_value`). Fails only if there is not
+/// enough memory.
 pub(crate) fn text_equation(
     alloc: Global,
     table: &Table<'_>,

@@ -16,8 +16,7 @@ use kc_expr::values::{eval, greater, lesser, truth_of};
 use kc_tree::rows::{Definition, Selector, SelectorId, Symbol, SymbolDefault};
 use kc_user::value::UserValue;
 
-// Whether the type is tristate under the values: it is written as that, and the modules symbol is a bool or tristate that is
-// not n.
+// Whether the symbol can be m: its type is tristate, and the modules symbol is a bool or tristate that is not n.
 fn is_tristate(table: &Table<'_>, symbol_type: SymbolType) -> bool
     ensures { result ≡ spec.is_tristate table.now symbol_type }
 {
@@ -30,9 +29,8 @@ fn is_tristate(table: &Table<'_>, symbol_type: SymbolType) -> bool
     }
 }
 
-/// The tristate upgrade: m as y where the type is not tristate under the values: where it is written as another one, or
-/// where the modules symbol is n, or is no bool or tristate, or is not there (kconfiglib's `tri_value`). The modules symbol is
-/// looked at only where the value is m.
+/// Changes m to y if the symbol can't be m: its type is not tristate, or the modules symbol is n, is not a bool or
+/// tristate, or does not exist (kconfiglib's `tri_value`). Reads the modules symbol only if the value is m.
 #[tactic(auto, using(crate::proofs::UpgradeLemmas::n_stays, crate::proofs::UpgradeLemmas::y_stays, crate::proofs::UpgradeLemmas::m_upgraded, crate::proofs::UpgradeLemmas::m_kept))]
 pub(crate) fn upgraded(table: &Table<'_>, symbol_type: SymbolType, value: Tri) -> Tri
     ensures { result ≡ spec.upgraded table.now symbol_type value }
@@ -43,7 +41,7 @@ pub(crate) fn upgraded(table: &Table<'_>, symbol_type: SymbolType, value: Tri) -
     }
 }
 
-/// The definition of a symbol by its number among those of the symbol, if there is one.
+/// The definition of a symbol that has this number among the symbol's definitions, if there is one.
 pub(crate) fn definition<'t>(table: &Table<'t>, symbol: &Symbol, i: usize) -> Option<&'t Definition>
     ensures { IsDefinitionOf table.now symbol.now i result }
 {
@@ -74,8 +72,8 @@ pub fn prompts_condition(table: &Table<'_>, symbol: &Symbol) -> Tri
     greatest
 }
 
-/// The visibility of a symbol: the greatest condition of its prompts, m being y where the symbol can't be m; n without a prompt
-/// (kconfiglib's `visibility`).
+/// The visibility of a symbol: the greatest condition of its prompts, with y for m if the symbol can't be m; n without
+/// a prompt (kconfiglib's `visibility`).
 pub fn visibility(table: &Table<'_>, symbol: &Symbol) -> Tri
     ensures { result ≡ spec.visibility table.now symbol.now }
 {
@@ -124,7 +122,7 @@ pub(crate) fn default_truth(table: &Table<'_>, symbol: &Symbol) -> Tri
     }
 }
 
-// min(value of the other symbol, condition) of a line that selects or implies.
+// min(value of the other symbol, condition) of a `select` or `imply` line.
 fn selector_value(table: &Table<'_>, line: &Selector) -> Tri
     ensures { result ≡ spec.selector_values table.now (listed (selector_facts table.now.layout.now.tables line.now)) }
 {
@@ -138,7 +136,7 @@ fn selector_value(table: &Table<'_>, line: &Selector) -> Tri
     lesser(value, condition(table, source.within, &line.when))
 }
 
-// The greatest of them, from the last line on.
+// The greatest value of these lines, from the last line on.
 fn selector_values(table: &Table<'_>, last: Option<SelectorId>) -> Tri
     ensures { result ≡ spec.selector_values table.now (selectors_from table.now.layout.now.tables last) }
 {
@@ -154,7 +152,7 @@ fn selector_values(table: &Table<'_>, last: Option<SelectorId>) -> Tri
     greatest
 }
 
-/// The direct dependency of a symbol: the greatest that its definitions depend on, m being y where the symbol can't be m
+/// The direct dependency of a symbol: the greatest dependency of its definitions, with y for m if the symbol can't be m
 /// (kconfiglib's `direct_dep`).
 pub fn direct(table: &Table<'_>, symbol: &Symbol) -> Tri
     ensures { result ≡ spec.direct table.now symbol.now }
@@ -168,7 +166,7 @@ pub fn direct(table: &Table<'_>, symbol: &Symbol) -> Tri
     upgraded(table, symbol.symbol_type, greatest)
 }
 
-/// What a symbol is selected to: the greatest min(value of the selecting symbol, condition), m being y where the symbol
+/// What a symbol is selected to: the greatest min(value of the selecting symbol, condition), with y for m if the symbol
 /// can't be m (the kernel's kconfig-language document, "Menu attributes": reverse dependencies).
 pub(crate) fn selected_to(table: &Table<'_>, id: SymId, symbol: &Symbol) -> Tri
     ensures { result ≡ spec.selected_to table.now id symbol.now }
@@ -183,7 +181,7 @@ pub(crate) fn selected_to(table: &Table<'_>, id: SymId, symbol: &Symbol) -> Tri
     }
 }
 
-/// What a symbol is implied to: the same over what implies it (the kernel's kconfig-language document, "Menu
+/// What a symbol is implied to: the same for the symbols that imply it (the kernel's kconfig-language document, "Menu
 /// attributes": weak reverse dependencies).
 pub(crate) fn implied_to(table: &Table<'_>, id: SymId, symbol: &Symbol) -> Tri
     ensures { result ≡ spec.implied_to table.now id symbol.now }
@@ -198,7 +196,8 @@ pub(crate) fn implied_to(table: &Table<'_>, id: SymId, symbol: &Symbol) -> Tri
     }
 }
 
-/// The default, which an imply raises up to the direct dependency. That is looked at only where something implies the symbol.
+/// The default, which an `imply` raises at most to the direct dependency. Computes that dependency only if a symbol
+/// implies this one.
 pub(crate) fn implied(table: &Table<'_>, id: SymId, symbol: &Symbol) -> Tri
     ensures { result ≡ spec.implied_value table.now id symbol.now }
 {
@@ -210,7 +209,8 @@ pub(crate) fn implied(table: &Table<'_>, id: SymId, symbol: &Symbol) -> Tri
     }
 }
 
-/// The user's truth up to the visibility, where the symbol is visible, and else its default. Only what counts is looked at.
+/// If the symbol is visible, the user's truth value, limited to the visibility. Otherwise its default. Computes only
+/// what is used.
 pub(crate) fn given_or_implied(
     table: &Table<'_>,
     id: SymId,
@@ -228,10 +228,10 @@ pub(crate) fn given_or_implied(
     }
 }
 
-/// The value of a bool or tristate symbol outside a choice: the user's up to the visibility where it is visible, else its
-/// default, which an imply raises up to the direct dependency (that order is our own); at least what it is selected to,
-/// even against its direct dependency; m being y where the symbol can't be m (the kernel's kconfig-language document, "Menu
-/// attributes"; kconfiglib's `tri_value`).
+/// The value of a bool or tristate symbol outside a choice. If it is visible, this is the user value, limited to the
+/// visibility. Otherwise it is the default, which an `imply` raises at most to the direct dependency (that order is our
+/// own). A `select` raises it, even above its direct dependency. If the symbol can't be m, y takes the place of m (the
+/// kernel's kconfig-language document, "Menu attributes"; kconfiglib's `tri_value`).
 #[inline(always)]
 pub(crate) fn truth_equation(
     table: &Table<'_>,

@@ -1,4 +1,4 @@
-//! What the values of a tree are warned of.
+//! The warnings about the values of a tree.
 
 ghost use Rattle.std.specs.Prelude.{◌≡◌, ◌++◌, IfOk, IfSome, OnOk};
 ghost use Rattle.std.specs.Option.{option_copied};
@@ -37,7 +37,7 @@ pub(crate) fn is_above(a: Tri, b: Tri) -> bool
     }
 }
 
-// A symbol is selected above its dependency.
+// The warning about a symbol that is selected above its dependency.
 fn selected_warning(
     alloc: Global,
     name: &[u8],
@@ -53,7 +53,7 @@ fn selected_warning(
     })
 }
 
-// The low bound as it is written.
+// Formats the low bound.
 fn low_text(alloc: Global, symbol_type: SymbolType, range: Interval) -> Result<Vec<u8>, AllocError>
     requires { HasSmallBounds range }
     ensures { IfOk result (λ v. v.items ≡ number_text symbol_type range.low) }
@@ -62,7 +62,7 @@ fn low_text(alloc: Global, symbol_type: SymbolType, range: Interval) -> Result<V
     Ok(text)
 }
 
-// The high bound as it is written.
+// Formats the high bound.
 fn high_text(alloc: Global, symbol_type: SymbolType, range: Interval) -> Result<Vec<u8>, AllocError>
     requires { HasSmallBounds range }
     ensures { IfOk result (λ v. v.items ≡ number_text symbol_type range.high) }
@@ -71,7 +71,7 @@ fn high_text(alloc: Global, symbol_type: SymbolType, range: Interval) -> Result<
     Ok(text)
 }
 
-// A user's text is outside the range.
+// The warning about a user's text outside the range.
 fn user_outside(
     alloc: Global,
     symbol_type: SymbolType,
@@ -90,7 +90,7 @@ fn user_outside(
     })
 }
 
-// A default is outside the range.
+// The warning about a default outside the range.
 fn default_outside(
     alloc: Global,
     symbol_type: SymbolType,
@@ -110,7 +110,7 @@ fn default_outside(
     })
 }
 
-// The warning of a visible user value outside the active range.
+// Adds the warning about a visible user value outside the active range.
 fn user_warning(
     alloc: Global,
     symbol_type: SymbolType,
@@ -136,7 +136,7 @@ fn user_warning(
     Ok(())
 }
 
-// The warning of a default that applied and was clamped.
+// Adds the warning about a default that applied and was clamped.
 fn default_warning(
     alloc: Global,
     symbol_type: SymbolType,
@@ -166,7 +166,7 @@ fn default_warning(
     Ok(())
 }
 
-// The warnings of an int or hex symbol.
+// Adds the warnings of an int or hex symbol.
 fn range_warnings(
     alloc: Global,
     table: &Table<'_>,
@@ -188,7 +188,7 @@ fn range_warnings(
     Ok(())
 }
 
-// The warning of a bool or tristate symbol.
+// Adds the warning of a bool or tristate symbol.
 fn select_warnings(
     alloc: Global,
     table: &Table<'_>,
@@ -200,7 +200,7 @@ fn select_warnings(
     ensures { OnOk result (held out.new.items ≡ held out.old.items ++ at.select_warnings table.now name.now id symbol.now) }
 {
     let selected_to = selected_to(table, id, symbol);
-    // What nothing selects is above no direct dependency.
+    // A symbol that is not selected can't be above its direct dependency.
     if let Tri::N = selected_to {
         return Ok(());
     }
@@ -213,10 +213,10 @@ fn select_warnings(
     Ok(())
 }
 
-/// The warnings of one symbol under these values, behind those that are there. A bool or
-/// tristate that is selected above its direct dependency; of an int or hex a visible user value outside the active range,
-/// then a default that was clamped; of a choice's member none (our own lines). The caller owes the symbol's visibility, so
-/// that it is found once for all that asks for it. Fails only when it is out of memory; some warnings may then be there.
+/// Appends the warnings of one symbol under these values. A bool or tristate: it is selected above its direct
+/// dependency. An int or hex: a visible user value is outside the active range; then: a default was clamped. A member
+/// of a choice has none (our own lines). The caller passes the symbol's visibility, so that it is computed once. Fails
+/// only if there is not enough memory; some warnings may then have been added.
 pub fn warnings_into(
     alloc: Global,
     table: &Table<'_>,

@@ -42,10 +42,11 @@ fn own_is_written(table: &Table<'_>, id: SymId, symbol: &Symbol, visibility: Tri
     }
 }
 
-/// Whether a symbol of this visibility has a line in the `.config` under these values: it is visible; or, outside a
-/// choice, a bool or tristate whose default, what it is selected to, or what it is implied to within its direct dependency is not n, or a
-/// string, int or hex one of whose defaults has a condition that is not n. Without a type it has none (kconfiglib's
-/// `config_string`). The caller owes the visibility, so that it is found once for all that asks for it.
+/// Whether a symbol of this visibility has a line in the `.config` under these values. It has one if it is visible.
+/// Outside a choice, a bool or tristate has one if its default, what it is selected to, or what it is implied to within
+/// its direct dependency is not n. A string, int or hex has one if the condition of a default is not n. A symbol
+/// without a type has none (kconfiglib's `config_string`). The caller passes the visibility, so that it is computed
+/// once.
 pub fn written(table: &Table<'_>, id: SymId, symbol: &Symbol, visibility: Tri) -> bool
     requires { visibility ≡ spec.visibility table.now symbol.now }
     ensures { result ≡ spec.is_written table.now id symbol.now }

@@ -1,4 +1,4 @@
--- For proofs: What each step of the check of many configurations finds.
+-- For proofs: The results of the checks of many configurations.
 use Rattle.std.specs.Prelude.{◌≡◌, ◌<◌, ◌&&◌, ℕ, List, [], Bool, true, false, not, length, take, slice_index_or, string_bytes}
 use Rattle.std.specs.List.{flat_map, list_any}
 use Rattle.clap.specs.Words.{Text}
@@ -7,7 +7,7 @@ use Rattle.kc_words.specs.declared.each.Each.{Each}
 use Rattle.kc_words.specs.declared.usage.UsageError.{UsageError}
 use Rattle.kc_words.specs.declared.usage.UsageError.TheVariants as usage
 
--- the table holds the names that the first n configurations write, where f says what each writes, and no two write one
+-- the table holds the names that the first n configurations write, by `f`; no name is written twice
 pub record Holds (f : Text → List Text) (configs : List Text) (n : ℕ) (table : List Text) : Type 0 where
   pub held : (name : Text) → is_among name table ≡ is_among name (flat_map f (take n configs))
   pub once : (k : ℕ) → k < n → (j : ℕ) (name : Text) → j < k → is_among name (f (slice_index_or configs j [])) ≡ true → is_among name (f (slice_index_or configs k [])) ≡ true → ⊥
@@ -16,22 +16,22 @@ pub record Holds (f : Text → List Text) (configs : List Text) (n : ℕ) (table
 abbrev pub AreNamesWritten : Each → List Text → List Text → Type 0
 AreNamesWritten each configs table = Holds (writes each) configs (length configs) table
 
--- none of the names is in the table
+-- the table holds none of these names
 abbrev pub NoneIsAmong : List Text → List Text → Type 0
 NoneIsAmong table names = list_any (λ name. is_among name table) names ≡ false
 
--- the configuration's own file is in the table, and it does not write it itself
+-- the configuration's own file is in the table, and this configuration does not write it
 abbrev pub is_overwritten : Each → List Text → Text → Bool
 is_overwritten each table config = is_among config table && not (is_among config (writes each config))
 
--- out of memory, or this reports a file that two configurations write
+-- out of memory, or the report of a file that two configurations write
 abbrev pub IsTwice : Each → List Text → UsageError → Type 0
 IsTwice each configs (usage.Help _) = ⊥
 IsTwice each configs usage.Version = ⊥
 IsTwice each configs (usage.Bad told) = (name : Text) × IsWrittenTwice each configs name × (string_bytes told ≡ written_twice_text name)
 IsTwice each configs usage.Memory = Unit {0}
 
--- out of memory, or this reports a configuration that another one writes
+-- out of memory, or the report of a configuration that another one writes
 abbrev pub IsOverwrite : Each → List Text → List Text → UsageError → Type 0
 IsOverwrite each table configs (usage.Help _) = ⊥
 IsOverwrite each table configs usage.Version = ⊥

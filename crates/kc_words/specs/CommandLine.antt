@@ -1,6 +1,6 @@
--- Trusted: What the command line asks for, why it is refused, and which files configurations share (our own; see `kconf --help`).
--- The crate clap reads the arguments. It has a rule for each argument, and gives rows: the name of a rule with its values. A flag that is given
--- has the value `true`.
+-- Trusted: What the command line requests, why it is refused, and which files configurations share (our own; see `kconf --help`).
+-- The crate clap reads the arguments. It has a rule for each argument, and returns rows: the name of a rule with its values. A flag that is set has
+-- the value `true`.
 use Rattle.std.specs.{Prelude.{◌≡◌, ◌≢◌, ◌==◌, ◌<◌, ◌&&◌, ◌||◌, ◌⊎◌, ◌++◌, ◌^◌, ℕ, List, [], ◌∷◌, Bool, true, false, not, Option, Some, None, is_some, unwrap_or, option_map, String, string_bytes, codes, decimal, bytes_eq, nat_eq, if◌then◌else◌, map, fold, filter, flat_map, length, drop, slice_index_or}, List.{last_or, list_any, slice_split, starts_with}, Option.option_or, Str.Lines.lines, declared.alloc.Global.Global}
 use Rattle.clap.specs.{Words.{App, IsAmong, Kinds, Row, Rule, Text, all_of, first_of, matches_of, new_app, new_rule, with_rule}, Simple.on_top, declared.{builder.action.ArgAction.TheVariants.{Append, SetTrue}, error.kind.ErrorKind.{ErrorKind, TheVariants.{DisplayHelp, DisplayVersion}}}}
 use Rattle.kc_language.specs.{Text.{byte, longest_prefix, natural_of}, ConfigFile.{Notation, is_prefix}, Outcome.Options, declared.outcome.Delivery.{Delivery, TheVariants.{Check, Replace, Write}}}
@@ -23,7 +23,7 @@ kconfig_rule = record (new_rule (codes "KCONFIG")) { required = true }
 abbrev pub fragment_rule : Rule
 fragment_rule = record (new_rule (codes "FRAGMENT")) { action = Some Append }
 
--- A command with --help and --version alone. The program's name is not among the arguments.
+-- A command with only --help and --version. The program's name is not among the arguments.
 abbrev pub empty_app : App
 empty_app = on_top (λ s. record s { no_binary_name = true; has_version = true }) (new_app (codes "kconf"))
 
@@ -50,8 +50,8 @@ arguments_of = map string_bytes
 abbrev pub rows_for : List (String Global) → List Row
 rows_for words = matches_of kconf_app (arguments_of words)
 
--- ---- What is asked for
--- Whether a flag is given; whether an argument has a value; and all its values.
+-- ---- The request
+-- Whether a flag is set; whether an argument has a value; and all its values.
 abbrev pub is_given : Text → List Row → Bool
 is_given id rows = bytes_eq (unwrap_or (first_of id rows) []) (codes "true")
 
@@ -61,26 +61,26 @@ has_value id rows = is_some (first_of id rows)
 abbrev pub values_of : Text → List Row → List Text
 values_of id rows = unwrap_or (all_of id rows) []
 
--- Whether many configurations are asked for; the prefix of symbol names; and how the texts are delivered.
+-- Whether there are many configurations; the prefix of symbol names; and how the texts are delivered.
 abbrev pub is_each : List Row → Bool
 is_each rows = is_given (codes "each") rows || has_value (codes "each-from") rows
 
 abbrev pub prefix_option : List Row → Text
 prefix_option rows = unwrap_or (first_of (codes "prefix") rows) (codes "CONFIG_")
 
--- How files write names and strings.
+-- The notation of names and strings in files.
 abbrev pub notation_option : List Row → Notation
 notation_option rows = record { prefix = prefix_option rows; is_raw = is_given (codes "raw-strings") rows }
 
--- The number of steps in which an explanation goes on: decimal digits, of a number below 2^63. Any other text is refused.
+-- The number of steps of an explanation: decimal digits of a number below 2^63. Any other text is refused.
 abbrev pub depth_option : List Row → Text
 depth_option rows = unwrap_or (first_of (codes "explain-depth") rows) (codes "3")
 
 abbrev pub depth_of : Text → Option ℕ
 depth_of = natural_of 10 (2 ^ 63)
 
--- With --explain no file is written but the explanations, and none is compared or refused for a warning: whatever else is given, what asks for
--- that is as if it were absent.
+-- With --explain only the explanations are written, and no file is compared or refused because of a warning. Other arguments that request that are
+-- ignored.
 abbrev pub unless_explained : {A : Type 0} → List Row → A → A → A
 unless_explained rows absent asked = if has_value (codes "explain") rows then absent else asked
 
@@ -133,17 +133,17 @@ pub record IsEachOf (rows : List Row) (each : Each) : Type 0 where
   pub configurations : map string_bytes each.configurations.items ≡ values_of (codes "FRAGMENT") rows
   pub list : option_map string_bytes each.list ≡ first_of (codes "each-from") rows
 
--- One configuration, or many.
+-- One configuration, or many configurations.
 abbrev pub AsksFor : List Row → Request → Type 0
 AsksFor rows (One options) = (is_each rows ≡ false) × AreOptionsOf rows options
 AsksFor rows (Many each) = (is_each rows ≡ true) × IsEachOf rows each
 
 -- ---- Refusals
--- How an error about the arguments ends.
+-- The end of an error about the arguments.
 abbrev pub with_hint : Text → Text
 with_hint text = text ++ codes "\n\nFor more information, try '--help'.\n"
 
--- The error if arguments exclude each other: the first that fits. And the errors if a prefix or a number of steps is not valid.
+-- The error if arguments exclude each other: the first that applies. And the errors if a prefix or a number of steps is not valid.
 abbrev pub exclusion_of : List Row → Option Text
 exclusion_of rows =
     if is_given (codes "check") rows && is_given (codes "replace") rows
@@ -170,17 +170,17 @@ value_error rows = if is_prefix (prefix_option rows)
     then (if is_some (depth_of (depth_option rows)) then None else Some (no_depth_text (depth_option rows)))
     else Some (no_prefix_text (prefix_option rows))
 
--- The error for arguments in which clap finds no fault, if there is one.
+-- The error for arguments that clap accepts, if there is one.
 abbrev pub refusal_of : List Row → Option Text
 refusal_of rows = option_or (exclusion_of rows) (value_error rows)
 
--- What the arguments ask for, if they do not exclude each other.
+-- What the arguments request, if they do not exclude each other.
 pub record IsRequestOf (rows : List Row) (request : Request) : Type 0 where
   pub asks : AsksFor rows request
   pub together : exclusion_of rows ≡ None
 
--- Why the arguments ask for no run: they ask for help, or for the version; clap finds another fault, which its own text reports; there is an error
--- for them; or memory ran out.
+-- Why the arguments request no run: they request help or the version; clap finds another error, which its own text reports; there is an error of
+-- ours; or memory ran out.
 abbrev pub IsRefused : Kinds → List Row → UsageError → Type 0
 IsRefused kinds rows (Help _) = IsAmong DisplayHelp kinds
 IsRefused kinds rows Version = IsAmong DisplayVersion kinds
@@ -189,11 +189,11 @@ IsRefused kinds rows (Bad told) = ((k : ErrorKind) × (k ≢ DisplayHelp) × (k 
 IsRefused kinds rows Memory = Unit {0}
 
 -- ---- Many configurations
--- The configurations that a file names: its lines, without the empty ones.
+-- The configurations in a file: its lines, without the empty ones.
 abbrev pub listed : Text → List Text
 listed bytes = filter (λ line. not (length line == 0)) (lines bytes)
 
--- What follows the last `/` of a path. And a pattern with the configuration in place of each `{}` and its file name in place of each `{/}`: it is
+-- The part of a path after its last `/`. And a pattern with the configuration in place of each `{}` and its file name in place of each `{/}`: it is
 -- split at each `{`, and any other `{` stays.
 abbrev pub file_name : Text → Text
 file_name path = unwrap_or (last_or None (slice_split (λ b. b == byte "/") path)) []
@@ -211,7 +211,7 @@ filled_parts config (first ∷ others) = first ++ flat_map (filled_part config) 
 abbrev pub filled : Text → Text → Text
 filled config pattern = filled_parts config (slice_split (λ b. b == byte "{") pattern)
 
--- The options of one of many configurations: those of all, with this name, and with the patterns filled. None is asked to explain a symbol.
+-- The options of one of many configurations: the shared options, with this name, and with the patterns filled in. None explains a symbol.
 pub record AreOptionsFor (each : Each) (name : Text) (options : Options) : Type 0 where
   pub root : string_bytes options.root ≡ string_bytes each.options.root
   pub config : string_bytes options.config ≡ name
@@ -241,7 +241,7 @@ pub record AreOptionsFor (each : Each) (name : Text) (options : Options) : Type 
   pub shows_difference : options.shows_difference ≡ each.options.shows_difference
   pub names_config : options.names_config ≡ each.options.names_config
 
--- The files that a configuration writes; and those that it reads for user values.
+-- The files that a configuration writes; and those from which it reads user values.
 abbrev pub filled_if : Text → Option (String Global) → List Text
 filled_if config None = []
 filled_if config (Some pattern) = filled config (string_bytes pattern) ∷ []

@@ -1,4 +1,4 @@
--- For proofs: The options hold what differs between one configuration and many, the files that are written, and the values that were checked.
+-- For proofs: The options that differ between one configuration and many, the files that are written, and the values that were checked.
 use Rattle.std.specs.Prelude.{◌≡◌, List, None, Some, codes, option_map, string_bytes, true}
 use Rattle.clap.specs.Words.{Row, first_of}
 use Rattle.kc_language.specs.ConfigFile.{is_prefix}

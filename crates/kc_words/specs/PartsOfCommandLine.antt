@@ -1,4 +1,4 @@
--- For proofs: Parts of the definitions of CommandLine, by names of their own.
+-- For proofs: Names for parts of the definitions of CommandLine.
 use Rattle.clap.specs.Words.{Row, Text}
 use Rattle.kc_language.specs.ConfigFile.{is_prefix}
 use Rattle.kc_words.specs.CommandLine.{depth_of, is_given, has_value, is_each, no_depth_text, no_prefix_text}

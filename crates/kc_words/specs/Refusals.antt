@@ -1,4 +1,4 @@
--- Trusted: What the calls of this crate answer besides: usage errors with their texts, and the names in a list.
+-- Trusted: The other results of this crate's calls: usage errors with their texts, and the names in a list.
 use Rattle.std.specs.{Prelude.{◌≡◌, ◌≢◌, ◌<◌, List, Option, None, Some, String, Vec, false, codes, length, map, string_bytes}, Str.IsUtf8, declared.alloc.Global.Global}
 use Rattle.clap.specs.{Words.{Row, Text}, declared.error.kind.ErrorKind.ErrorKind}
 use Rattle.kc_language.specs.ConfigFile.{is_prefix}
@@ -18,42 +18,42 @@ text_of usage.Version = version_text
 text_of (usage.Bad text) = string_bytes text
 text_of usage.Memory = out_of_memory_line
 
--- the names on the lines, or none where the bytes are no UTF-8
+-- the names in the lines, or none if the bytes are not UTF-8
 abbrev pub IsListOf : Text → Option (Vec (String Global) Global) → Type 0
 IsListOf bytes None = IsUtf8 bytes → ⊥
 IsListOf bytes (Some names) = IsUtf8 bytes × (map string_bytes names.items ≡ listed bytes)
 
--- what is wrong with words is told by a text that is not empty
+-- an error about arguments has a text that is not empty
 abbrev pub IsTold : UsageError → Type 0
 IsTold (usage.Bad told) = 0 < length (string_bytes told)
 IsTold _ = Unit {0}
 
--- out of memory, or words are bad
+-- out of memory, or wrong arguments
 abbrev pub IsBadWords : UsageError → Type 0
 IsBadWords (usage.Bad _) = Unit {0}
 IsBadWords usage.Memory = Unit {0}
 IsBadWords _ = ⊥
 
--- what an error of this kind is told as; any may be told as out of memory, since its text needs some
+-- the usage error for a clap error of this kind; it may always be out of memory, since its text needs some
 abbrev pub IsKindOf : ErrorKind → UsageError → Type 0
 IsKindOf k (usage.Help text) = k ≡ kind.DisplayHelp
 IsKindOf k usage.Version = k ≡ kind.DisplayVersion
 IsKindOf k (usage.Bad text) = (k ≢ kind.DisplayHelp) × (k ≢ kind.DisplayVersion) × (k ≢ kind.OutOfMemory)
 IsKindOf k usage.Memory = Unit {0}
 
--- out of memory, or this text reports that the words are bad
+-- out of memory, or this text reports wrong arguments
 abbrev pub IsBadFor : Text → UsageError → Type 0
 IsBadFor text (usage.Bad told) = string_bytes told ≡ text
 IsBadFor text usage.Memory = Unit {0}
 IsBadFor text _ = ⊥
 
--- out of memory, or the text is no prefix, and this reports it
+-- out of memory, or the text is not a prefix, and this reports it
 abbrev pub IsNoPrefix : Text → UsageError → Type 0
 IsNoPrefix text (usage.Bad told) = (is_prefix text ≡ false) × (string_bytes told ≡ no_prefix_text text)
 IsNoPrefix text usage.Memory = Unit {0}
 IsNoPrefix text _ = ⊥
 
--- out of memory, or the text is no number of steps, and this reports it
+-- out of memory, or the text is not a number of steps, and this reports it
 abbrev pub IsNoDepth : Text → UsageError → Type 0
 IsNoDepth text (usage.Bad told) = (depth_of text ≡ None) × (string_bytes told ≡ no_depth_text text)
 IsNoDepth text usage.Memory = Unit {0}
@@ -65,7 +65,7 @@ IsNoValue rows (usage.Bad told) = value_error rows ≡ Some (string_bytes told)
 IsNoValue rows usage.Memory = Unit {0}
 IsNoValue rows _ = ⊥
 
--- out of memory, or this reports what the arguments are refused for
+-- out of memory, or this reports why the arguments are refused
 abbrev pub IsNoRequest : List Row → UsageError → Type 0
 IsNoRequest rows (usage.Bad told) = refusal_of rows ≡ Some (string_bytes told)
 IsNoRequest rows usage.Memory = Unit {0}

@@ -1,4 +1,4 @@
-//! Whether the files of many configurations are apart.
+//! Whether the files of many configurations are separate.
 
 ghost use Rattle.std.specs.Prelude.{◌≡◌, false, true, IfOk, IfErr, OnOk, MatchOption, map, string_bytes};
 ghost use Rattle.std.specs.List.{list_any};
@@ -38,7 +38,7 @@ fn written_and_read(alloc: Global, name: &str) -> UsageError
     }
 }
 
-// Whether the name is one of those in the table.
+// Whether the name is in the table.
 fn holds(table: &Names, name: &str) -> bool
     ensures { result ≡ is_among name.now table.now }
 {
@@ -67,7 +67,7 @@ fn hold_all(table: &mut Names, names: &[String]) -> Result<(), AllocError>
     Ok(())
 }
 
-// The names that the configurations write, of which no two write one.
+// The names that the configurations write. Fails if two of them write the same file.
 fn names_written(alloc: Global, each: &Each, configurations: &[String]) -> Result<Names, UsageError>
     ensures ok { IfOk result (AreNamesWritten each.now (map string_bytes configurations.now)) }
     ensures err { IfErr result (IsTwice each.now (map string_bytes configurations.now)) }
@@ -95,7 +95,7 @@ fn is_one_of(names: &[String], name: &str) -> bool
     false
 }
 
-// Whether the configuration's own file is written, and by another one.
+// Whether another configuration writes this configuration's own file.
 fn is_overwritten(
     alloc: Global,
     each: &Each,
@@ -111,7 +111,7 @@ fn is_overwritten(
     Ok(!is_one_of(&names, config))
 }
 
-// No configuration's own file is written by another one.
+// Checks that no configuration's own file is written by another one.
 fn check_configurations(
     alloc: Global,
     each: &Each,
@@ -129,7 +129,7 @@ fn check_configurations(
     Ok(())
 }
 
-// No fragment is written by one of two configurations.
+// Checks that no configuration writes a fragment, if there are two or more.
 fn check_fragments(
     alloc: Global,
     each: &Each,
@@ -150,7 +150,7 @@ fn check_fragments(
     }
 }
 
-// No file that a configuration reads is written by another one.
+// Checks that no file that a configuration reads is written by another one.
 fn check_reads(
     alloc: Global,
     each: &Each,
@@ -167,7 +167,7 @@ fn check_reads(
     }
 }
 
-// Whether the files of the configurations are apart.
+// Checks that the files of the configurations are separate.
 pub(crate) fn check(alloc: Global, each: &Each, configurations: &[String]) -> Result<(), UsageError>
     ensures ok { OnOk result (AreApart each.now (map string_bytes configurations.now)) }
     ensures err { IfErr result (IsClash each.now (map string_bytes configurations.now)) }

@@ -1,4 +1,4 @@
-//! The command line as `clap` knows it.
+//! The command line as defined for `clap`.
 
 ghost use Rattle.std.specs.Prelude.{◌≡◌, IfOk};
 ghost use Rattle.clap.specs.Words.{app_of, with_rule};
@@ -7,8 +7,8 @@ ghost use Rattle.kc_words.specs.CommandLine.{empty_app, flag_rule, fragment_rule
 use clap::{Arg, ArgAction, Command};
 use std::alloc::{AllocError, Global};
 
-// The name and the version of the program, as `--version` tells them. They stand here alone. (clap is given them so that it
-// knows the option; its own text of them is not told.)
+// The name and the version of the program, as `--version` prints them. They are defined only here. (clap also gets them
+// so that it knows the option; its own text of them is not printed.)
 pub(crate) const VERSION: &str = "kconf 0.9.0\n";
 
 // The text below the options.
@@ -189,7 +189,7 @@ fn with_flag<'a>(
     )
 }
 
-// Adds the one word that has to be there.
+// Adds the one required argument.
 fn with_kconfig<'a>(alloc: Global, command: Command<'a>) -> Result<Command<'a>, AllocError>
     ensures { IfOk result (λ longer. app_of longer ≡ with_rule (app_of command.entry) kconfig_rule) }
 {
@@ -200,7 +200,7 @@ fn with_kconfig<'a>(alloc: Global, command: Command<'a>) -> Result<Command<'a>, 
     )
 }
 
-// Adds the words after it.
+// Adds the arguments after it.
 fn with_fragments<'a>(alloc: Global, command: Command<'a>) -> Result<Command<'a>, AllocError>
     ensures { IfOk result (λ longer. app_of longer ≡ with_rule (app_of command.entry) fragment_rule) }
 {

@@ -1,4 +1,4 @@
-//! How far explanations go on.
+//! How many steps an explanation has.
 
 ghost use Rattle.std.specs.Prelude.{◌≡◌, codes, false, nat_eq};
 ghost use Rattle.std.specs.List.{starts_with};
@@ -6,7 +6,7 @@ ghost use Rattle.kc_words.specs.CommandLine.{depth_of};
 
 use kc_text::read_int;
 
-// The number that a text gives which begins with no `-`.
+// The number in a text that does not start with `-`.
 #[tactic(auto, using(crate::proofs::DepthLemmas::plain_none))]
 fn plain_depth(text: &str) -> Option<usize>
     requires { starts_with nat_eq text.now (codes "-") ≡ false }
@@ -16,7 +16,7 @@ fn plain_depth(text: &str) -> Option<usize>
     usize::try_from(number).ok()
 }
 
-/// The number of steps that a text gives: one decimal digit or more and nothing else, below 2^63.
+/// Returns the number of steps in a text: decimal digits only, at least one, below 2^63.
 #[tactic(auto, using(crate::proofs::DepthLemmas::minus_none))]
 pub(crate) fn depth_of(text: &str) -> Option<usize>
     ensures { result ≡ depth_of text.now }

@@ -10,15 +10,16 @@ use kc_config_file::prefix::Prefix;
 use kc_options::Options;
 use std::alloc::{AllocError, Global};
 
-/// What is asked for each of many configurations of one tree (our own).
+/// What is requested for each of many configurations of one tree (our own).
 #[derive(Drop)]
 pub struct Each {
-    /// The options of each. Its `out`, `header`, `minimal`, `list_new`, `list_gone` and `depfile` are patterns of names, in which `{}` stands for the
-    /// configuration as given and `{/}` for its file name without the folder. Its `config` is empty.
+    /// The options of each configuration. Its `out`, `header`, `minimal`, `list_new`, `list_gone` and `depfile` are
+    /// patterns of names: `{}` is the configuration as given, and `{/}` its file name without the folder. Its `config`
+    /// is empty.
     pub options: Options,
-    /// The configurations that the words name.
+    /// The configurations in the arguments.
     pub configurations: Vec<String>,
-    /// The file whose lines name more of them.
+    /// The file whose lines name more configurations.
     pub list: Option<String>,
 }
 
@@ -40,7 +41,7 @@ fn copies_of(alloc: Global, names: &[String]) -> Result<Vec<String>, AllocError>
     Ok(copies)
 }
 
-// A copy of the name, if it is there.
+// A copy of the name, if there is one.
 fn copy_if(alloc: Global, name: &Option<String>) -> Result<Option<String>, AllocError>
     ensures { IfOk result (λ copy. option_map string_bytes copy ≡ option_map string_bytes name.now) }
 {
@@ -51,9 +52,9 @@ fn copy_if(alloc: Global, name: &Option<String>) -> Result<Option<String>, Alloc
 }
 
 impl Each {
-    /// The options of the configuration of this name. The patterns are filled: `{}` with the name as it is, `{/}` with what follows
-    /// its last `/` (as GNU parallel does). What the name itself holds is not filled again. No symbol is asked to be explained.
-    /// Its only error is to be out of memory.
+    /// Returns the options of the configuration of this name. The patterns are filled in: `{}` with the whole name,
+    /// `{/}` with the part after its last `/` (as GNU parallel does). The name itself is not filled in again. No symbol
+    /// is explained. Fails only if there is not enough memory.
     pub fn options_for(&self, alloc: Global, config: &str) -> Result<Options, AllocError>
         ensures { IfOk result (AreOptionsFor self.now config.now) }
     {
@@ -89,7 +90,7 @@ impl Each {
         })
     }
 
-    // The names of the files that a configuration writes.
+    // Returns the names of the files that a configuration writes.
     pub(crate) fn written_by(&self, alloc: Global, config: &str) -> Result<Vec<String>, AllocError>
         ensures { IfOk result (λ names. map string_bytes names.items ≡ writes self.now config.now) }
     {
@@ -103,13 +104,14 @@ impl Each {
         Ok(names)
     }
 
-    /// Whether the configurations of these names may be run one after another: no file that one of them writes is written or read
-    /// by another one. Names are compared as texts, so `./a` and `a` are two. Two texts of one configuration may have the same
-    /// name, as in a single run. It takes time in proportion to the names.
+    /// Checks that the configurations of these names can be run one after another: no file that one of them writes is
+    /// written or read by another one. Names are compared as texts, so `./a` and `a` are different. One configuration
+    /// may use the same name for two texts, as in a single run. Takes time linear in the names.
     ///
     /// # Errors
     ///
-    /// [`UsageError::Bad`] where they may not be, with such a file's name, and [`UsageError::Memory`]. They leave nothing behind.
+    /// [`UsageError::Bad`] if they cannot be run, with the name of such a file, and [`UsageError::Memory`]. They change
+    /// nothing.
     pub fn check_names(&self, alloc: Global, configurations: &[String]) -> Result<(), UsageError>
         ensures ok { OnOk result (AreApart self.now (map string_bytes configurations.now)) }
         ensures err { IfErr result (IsClash self.now (map string_bytes configurations.now)) }

@@ -1,6 +1,6 @@
-//! The command line of `kconf`: what its arguments ask for.
+//! The command line of `kconf`: what its arguments request.
 //!
-//! - [`request_of`] makes a [`Request`] of the arguments, or says by a [`UsageError`] why it cannot.
+//! - [`request_of`] makes a [`Request`] from the arguments, or returns the reason as a [`UsageError`].
 //! - [`Each`]: many configurations of one tree, named in [`list_of`] a list or as arguments.
 #![tactic(auto)]
 

@@ -20,8 +20,9 @@ fn names_of(alloc: Global, text: &str) -> Result<Vec<String>, AllocError>
     Ok(names)
 }
 
-/// The names in a list of configurations (our own): its lines, each without its line feed and one carriage return before that.
-/// Empty lines are left out. None where the bytes are no UTF-8. Its only error is to be out of memory.
+/// Returns the names in a list of configurations (our own): its lines, each without its line feed and one carriage
+/// return before that. Empty lines are left out. Returns None if the bytes are not UTF-8. Fails only if there is not
+/// enough memory.
 pub fn list_of(alloc: Global, bytes: &[u8]) -> Result<Option<Vec<String>>, AllocError>
     ensures { IfOk result (IsListOf bytes.now) }
 {

@@ -1,4 +1,4 @@
-//! What the arguments of the command line ask for.
+//! What the arguments of the command line request.
 
 ghost use Rattle.std.specs.Prelude.{◌≡◌, ◌++◌, ◌<◌, [], IfOk, IfErr, None, Some, codes, false, length, map, option_map, string_bytes, unwrap_or, true};
 ghost use Rattle.kc_language.specs.ConfigFile.{is_prefix};
@@ -17,7 +17,7 @@ use kc_config_file::prefix::Prefix;
 use kc_options::{Delivery, Options};
 use std::alloc::{AllocError, Global};
 
-/// What the arguments ask for.
+/// What the arguments request.
 #[derive(Drop)]
 pub enum Request {
     /// A run of one configuration.
@@ -26,7 +26,7 @@ pub enum Request {
     Each(Each),
 }
 
-// What differs between one configuration and many.
+// The options that differ between one configuration and many.
 #[derive(Drop)]
 struct Inputs {
     config: String,
@@ -36,7 +36,7 @@ struct Inputs {
     names_config: bool,
 }
 
-// The files that are written besides the full `.config`.
+// The files that are written in addition to the full `.config`.
 #[derive(Drop)]
 struct Outputs {
     header: Option<String>,
@@ -69,7 +69,7 @@ const EXPLAIN_AND_EACH: &str =
 const DEPFILE_WITHOUT_OUT: &str =
     "error: the argument '--depfile <FILE>' needs '--out <FILE>' with '--each'\n\nFor more information, try '--help'.\n";
 
-// The value of the argument, or what stands for an absent one.
+// The value of the argument, or the default.
 #[tactic(auto, using(crate::proofs::RowLemmas::found_rows))]
 fn text_or(
     alloc: Global,
@@ -82,7 +82,7 @@ fn text_or(
     String::from_str(alloc, matches.get_str(id).unwrap_or(absent))
 }
 
-// The value of the argument, if it is there.
+// The value of the argument, if it is set.
 #[tactic(auto, using(crate::proofs::RowLemmas::found_rows))]
 fn text_of(alloc: Global, matches: &ArgMatches<'_>, id: &str) -> Result<Option<String>, AllocError>
     ensures { IfOk result (λ text. option_map string_bytes text ≡ first_of id.now (rows_of (found_of matches.now))) }
@@ -93,7 +93,7 @@ fn text_of(alloc: Global, matches: &ArgMatches<'_>, id: &str) -> Result<Option<S
     }
 }
 
-// Whether the flag stands among the words.
+// Whether the flag is set.
 #[tactic(auto, using(crate::proofs::RowLemmas::found_rows))]
 fn flag_of(matches: &ArgMatches<'_>, id: &str) -> bool
     ensures { result ≡ is_given id.now (rows_of (found_of matches.now)) }
@@ -123,7 +123,7 @@ fn texts_of(alloc: Global, matches: &ArgMatches<'_>, id: &str) -> Result<Vec<Str
     }
 }
 
-// All values of two arguments: those of the first, and then those of the second.
+// All values of two arguments: first those of the first one.
 fn texts_of_both(
     alloc: Global,
     matches: &ArgMatches<'_>,
@@ -138,7 +138,7 @@ fn texts_of_both(
     Ok(texts)
 }
 
-// The text as a prefix, and whether strings are raw.
+// Checks a prefix, and adds whether strings are raw.
 fn prefix_of(alloc: Global, text: &str, is_raw: bool) -> Result<Prefix, UsageError>
     ensures ok { IfOk result (λ prefix. prefix ≡ record { prefix = text.now; is_raw = is_raw }) }
     ensures valid { IfOk result (λ _. is_prefix text.now ≡ true) }
@@ -152,7 +152,7 @@ fn prefix_of(alloc: Global, text: &str, is_raw: bool) -> Result<Prefix, UsageErr
     }
 }
 
-// The number of steps that the text gives.
+// Parses the number of steps.
 fn checked_depth(alloc: Global, text: &str) -> Result<usize, UsageError>
     ensures ok { IfOk result (λ depth. Some depth ≡ depth_of text.now) }
     ensures err { IfErr result (IsNoDepth text.now) }
@@ -173,14 +173,14 @@ fn has_value(matches: &ArgMatches<'_>, id: &str) -> bool
     matches.get_str(id).is_some()
 }
 
-// Whether many configurations are asked for.
+// Whether there are many configurations.
 fn is_each(matches: &ArgMatches<'_>) -> bool
     ensures { result ≡ is_each (rows_of (found_of matches.now)) }
 {
     flag_of(matches, "each") || has_value(matches, "each-from")
 }
 
-// What is reported of arguments that do not go together.
+// The error about arguments that exclude each other.
 fn exclusion_of(matches: &ArgMatches<'_>) -> Option<&'static str>
     ensures { option_map (λ text. text.now) result ≡ exclusion_of (rows_of (found_of matches.now)) }
 {
@@ -202,7 +202,7 @@ fn exclusion_of(matches: &ArgMatches<'_>) -> Option<&'static str>
     None
 }
 
-// What is done with the texts.
+// How the texts are delivered.
 fn delivery_of(matches: &ArgMatches<'_>) -> Delivery
     ensures { result ≡ unless_explained (rows_of (found_of matches.now)) Delivery.Write (delivery_of (rows_of (found_of matches.now))) }
 {
@@ -218,14 +218,14 @@ fn delivery_of(matches: &ArgMatches<'_>) -> Delivery
     }
 }
 
-// Whether the flag stands among the words, and no explanation is asked for.
+// Whether the flag is set and no explanation is requested.
 fn flag_unless_explained(matches: &ArgMatches<'_>, id: &str) -> bool
     ensures { result ≡ unless_explained (rows_of (found_of matches.now)) false (is_given id.now (rows_of (found_of matches.now))) }
 {
     !has_value(matches, "explain") && flag_of(matches, id)
 }
 
-// The file that is asked for, unless an explanation is asked for.
+// The file of the option, unless an explanation is requested.
 fn file_of(alloc: Global, matches: &ArgMatches<'_>, id: &str) -> Result<Option<String>, AllocError>
     ensures { IfOk result (λ file. option_map string_bytes file ≡ unless_explained (rows_of (found_of matches.now)) None (first_of id.now (rows_of (found_of matches.now)))) }
 {
@@ -235,7 +235,7 @@ fn file_of(alloc: Global, matches: &ArgMatches<'_>, id: &str) -> Result<Option<S
     text_of(alloc, matches, id)
 }
 
-// The file that explanations are written to, if they are asked for.
+// The file of the explanations, if they are requested.
 fn explanation_of(alloc: Global, matches: &ArgMatches<'_>) -> Result<Option<String>, AllocError>
     ensures { IfOk result (λ file. option_map string_bytes file ≡ unless_explained (rows_of (found_of matches.now)) (Some (codes "/dev/stdout")) None) }
 {
@@ -245,7 +245,7 @@ fn explanation_of(alloc: Global, matches: &ArgMatches<'_>) -> Result<Option<Stri
     Ok(None)
 }
 
-// Reads which files are written besides the full `.config`.
+// Reads which files are written in addition to the full `.config`.
 fn read_outputs(alloc: Global, matches: &ArgMatches<'_>) -> Result<Outputs, AllocError>
     ensures { IfOk result (AreOutputs (rows_of (found_of matches.now))) }
 {
@@ -259,7 +259,7 @@ fn read_outputs(alloc: Global, matches: &ArgMatches<'_>) -> Result<Outputs, Allo
     })
 }
 
-// Reads the values that may be refused: the first that is not valid is told.
+// Reads the values that may be refused. Reports the first that is not valid.
 fn read_values(alloc: Global, matches: &ArgMatches<'_>) -> Result<Values, UsageError>
     ensures ok { IfOk result (AreValues (rows_of (found_of matches.now))) }
     ensures err { IfErr result (IsNoValue (rows_of (found_of matches.now))) }
@@ -278,7 +278,7 @@ fn read_values(alloc: Global, matches: &ArgMatches<'_>) -> Result<Values, UsageE
     }
 }
 
-// Reads each field from the matches but for the inputs.
+// Reads all options except for the inputs.
 fn read_options(
     alloc: Global,
     matches: &ArgMatches<'_>,
@@ -358,7 +358,7 @@ fn read_one(alloc: Global, matches: &ArgMatches<'_>) -> Result<Options, UsageErr
     read_options(alloc, matches, inputs)
 }
 
-// Reads what is asked for each of many configurations.
+// Reads the request for many configurations.
 fn read_each(alloc: Global, matches: &ArgMatches<'_>) -> Result<Each, UsageError>
     ensures ok { IfOk result (IsEachOf (rows_of (found_of matches.now))) }
     ensures err { IfErr result (IsNoValue (rows_of (found_of matches.now))) }
@@ -382,7 +382,7 @@ fn read_each(alloc: Global, matches: &ArgMatches<'_>) -> Result<Each, UsageError
     }
 }
 
-// Reads what the matches ask for.
+// Reads the request.
 fn read_taken(alloc: Global, matches: &ArgMatches<'_>) -> Result<Request, UsageError>
     ensures ok { IfOk result (AsksFor (rows_of (found_of matches.now))) }
     ensures err { IfErr result (IsNoValue (rows_of (found_of matches.now))) }
@@ -399,7 +399,7 @@ fn read_taken(alloc: Global, matches: &ArgMatches<'_>) -> Result<Request, UsageE
     }
 }
 
-// Reads what the matches ask for, whose arguments go together.
+// Reads the request from arguments that do not exclude each other.
 fn read_request(alloc: Global, matches: &ArgMatches<'_>) -> Result<Request, UsageError>
     ensures ok { IfOk result (IsRequestOf (rows_of (found_of matches.now))) }
     ensures err { IfErr result (IsNoRequest (rows_of (found_of matches.now))) }
@@ -413,7 +413,7 @@ fn read_request(alloc: Global, matches: &ArgMatches<'_>) -> Result<Request, Usag
     }
 }
 
-// What is reported of words that clap does not take: its text, or where that is empty one of our own.
+// The error about arguments that clap does not accept: its text, or our own if that is empty.
 fn bad_words(alloc: Global, text: String) -> UsageError
     ensures told { IsTold result }
     ensures bad { IsBadWords result }
@@ -425,7 +425,7 @@ fn bad_words(alloc: Global, text: String) -> UsageError
     }
 }
 
-// What an error of the parse is.
+// The usage error for an error of clap.
 fn usage_of(alloc: Global, error: &Error) -> UsageError
     ensures kind { IsKindOf (kind_of error.now) result }
     ensures told { IsTold result }
@@ -443,40 +443,42 @@ fn usage_of(alloc: Global, error: &Error) -> UsageError
     }
 }
 
-/// Reads the arguments after the program's name, as the command line
-/// `[--root DIR] [--flat] [--include DIR] [--config FILE] [--out FILE] [--header FILE] [--savedefconfig FILE] [--list-new FILE] [--with-help] [--list-gone FILE]
+/// Reads the arguments after the program's name, as the command line `[--root DIR] [--flat] [--include DIR] [--config
+/// FILE] [--out FILE] [--header FILE] [--savedefconfig FILE] [--list-new FILE] [--with-help] [--list-gone FILE]
 /// [--depfile FILE] [--prefix TEXT] [--must-exist] [--strict] [--strict-tree] [--quiet-tree] [--hints] [--warn-lost]
-/// [--explain-lost] [--explain NAME ..] [--explain-depth N] [--replace] [--check] [--diff] [--fragment FILE ..] KCONFIG [FRAGMENT ..]`,
-/// `.. [--each] [--each-from FILE] .. KCONFIG [CONFIGURATION ..]`, `--help`, `-h`, `--version` or `-V`
-/// (our own; the arguments are read as Rust's `clap` reads them, whose documentation has the rules).
+/// [--explain-lost] [--explain NAME ..] [--explain-depth N] [--replace] [--check] [--diff] [--fragment FILE ..] KCONFIG
+/// [FRAGMENT ..]`, `.. [--each] [--each-from FILE] .. KCONFIG [CONFIGURATION ..]`, `--help`, `-h`, `--version` or `-V`
+/// (our own; Rust's `clap` reads the arguments, and its documentation has the rules).
 ///
-/// Each field is what the arguments hold, or for an absent option: root `.`, config `.config`, out the file of `--config`, prefix
-/// `CONFIG_`, include, header, minimal, the two lists and depfile none, explain depth 3, each flag false; the texts are
-/// written, or with `--replace` replaced, or with `--check` compared. The files of `--fragment` follow the others.
+/// Each field has the value of its argument, or the default: root `.`, config `.config`, out the file of `--config`,
+/// prefix `CONFIG_`, include, header, minimal, the two lists and depfile none, explain depth 3, each flag false. The
+/// texts are written; with `--replace` they are replaced, with `--check` compared. The files of `--fragment` come after
+/// the other fragments.
 ///
-/// With `--explain` the explanation is written to `/dev/stdout`, and nothing else is written, whatever else is given: out, header,
-/// minimal, the two lists and depfile are none, nothing is strict, the texts are neither replaced nor compared, and no difference is shown.
+/// With `--explain` the explanation is written to `/dev/stdout`, and nothing else is written, whatever other options
+/// are set: out, header, minimal, the two lists and depfile are none, nothing is strict, the texts are neither replaced
+/// nor compared, and no difference is shown.
 ///
-/// With `--each` or `--each-from` each argument after KCONFIG is a configuration of its own, and the fragments are those of
-/// `--fragment` alone. A configuration has to exist. Without `--out` no full `.config` is written.
+/// With `--each` or `--each-from` each argument after KCONFIG is a configuration of its own, and only the files of
+/// `--fragment` are fragments. A configuration must exist. Without `--out` no full `.config` is written.
 ///
 /// # Errors
 ///
-/// Those of [`UsageError`]. They leave nothing behind. `--check` and `--replace` exclude each other; `--diff` needs `--check`; `--config` and
-/// `--each` or `--each-from` exclude each other, as do `--explain` and these; `--depfile` needs `--out` beside them. The first of these faults is told, and after
-/// them the prefix and the depth.
+/// Those of [`UsageError`]. They change nothing. `--check` and `--replace` exclude each other; `--diff` needs
+/// `--check`; `--config` and `--each` or `--each-from` exclude each other, as do `--explain` and these; `--depfile`
+/// needs `--out` together with them. The first of these errors is reported; the prefix and the depth are checked after
+/// them.
 #[inline(never)]
 pub fn request_of(alloc: Global, words: &[String]) -> Result<Request, UsageError>
-    // Each field is what the arguments hold, or what an absent option means.
+    // Each field has the value of its argument, or the default.
     ensures ok { IfOk result (IsRequestOf (rows_for words.now)) }
-    // A request is given only where clap finds no fault in the arguments.
+    // A request is returned only if clap accepts the arguments.
     ensures faultless { IfOk result (λ _. fault_of kconf_app (arguments_of words.now) ≡ []) }
-    // Help and the version only where clap finds that they are asked for, Bad only for another of its faults or for what the
-    // arguments hold.
+    // Help and Version are returned only if clap finds their options, Bad only for another error of clap or of ours.
     ensures refused { IfErr result (IsRefused (fault_of kconf_app (arguments_of words.now)) (rows_for words.now)) }
-    // What is wrong with the arguments is told.
+    // An error about the arguments has a text.
     ensures told { IfErr result IsTold }
-    // Arguments that the command takes, and that are not refused for what they hold, fail only when out of memory.
+    // Arguments that the command accepts and that are not refused fail only if there is not enough memory.
     ensures taken { takes kconf_app (arguments_of words.now) ≡ true → refusal_of (rows_for words.now) ≡ None → IfErr result (λ usage. usage ≡ UsageError.Memory) }
 {
     let command = command(alloc)?;

@@ -1,11 +1,11 @@
-//! Patterns of names, and what they give for one configuration.
+//! Patterns of names, filled in for one configuration.
 
 ghost use Rattle.std.specs.Prelude.{◌≡◌, ◌++◌, IfOk, OnOk, string_bytes, option_map, map};
 ghost use Rattle.kc_words.specs.CommandLine.{filled_if, file_name, filled, filled_part};
 
 use std::alloc::{AllocError, Global};
 
-// What follows the last `/`.
+// The part after the last `/`.
 fn file_name(path: &str) -> &str
     ensures { result.now ≡ file_name path.now }
 {
@@ -16,7 +16,7 @@ fn file_name(path: &str) -> &str
     name
 }
 
-// Adds a part of a pattern that stands behind a `{`.
+// Adds a part of a pattern after a `{`.
 fn push_part(made: &mut String, config: &str, part: &str) -> Result<(), AllocError>
     ensures { OnOk result (string_bytes made.new ≡ string_bytes made.old ++ filled_part config.now part.now) }
 {
@@ -49,7 +49,7 @@ pub(crate) fn filled(alloc: Global, config: &str, pattern: &str) -> Result<Strin
     Ok(made)
 }
 
-// The same of a pattern that may be there.
+// The same for an optional pattern.
 pub(crate) fn filled_if(
     alloc: Global,
     config: &str,
@@ -63,7 +63,7 @@ pub(crate) fn filled_if(
     }
 }
 
-// Adds the name of a file that may be asked for.
+// Adds the name of an optional file.
 pub(crate) fn push_filled(
     alloc: Global,
     config: &str,

@@ -1,4 +1,4 @@
-//! Why words give no options.
+//! Why arguments give no options.
 
 ghost use Rattle.std.specs.Prelude.{◌≡◌};
 ghost use Rattle.kc_words.specs.Refusals.{IsBadFor, text_of};
@@ -8,20 +8,20 @@ use crate::command::VERSION;
 use kc_diagnostics::run_error::out_of_memory;
 use std::alloc::{AllocError, Global};
 
-/// Why words give no options, or configurations are no runs.
+/// Why arguments give no options, or configurations cannot be run.
 ///
-/// The help and what is wrong with words that the command does not take are texts of `clap`'s, of which no clause speaks but
-/// that the second is not empty: they are tested. The other texts are our own, and clauses say them.
+/// The help, and the text about arguments that the command does not accept, come from `clap`. Of these the contracts
+/// say only that the second is not empty: tests check them. The other texts are our own and are specified.
 #[derive(Debug, Drop)]
 pub enum UsageError {
-    /// The words ask for help, by `--help` or `-h`: the help, for standard output.
+    /// `--help` or `-h` is set. Holds the help, for standard output.
     Help(String),
-    /// The words ask for the version, by `--version` or `-V`: the program's name and version, for standard output.
+    /// `--version` or `-V` is set. The text is the program's name and version, for standard output.
     Version,
-    /// The command does not take the words, they do not go together, the prefix is none, or the files of two configurations
-    /// are not apart: what is wrong, for standard error. It is never empty.
+    /// The command does not accept the arguments, they exclude each other, the prefix is not valid, or the files of two
+    /// configurations are not separate. Holds the error text, for standard error. It is never empty.
     Bad(String),
-    /// E20: a growth was refused.
+    /// E20: there was not enough memory.
     Memory,
 }
 
@@ -46,7 +46,7 @@ impl UsageError {
     }
 }
 
-// The words are bad for this reason.
+// Returns the error with this text.
 pub(crate) fn bad(alloc: Global, text: &str) -> UsageError
     ensures { IsBadFor text.now result }
 {

@@ -1,5 +1,5 @@
-//! The program `kconf`: reads a tree of Kconfig files and a `.config`, and writes the full `.config`, and where they are
-//! wanted a C header, a minimal `.config` and a rule for make.
+//! The program `kconf`: reads a tree of Kconfig files and a `.config`, and writes the full `.config` and, on request, a
+//! C header, a minimal `.config` and a dependency file for make.
 #![tactic(auto)]
 
 use kc_disk::{Arguments, exit_status, kconf};

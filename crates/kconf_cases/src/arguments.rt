@@ -1,8 +1,8 @@
-//! The arguments of a case, and those of a second run on what the first one wrote.
+//! The arguments of a case, and those of a second run on the output of the first.
 
 use std::alloc::{AllocError, Global};
 
-/// Returns the arguments that a text holds, one a line.
+/// Returns the arguments in a text, one in each line.
 pub(crate) fn arguments_of(alloc: Global, text: &str) -> Result<Vec<String>, AllocError> {
     let mut arguments = Vec::new(alloc);
     for line in text.lines() {
@@ -11,15 +11,15 @@ pub(crate) fn arguments_of(alloc: Global, text: &str) -> Result<Vec<String>, All
     Ok(arguments)
 }
 
-// What the second run makes of an option.
+// What the second run does with an option.
 enum Role {
-    // It stays, with its value.
+    // Keeps it, with its value.
     Kept,
-    // It goes, with its value.
+    // Drops it, with its value.
     Dropped,
-    // It stays, and holds its value.
+    // Keeps it; the value is in the same argument.
     Whole,
-    // It goes, with the value that it may hold.
+    // Drops it, with a value in the same argument.
     Flag,
 }
 
@@ -76,7 +76,7 @@ pub(crate) fn rerun_arguments(
                     Role::Flag => false,
                 }
             }
-            // The first other word is the root file; fragments follow it.
+            // The first other argument is the root file; fragments follow it.
             None => {
                 arguments.push(String::from_str(alloc, line)?)?;
                 return Ok(arguments);

@@ -1,4 +1,4 @@
-//! A case: its run, and a second run on what it wrote.
+//! A case: its run, and a second run on its output.
 
 use crate::arguments::{arguments_of, rerun_arguments};
 use crate::compare::is_same;
@@ -7,7 +7,7 @@ use crate::outcome::{Answer, bytes_of, is_as_written};
 use kc_disk::{Arguments, SystemDevice, exit_status, kconf_with};
 use std::{env, fs, io};
 
-// What a second run writes.
+// The output of a second run.
 const AGAIN: &str = "again.config";
 
 // Runs with these arguments in the current folder.
@@ -21,14 +21,14 @@ fn run(rt: &HostRuntime, arguments: &Arguments) -> Answer {
     }
 }
 
-// Runs the case whose folder is the current one, whose arguments are these lines.
+// Runs the case whose folder is the current one, with these lines as arguments.
 fn holds_once(rt: &HostRuntime, case: &str, text: &str, before: &[Entry]) -> io::Result<bool> {
     let arguments = Arguments::Given(arguments_of(rt.alloc(), text)?);
     let answer = run(rt, &arguments);
     is_as_written(rt, case, before, &answer)
 }
 
-// Tells whether the file `AGAIN`, which goes, holds what the file at this path holds.
+// Returns whether the file `AGAIN` has the same content as the file at this path. Removes `AGAIN`.
 fn is_again(rt: &HostRuntime, case: &str, config: &str, path: &str) -> io::Result<bool> {
     let Some(expected) = bytes_of(rt, path)? else {
         return Ok(true);
@@ -45,7 +45,7 @@ fn is_again(rt: &HostRuntime, case: &str, config: &str, path: &str) -> io::Resul
     Ok(true)
 }
 
-// Runs the same tree on this file, which the first run wrote.
+// Runs on the same tree with this file, which the first run wrote.
 fn holds_again(
     rt: &HostRuntime,
     case: &str,
@@ -58,7 +58,7 @@ fn holds_again(
     is_again(rt, case, config, path)
 }
 
-// Runs the same tree on the `.config` and on the minimal file, if the first run wrote them.
+// Runs on the same tree with the `.config` and with the minimal file, if the first run wrote them.
 fn holds_on_outputs(
     rt: &HostRuntime,
     case: &str,
@@ -83,7 +83,7 @@ fn holds_on_outputs(
     Ok(holds)
 }
 
-// Runs the case whose folder is the current one, and then on what it wrote.
+// Runs the case whose folder is the current one, and then runs on its output.
 fn holds(rt: &HostRuntime, case: &str) -> io::Result<bool> {
     let text = fs::read_to_string(rt, "arguments")?;
     let before = entries_here(rt)?;
@@ -93,7 +93,8 @@ fn holds(rt: &HostRuntime, case: &str) -> io::Result<bool> {
     )
 }
 
-/// Runs the case in its folder below `top`, and prints a line for it. Tells whether it holds; a case that cannot be run does not.
+/// Runs the case in its folder below `top`, and prints a line for it. Returns whether it holds; a case that cannot be
+/// run does not.
 pub(crate) fn run_case(rt: &HostRuntime, top: &str, case: &str) -> io::Result<bool> {
     let is_there = env::set_current_dir(rt, case).is_ok();
     let is_held = match holds(rt, case) {

@@ -1,8 +1,8 @@
-//! Two texts side by side.
+//! Comparison of two texts.
 
 use std::io;
 
-// Returns the first place at which the texts differ, or where the shorter one ends.
+// Returns the first position at which the texts differ, or the end of the shorter one.
 fn first_difference(left: &[u8], right: &[u8]) -> usize {
     let end = left.len().min(right.len());
     for i in 0..end {
@@ -13,7 +13,7 @@ fn first_difference(left: &[u8], right: &[u8]) -> usize {
     end
 }
 
-// Returns the bytes from this place to the end of the line.
+// Returns the bytes from this position to the end of the line.
 fn rest_of_line(text: &[u8], from: usize) -> &[u8] {
     if from > text.len() {
         return b"";
@@ -27,7 +27,7 @@ fn rest_of_line(text: &[u8], from: usize) -> &[u8] {
     rest
 }
 
-// Returns where the line of this place begins, and its number.
+// Returns the start of the line at this position, and its number.
 fn line_of(text: &[u8], at: usize) -> (usize, u64) {
     let mut start = 0;
     let mut number: u64 = 1;
@@ -61,7 +61,7 @@ fn print_difference(
     print_line(rt, "+", rest_of_line(found, start))
 }
 
-/// Tells whether the texts are the same, where `None` is no file, and prints the first difference.
+/// Returns whether the texts are the same, where `None` is no file, and prints the first difference.
 pub(crate) fn is_same(
     rt: &HostRuntime,
     case: &str,

@@ -1,4 +1,4 @@
-//! What lies in folders.
+//! The content of folders.
 
 use std::fs::FileType;
 use std::{fs, io};
@@ -23,7 +23,7 @@ fn entry_at(rt: &HostRuntime, folder: &str, name: &str, kind: FileType) -> io::R
     })
 }
 
-// Adds what lies in the folder, which is the current one where its path is empty.
+// Adds the entries of the folder, which is the current one if its path is empty.
 fn add_entries(rt: &HostRuntime, folder: &str, entries: &mut Vec<Entry>) -> io::Result<()> {
     let listed = fs::read_dir(rt, if folder.is_empty() { "." } else { folder })?;
     for entry in listed {
@@ -34,14 +34,14 @@ fn add_entries(rt: &HostRuntime, folder: &str, entries: &mut Vec<Entry>) -> io::
     Ok(())
 }
 
-/// Returns what lies in the folder, in no order.
+/// Returns the entries of the folder, in no order.
 pub(crate) fn entries_of(rt: &HostRuntime, folder: &str) -> io::Result<Vec<Entry>> {
     let mut entries = Vec::new(rt.alloc());
     add_entries(rt, folder, &mut entries)?;
     Ok(entries)
 }
 
-// Adds what lies in the folders among the entries of this range.
+// Adds the entries of the folders among the entries of this range.
 fn add_below(rt: &HostRuntime, from: usize, to: usize, entries: &mut Vec<Entry>) -> io::Result<()> {
     for at in from..to {
         if at < entries.len() && entries[at].is_folder {
@@ -52,7 +52,7 @@ fn add_below(rt: &HostRuntime, from: usize, to: usize, entries: &mut Vec<Entry>)
     Ok(())
 }
 
-/// Returns what lies in the current folder, in its folders and in theirs, in no order.
+/// Returns the entries of the current folder, of its folders and of theirs, in no order.
 pub(crate) fn entries_here(rt: &HostRuntime) -> io::Result<Vec<Entry>> {
     let mut entries = entries_of(rt, "")?;
     let here = entries.len();
@@ -62,7 +62,7 @@ pub(crate) fn entries_here(rt: &HostRuntime) -> io::Result<Vec<Entry>> {
     Ok(entries)
 }
 
-/// Tells whether one of the entries is a file at this path.
+/// Returns whether one of the entries is a file at this path.
 pub(crate) fn has_file(entries: &[Entry], path: &str) -> bool {
     entries
         .iter()

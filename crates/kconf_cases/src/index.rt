@@ -3,7 +3,7 @@
 use crate::folders::{Entry, entries_of};
 use std::io;
 
-/// Returns the name of the case in a line of the index: what stands before the first blank.
+/// Returns the name of the case in a line of the index: the text before the first blank.
 pub(crate) fn case_name(line: &str) -> &str {
     match line.split_once(' ') {
         Some((name, _)) => name,
@@ -20,7 +20,7 @@ fn is_listed(index: &str, name: &str) -> bool {
     false
 }
 
-// Prints each of these entries that the index does not name, and returns how many they are.
+// Prints each of these entries that is not in the index, and returns their number.
 fn report_among(rt: &HostRuntime, index: &str, entries: &[Entry]) -> io::Result<u64> {
     let mut count: u64 = 0;
     for entry in entries {
@@ -33,7 +33,7 @@ fn report_among(rt: &HostRuntime, index: &str, entries: &[Entry]) -> io::Result<
     Ok(count)
 }
 
-/// Prints each case that has a folder and no line in the index, and returns how many they are.
+/// Prints each case that has a folder and no line in the index, and returns their number.
 pub(crate) fn report_unlisted(rt: &HostRuntime, index: &str) -> io::Result<u64> {
     let mut count: u64 = 0;
     let families = entries_of(rt, "")?;

@@ -1,6 +1,6 @@
-//! Runs the cases of `data/`: each in its own folder, and compares what it leaves with the folder's `expect`.
+//! Runs the cases of `data/`, each in its own folder, and compares the results with the folder's `expect`.
 //!
-//! `data/index` names the cases, one a line, each with a sentence. README.md says how a case is laid out.
+//! `data/index` lists the cases, one in each line, each with a sentence. README.md describes the files of a case.
 #![tactic(auto)]
 
 mod arguments;

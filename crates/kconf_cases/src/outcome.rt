@@ -1,11 +1,11 @@
-//! What a case left, beside what its folder `expect` has.
+//! The results of a case, compared with its folder `expect`.
 
 use crate::compare::is_same;
 use crate::folders::{Entry, entries_here, has_file};
 use std::io::ErrorKind;
 use std::{fs, io};
 
-// Files that a run writes by these names: each is there afterwards only if `expect` has it.
+// The names of files that a run writes: each exists afterwards only if `expect` has it.
 const OUTPUTS: [&str; 6] = [
     ".config",
     "autoconf.h",
@@ -15,14 +15,14 @@ const OUTPUTS: [&str; 6] = [
     "configured.d",
 ];
 
-/// What a run answered.
+/// The status and diagnostics of a run.
 #[derive(Drop)]
 pub(crate) struct Answer {
     pub status: u8,
     pub diagnostics: Vec<u8>,
 }
 
-/// Returns the bytes of a file, or `None` if there is none. A folder is no file.
+/// Returns the bytes of a file, or `None` if it does not exist. A folder is not a file.
 pub(crate) fn bytes_of(rt: &HostRuntime, path: &str) -> io::Result<Option<Vec<u8>>> {
     match fs::read(rt, path) {
         Ok(bytes) => Ok(Some(bytes)),
@@ -32,7 +32,7 @@ pub(crate) fn bytes_of(rt: &HostRuntime, path: &str) -> io::Result<Option<Vec<u8
     }
 }
 
-// Tells whether this is the text of the file of `expect`, or the usual one where it has none.
+// Returns whether this is the text of the file in `expect`, or the default if there is no such file.
 fn is_text(
     rt: &HostRuntime,
     case: &str,
@@ -57,7 +57,7 @@ fn is_status(rt: &HostRuntime, case: &str, status: u8) -> io::Result<bool> {
     is_text(rt, case, "status", "expect/status", b"0\n", text)
 }
 
-// Tells whether the file holds what the file of `expect` holds, or both are missing.
+// Returns whether the file has the same content as the one in `expect`, or both are missing.
 fn is_file(rt: &HostRuntime, case: &str, name: &str, expected: Option<&[u8]>) -> io::Result<bool> {
     match bytes_of(rt, name)? {
         Some(found) => is_same(rt, case, name, expected, Some(&found)),
@@ -65,7 +65,7 @@ fn is_file(rt: &HostRuntime, case: &str, name: &str, expected: Option<&[u8]>) ->
     }
 }
 
-// Tells whether the file that the path of a file of `expect` names holds the same.
+// Returns whether the file that a file of `expect` stands for has the same content.
 fn is_as_expected(rt: &HostRuntime, case: &str, name: &str, path: &str) -> io::Result<bool> {
     match bytes_of(rt, path)? {
         Some(expected) => is_file(rt, case, name, Some(&expected)),
@@ -73,7 +73,7 @@ fn is_as_expected(rt: &HostRuntime, case: &str, name: &str, path: &str) -> io::R
     }
 }
 
-// Tells whether the files of `expect` are there with the same bytes.
+// Returns whether the files of `expect` exist with the same bytes.
 fn are_expected(rt: &HostRuntime, case: &str, entries: &[Entry]) -> io::Result<bool> {
     let mut holds = true;
     for entry in entries {
@@ -95,7 +95,7 @@ fn is_expected_in(entries: &[Entry], name: &str) -> bool {
     false
 }
 
-// Tells whether this file may be there: `expect` has it, or it was there before and is no output.
+// Returns whether this file may exist: `expect` has it, or it existed before and is not an output.
 fn may_stay(before: &[Entry], name: &str) -> bool {
     if is_expected_in(before, name) {
         return true;
@@ -103,7 +103,7 @@ fn may_stay(before: &[Entry], name: &str) -> bool {
     has_file(before, name) && !OUTPUTS.iter().any(|output| *output == name)
 }
 
-// Tells whether no file is there besides those of the case and of `expect`.
+// Returns whether there are no files other than those of the case and of `expect`.
 fn is_nothing_else(rt: &HostRuntime, case: &str, before: &[Entry]) -> io::Result<bool> {
     let mut holds = true;
     let after = entries_here(rt)?;
@@ -117,7 +117,8 @@ fn is_nothing_else(rt: &HostRuntime, case: &str, before: &[Entry]) -> io::Result
     Ok(holds)
 }
 
-/// Tells whether the status, the diagnostics and the files are those of the folder `expect`, and prints what differs.
+/// Returns whether the status, the diagnostics and the files are those of the folder `expect`, and prints the
+/// differences.
 pub(crate) fn is_as_written(
     rt: &HostRuntime,
     case: &str,

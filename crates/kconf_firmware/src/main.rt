@@ -1,4 +1,4 @@
-//! `kconf` on the firmware tree of `data/`: what each run answers, and the files that it leaves.
+//! `kconf` on the firmware tree of `data/`: the status of each run, and the files that it writes.
 #![tactic(auto)]
 
 use kc_disk::{Arguments, exit_status, kconf};
@@ -7,7 +7,7 @@ use std::os::unix::fs::MetadataExt;
 use std::time::SystemTime;
 use std::{fs, io};
 
-// Runs that write nothing: a bad command line, refused trees, and devices that fail.
+// Runs that write nothing: a usage error, refused trees, and devices that fail.
 const WITHOUT_FILES: [&str; 9] = [
     "--out bad.config",
     "--out bad.config none/Kconfig",
@@ -20,7 +20,8 @@ const WITHOUT_FILES: [&str; 9] = [
     "--must-exist --config absent.config --out bad.config Kconfig",
 ];
 
-// Runs with --replace on one file: it is made, its text stays, other text takes its place, and warnings are refused.
+// Runs with --replace on one file: it is created, it stays the same, it is replaced by another text, and warnings are
+// refused.
 const REPLACES: [&str; 5] = [
     "--replace --config start.config --out kept.config Kconfig site.config",
     "--replace --config start.config --out kept.config Kconfig site.config",
@@ -29,17 +30,17 @@ const REPLACES: [&str; 5] = [
     "--replace --config start.config --out kept.config Kconfig none.cfg",
 ];
 
-// Words that ask for no run.
+// Arguments that do not request a run.
 const ANSWERS: [&str; 2] = ["--help", "--version"];
 
-// Which file lies in a place, and when it was written.
+// The identity of a file, and when it was written.
 #[derive(Clone, Copy, PartialEq)]
 struct Placed {
     inode: u64,
     written: SystemTime,
 }
 
-// The arguments between the blanks.
+// The arguments, separated by blanks.
 fn arguments_of(alloc: Global, line: &str) -> Result<Vec<String>, AllocError> {
     let mut arguments = Vec::new(alloc);
     for word in line.split(' ') {
@@ -61,7 +62,7 @@ fn show(rt: &HostRuntime, name: &str) -> io::Result<()> {
     print!(rt; "== {name}\n{text}")
 }
 
-// What lies in a place, if anything does.
+// The file of this name, if it exists.
 fn file_in(rt: &HostRuntime, name: &str) -> io::Result<Option<Placed>> {
     if !fs::exists(rt, name)? {
         return Ok(None);
@@ -73,8 +74,8 @@ fn file_in(rt: &HostRuntime, name: &str) -> io::Result<Option<Placed>> {
     }))
 }
 
-// Runs with --replace, and prints of each whether the file in the place is another one then. A link to the file that the first
-// one made shows that it is not written to.
+// Runs with --replace, and prints for each run whether the file was replaced. A link to the first file shows that this
+// file is not written again.
 fn replace(rt: &HostRuntime) -> io::Result<()> {
     for line in REPLACES {
         let before = file_in(rt, "kept.config")?;
@@ -92,8 +93,8 @@ fn replace(rt: &HostRuntime) -> io::Result<()> {
     println!(rt; "kept.config is plain.config: {is_plain}")
 }
 
-// Runs with --replace on a place that holds half of its text, and then on one that holds its text and a byte more: each time
-// another file takes it.
+// Runs with --replace on a file that holds half of its text, and then on one that holds its text and one more byte:
+// both are replaced.
 fn replace_other_texts(rt: &HostRuntime) -> io::Result<()> {
     let whole = fs::read(rt, "full.config")?;
     let half = whole.len() / 2;
@@ -111,7 +112,7 @@ fn replace_other_texts(rt: &HostRuntime) -> io::Result<()> {
     Ok(())
 }
 
-// Runs on a choice made for an older release, on what that gives, and on nothing, and shows what each writes.
+// Runs on a choice made for an older release, on the result of that, and on nothing, and shows what each run writes.
 fn first_runs(rt: &HostRuntime) -> io::Result<()> {
     run(
         rt,
@@ -135,7 +136,7 @@ fn first_runs(rt: &HostRuntime) -> io::Result<()> {
     show(rt, "rule.d")
 }
 
-// Runs with more fragments than a process may have open files, each of which is an empty line.
+// Runs with more fragments than the number of files that a process may have open. Each fragment is an empty line.
 fn many_fragments(rt: &HostRuntime) -> io::Result<()> {
     fs::write(rt, "empty.config", b"\n")?;
     let mut arguments = arguments_of(rt.alloc(), "--config defconfig --out many.config Kconfig")?;
@@ -148,7 +149,7 @@ fn many_fragments(rt: &HostRuntime) -> io::Result<()> {
     println!(rt; "status {status}: 1100 fragments; many.config is full.config: {is_same}")
 }
 
-// Runs over the small trees in the folder rows.
+// Runs on the small trees in the folder rows.
 fn small_runs(rt: &HostRuntime) -> io::Result<()> {
     run(
         rt,
