@@ -303,7 +303,7 @@ pub(crate) fn parts_value(solved: &Solved<'_>, parts: &[ConditionPart<'_>]) -> T
 }
 
 // The value of an own condition; y without one.
-#[tactic(auto, using(crate::proofs::PartLemmas::lesser_y))]
+#[tactic(auto, using(kc_values::proofs::TriLemmas::lesser_y))]
 fn own_value(solved: &Solved<'_>, at: usize, when: Option<&Expr>) -> Tri
     ensures { result ≡ rules.parts_value solved.now.tree (known solved.now)
         (map (rules.worth at) (whole.listed (option_map (λ e. form_of e.now) when.entry))) }
@@ -321,7 +321,7 @@ fn own_value(solved: &Solved<'_>, at: usize, when: Option<&Expr>) -> Tri
 }
 
 // The lesser of a value and of what an entry depends on, which is looked at only if the value is not n.
-#[tactic(auto, using(crate::proofs::PartLemmas::lesser_n))]
+#[tactic(auto, using(kc_values::proofs::TriLemmas::lesser_n))]
 fn under_dependency(
     alloc: Global,
     lines: &Lines<'_>,
