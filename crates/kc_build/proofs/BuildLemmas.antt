@@ -23,7 +23,7 @@ use Rattle.kc_read.specs.PartsOfSymbols.{tree_of_lines}
 use Rattle.kc_read.specs.ListFacts.{AreBelow, AreChoicesApart, AreMenusOpened, AreTypesDefined}
 use Rattle.kc_build.specs.Listings.{IsListing}
 use Rattle.kc_build.specs.Passes.{statements_in}
-use Rattle.kc_tree.specs.TreeFacts.{IsWellFormed}
+use Rattle.kc_read.specs.WellFormed.{IsWellFormed}
 use Rattle.kc_tree.specs.declared.layout.TreeParts.{TreeParts}
 use Rattle.kc_build.specs.Trees.{OneTree}
 use Rattle.kc_read.proofs.DefinedLemmas.{AreNames, expanded_allowed, expanded_known, numbered_typed}

@@ -15,6 +15,7 @@ use Rattle.kc_tree.specs.declared.rows.Symbol.{Symbol}
 use Rattle.kc_language.specs.declared.symbols.LineWarning.{LineWarning as Warning}
 use Rattle.kc_language.specs.Symbols.{listed, type_of, choice_of, enclosing_choice, definitions_of, stated_default, single_symbol, symbol_at, is_selectable, is_first_definition_at, menu_entry_at}
 use Rattle.kc_read.specs.PartsOfSymbols.{line_warnings_by}
+pub use Rattle.kc_tree.specs.LineParts.{default_symbol}
 use Rattle.kc_tree.specs.Spans.{definition_ids}
 use Rattle.kc_read.specs.ListFacts.{AreBelow}
 
@@ -80,7 +81,3 @@ pub record IsEntrySummary (ss : List Numbered) (i : ℕ) (p : EntrySummary) : Ty
 -- the warnings about a line, by what is known of the symbols and by the summary of its entry
 abbrev pub line_warnings_in : List Symbol → EntrySummary → Bool → Numbered → List Warning
 line_warnings_in symbols p prompted = line_warnings_by (type_by symbols) (choice_by symbols) (member_by symbols) p.entry prompted p.first
-
--- the symbol that a default names alone
-abbrev pub default_symbol : Numbered → Option SymId
-default_symbol s = option_and_then (λ g. single_symbol g.value) (stated_default s)

@@ -2,7 +2,7 @@
 use Rattle.std.specs.Prelude.{◌≡◌, ℕ, List, Result, Ok}
 use Rattle.kc_language.specs.Expansion.{Files, Refused}
 use Rattle.kc_language.specs.Symbols.{TreeFacts, IsTreeOf}
-use Rattle.kc_tree.specs.TreeFacts.{IsWellFormed}
+use Rattle.kc_read.specs.WellFormed.{IsWellFormed}
 
 -- a root file gives at most one tree or refusal
 abbrev pub OneTree : Type 0

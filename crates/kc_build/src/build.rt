@@ -14,9 +14,11 @@ ghost use Rattle.kc_build.specs.PartsView.{parts_view};
 ghost use Rattle.kc_build.specs.Passes.{statements_in};
 ghost use Rattle.kc_read.specs.ListFacts.{AreBelow, AreChoicesApart, AreMenusOpened, AreTypesDefined};
 
-use crate::entries::walk_entries;
+use crate::blocks::{Blocks, blocks_of, main_menu_of};
+use crate::diagnostics::diagnose;
 use crate::listing::Listing;
-use crate::settle::{Settled, settle};
+use crate::selectors::selectors_of;
+use crate::symbols::{definitions_of, give_choices};
 use kc_expr::expression::SymId;
 use kc_expr::names::Names;
 use kc_read::entries::Entries;
@@ -61,36 +63,44 @@ fn check_names(count: usize) -> Result<(), AllocError>
 fn build_parts(
     alloc: Global,
     names: &Names,
-    entries: &Entries,
+    entries: Entries,
     defined: Vec<SymId>,
     modules: Option<SymId>,
 ) -> Result<Result<TreeParts, Refusal>, AllocError>
-    requires below { AreBelow (length names.now) (statements_in entries.now) }
-    requires types { AreTypesDefined (statements_in entries.now) }
-    requires apart { AreChoicesApart (statements_in entries.now) }
-    requires ends { AreMenusOpened (statements_in entries.now) }
-    requires defined { defined.items ≡ defined_symbols (statements_in entries.now) }
-    requires modules { modules ≡ modules_symbol names.now (statements_in entries.now) }
-    requires few { 8 * length (lines_in entries.now) + 8 < 2 ^ 32 }
-    ensures { IfOk result (λ s. parts_view names.now s ≡ tree_with names.now (lines_in entries.now)) }
+    requires below { AreBelow (length names.now) (statements_in entries) }
+    requires types { AreTypesDefined (statements_in entries) }
+    requires apart { AreChoicesApart (statements_in entries) }
+    requires ends { AreMenusOpened (statements_in entries) }
+    requires defined { defined.items ≡ defined_symbols (statements_in entries) }
+    requires modules { modules ≡ modules_symbol names.now (statements_in entries) }
+    requires few { 8 * length (lines_in entries) + 8 < 2 ^ 32 }
+    ensures { IfOk result (λ s. parts_view names.now s ≡ tree_with names.now (lines_in entries)) }
 {
     let count = names.count();
     check_names(count)?;
-    let walked = walk_entries(alloc, entries, count, defined.len())?;
-    let Settled {
-        symbols,
-        tables,
-        main_menu,
-        diagnostics,
-    } = settle(alloc, names, entries, walked)?;
+    let Blocks {
+        mut places,
+        visibles,
+        choices,
+        ..
+    } = blocks_of(alloc, &entries)?;
+    let mut symbols = definitions_of(alloc, &entries, &mut places, count)?;
+    give_choices(&mut symbols, &choices)?;
+    let diagnostics = diagnose(alloc, names, &entries, &symbols)?;
+    let selectors = selectors_of(alloc, &entries, &places, &mut symbols)?;
+    let main_menu = main_menu_of(alloc, &entries)?;
     let modules = if_defined(&defined, modules);
     match diagnostics.into_warnings() {
         Err(refusal) => Ok(Err(refusal)),
         Ok(warnings) => Ok(Ok(TreeParts {
             layout: Layout {
+                entries,
+                places,
+                visibles,
                 symbols,
+                selectors,
+                choices,
                 defined,
-                tables,
                 modules,
             },
             warnings,
@@ -99,15 +109,8 @@ fn build_parts(
     }
 }
 
-/// A tree, and the lines that it was built from.
-#[derive(Drop)]
-pub struct BuiltTree {
-    pub tree: Tree,
-    pub entries: Entries,
-}
-
-/// The tree that the lines of a root file say, with these lines, or the first refusal that the whole list shows, which leaves
-/// nothing. The files that the lines were read from are not looked at.
+/// The tree that the lines of a root file say, or the first refusal that the whole list shows, which leaves nothing. The files
+/// that the lines were read from are not looked at.
 ///
 /// E13 comes at the first `config` line, in order, that defines a choice's member and is not the first to define it, or that
 /// stands in a choice while its symbol is no bool. So of a symbol that is defined once outside and then in its choice the
@@ -119,10 +122,9 @@ pub struct BuiltTree {
 ///
 /// The meaning of the statements is that of the kernel's kconfig-language document and of kconfiglib's
 /// documentation; the limits, the order of checks and the warnings are our own.
-pub fn built_tree(alloc: Global, listing: Listing) -> Result<BuiltTree, Refusal>
+pub fn tree_of(alloc: Global, listing: Listing) -> Result<Tree, Refusal>
     requires { (files : Files) × (root : List ℕ) × IsListingOf files root listing }
-    ensures built { IfOk result (λ b. (files : Files) (root : List ℕ) → IsListingOf files root listing → IsTreeOf files root (Ok b.tree)) }
-    ensures lines { IfOk result (λ b. lines_in b.entries ≡ lines_in listing.entries) }
+    ensures built { IfOk result (λ t. (files : Files) (root : List ℕ) → IsListingOf files root listing → IsTreeOf files root (Ok t)) }
     ensures refused { IfErr result (λ r. r.cause ≢ Memory → (files : Files) (root : List ℕ) → IsListingOf files root listing → IsTreeOf files root (Err (refusal_view r))) }
     ensures memory { IfErr result IsMemory }
 {
@@ -132,7 +134,7 @@ pub fn built_tree(alloc: Global, listing: Listing) -> Result<BuiltTree, Refusal>
         modules,
         entries,
     } = listing;
-    let outcome = match build_parts(alloc, &names, &entries, defined, modules) {
+    let outcome = match build_parts(alloc, &names, entries, defined, modules) {
         Ok(outcome) => outcome,
         Err(_) => return Err(Refusal::out_of_memory()),
     };
@@ -140,23 +142,7 @@ pub fn built_tree(alloc: Global, listing: Listing) -> Result<BuiltTree, Refusal>
         Err(refusal) => Err(refusal),
         Ok(parts) => {
             names.are_distinct();
-            Ok(BuiltTree {
-                tree: Tree::of(names, parts),
-                entries,
-            })
+            Ok(Tree::of(names, parts))
         }
-    }
-}
-
-/// The tree that the lines of a root file say, or the first refusal, as [`built_tree`] gives them.
-pub fn tree_of(alloc: Global, listing: Listing) -> Result<Tree, Refusal>
-    requires { (files : Files) × (root : List ℕ) × IsListingOf files root listing }
-    ensures built { IfOk result (λ t. (files : Files) (root : List ℕ) → IsListingOf files root listing → IsTreeOf files root (Ok t)) }
-    ensures refused { IfErr result (λ r. r.cause ≢ Memory → (files : Files) (root : List ℕ) → IsListingOf files root listing → IsTreeOf files root (Err (refusal_view r))) }
-    ensures memory { IfErr result IsMemory }
-{
-    match built_tree(alloc, listing) {
-        Ok(built) => Ok(built.tree),
-        Err(refusal) => Err(refusal),
     }
 }

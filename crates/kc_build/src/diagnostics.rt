@@ -14,19 +14,20 @@ ghost use Rattle.kc_build.specs.SymbolRows.{type_by, choice_by, member_by, defau
 ghost use Rattle.kc_build.specs.WholeListRefusals as entry_refusal;
 ghost use Rattle.kc_read.specs.PartsOfSymbols as spec_parts;
 
-use crate::lines::{
-    is_single, prompt_of, single_symbol, stated_default, stated_type, symbol_of, target_of,
-};
 use crate::symbols::{choice_of, has_text, is_member, type_of};
 use crate::warning::{LineWarning, Place, entry_name, line_of};
 use kc_diagnostics::Cause;
 use kc_expr::expression::{SymId, SymbolType};
 use kc_expr::names::Names;
 pub(crate) use kc_language::symbols::MenuEntry;
-use kc_read::entries::{Entry, EntryLines};
+use kc_read::entries::{Entries, Entry, EntryLines};
 use kc_read::refusal::Refusal;
 use kc_read::statement::{Attribute, Head};
-use kc_tree::rows::{ChoiceId, Symbol};
+use kc_tree::attributes::{
+    default_symbol, is_single, prompt_of, single_symbol, stated_default, stated_type, symbol_of,
+    target_of,
+};
+use kc_tree::rows::{ChoiceId, EntryId, Symbol};
 use std::alloc::{AllocError, Global};
 
 /// What is known of an entry when its lines are diagnosed: whose it is, whether it is the first definition of its symbol, and
@@ -139,16 +140,6 @@ fn member_target(attribute: &Attribute, symbols: &[Symbol]) -> Option<LineWarnin
         Some(target) => choice_of(symbols, target.symbol)
             .is_some()
             .then_some(LineWarning::MemberTarget(target.symbol, target.word)),
-        None => None,
-    }
-}
-
-// The symbol that a default names alone.
-fn default_symbol(attribute: &Attribute) -> Option<SymId>
-    ensures { result ≡ default_symbol (attribute_view attribute.now) }
-{
-    match stated_default(attribute) {
-        Some(stated) => single_symbol(&stated.value),
         None => None,
     }
 }
@@ -289,6 +280,29 @@ fn warn_attribute(
     }
 }
 
+// The type of the symbol whose entry it is.
+// contract: to do
+fn own_type(entry: MenuEntry, symbols: &[Symbol]) -> SymbolType {
+    match entry_symbol(entry) {
+        Some(symbol) => type_of(symbols, symbol),
+        None => SymbolType::Undefined,
+    }
+}
+
+// Whether it is clear from the type of its symbol that there is nothing to say of an attribute.
+// contract: to do (if it holds, then there are no warnings_of the attribute, and it is no is_bad_default)
+#[inline(always)]
+fn is_quiet(own_type: SymbolType, prompted: bool, attribute: &Attribute) -> bool {
+    match attribute {
+        Attribute::Type(symbol_type, _) => !prompted && *symbol_type == own_type,
+        Attribute::Prompt(_) => !prompted,
+        Attribute::Default(_) => matches!(own_type, SymbolType::Bool | SymbolType::Tristate),
+        Attribute::Def(symbol_type, _) => *symbol_type == own_type && !has_text(own_type),
+        Attribute::Select(_, _) | Attribute::Imply(_, _) => false,
+        _ => true,
+    }
+}
+
 impl Diagnostics {
     /// Nothing yet.
     pub(crate) fn new(alloc: Global) -> Diagnostics
@@ -417,11 +431,16 @@ impl Diagnostics {
     {
         let first = lines.first;
         self.diagnose_head(alloc, names, symbols, summary, first)?;
+        let own_type = own_type(summary.entry, symbols);
         let mut prompted = false;
         for line in lines.attributes {
             let attribute = &line.attribute;
-            let place = place_in(first, line.line);
-            self.diagnose_attribute(alloc, names, symbols, summary, prompted, place, attribute)?;
+            if !is_quiet(own_type, prompted, attribute) {
+                let place = place_in(first, line.line);
+                self.diagnose_attribute(
+                    alloc, names, symbols, summary, prompted, place, attribute,
+                )?;
+            }
             prompted = is_prompted(prompted, attribute);
         }
         Ok(())
@@ -441,4 +460,93 @@ impl Diagnostics {
             None => Ok(warnings),
         }
     }
+}
+
+// The choices before an entry: how many begin, and whether the last of them is open.
+#[derive(Drop)]
+struct ChoicesBefore {
+    count: u32,
+    is_open: bool,
+}
+
+impl ChoicesBefore {
+    // The choice that the entry stands in.
+    // contract: to do
+    fn open(&self) -> Option<ChoiceId> {
+        if self.is_open && self.count > 0 {
+            Some(ChoiceId(self.count - 1))
+        } else {
+            None
+        }
+    }
+
+    // Goes on behind the entry.
+    // contract: to do
+    fn pass(&mut self, head: &Head) {
+        match head {
+            Head::Choice => {
+                self.count += 1;
+                self.is_open = true;
+            }
+            Head::EndChoice => self.is_open = false,
+            _ => {}
+        }
+    }
+}
+
+// Whether an entry is the first definition of a symbol.
+// contract: to do
+fn is_first(symbols: &[Symbol], at: EntryId, symbol: SymId) -> bool {
+    match symbols.get(symbol.0) {
+        Some(row) => row.first.0 == at.0,
+        None => false,
+    }
+}
+
+// The summary of an entry.
+// contract: to do (that of the former EntryWalk::summary_of)
+fn summary_of(
+    symbols: &[Symbol],
+    at: EntryId,
+    head: &Head,
+    choices: &ChoicesBefore,
+) -> EntrySummary {
+    let entry = match head {
+        Head::Config(symbol) => MenuEntry::Symbol(*symbol),
+        Head::Choice => MenuEntry::Choice(ChoiceId(choices.count)),
+        _ => MenuEntry::Other,
+    };
+    let first = match head {
+        Head::Config(symbol) => is_first(symbols, at, *symbol),
+        _ => false,
+    };
+    EntrySummary {
+        entry,
+        first,
+        within_choice: choices.open(),
+    }
+}
+
+/// What the lines of the entries have against them. The types and choices of the symbols are known.
+// contract: to do (IsDiagnosed of the former settle)
+pub(crate) fn diagnose(
+    alloc: Global,
+    names: &Names,
+    entries: &Entries,
+    symbols: &[Symbol],
+) -> Result<Diagnostics, AllocError> {
+    let mut diagnostics = Diagnostics::new(alloc);
+    let mut choices = ChoicesBefore {
+        count: 0,
+        is_open: false,
+    };
+    let mut i = 0;
+    'entries: while let Some(lines) = entries.entry(i) {
+        let head = &lines.first.head;
+        let summary = summary_of(symbols, EntryId::of(i), head, &choices);
+        diagnostics.diagnose_entry(alloc, names, symbols, summary, lines)?;
+        choices.pass(head);
+        i += 1;
+    }
+    Ok(diagnostics)
 }

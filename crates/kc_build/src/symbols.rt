@@ -1,4 +1,4 @@
-//! The rows of the symbols: of each its type, its choice and its definitions.
+//! The rows of the symbols: of each its type, its choice and its first definition; and the chain of definitions.
 
 ghost use Rattle.std.specs.Prelude.{◌≡◌, map, option_map, IfOk, OnOk};
 ghost use Rattle.kc_language.specs.Expansion.{numbers};
@@ -8,81 +8,88 @@ ghost use Rattle.kc_build.specs.SymbolRows.{row_view};
 ghost use Rattle.kc_build.specs.SymbolWalk.{unknown, first_given_type, with_definition, reported, HaveMemberTypes};
 
 use kc_expr::expression::{SymId, SymbolType};
-use kc_tree::definitions::SymbolDefinitions;
+use kc_read::entries::{AttributeLine, Entries};
+use kc_read::statement::Head;
+use kc_tree::attributes::first_type;
 use kc_tree::maybe_choice::MaybeChoice;
-use kc_tree::rows::{ChoiceId, DefinitionId, Symbol};
+use kc_tree::rows::{Choice, ChoiceId, EntryId, EntryPlace, SelectorId, Symbol};
 use std::alloc::{AllocError, Global};
 
-/// Symbols of which nothing is known yet.
-pub(crate) fn unknown_symbols(alloc: Global, count: usize) -> Result<Vec<Symbol>, AllocError>
-    ensures { IfOk result (λ v. map row_view v.items ≡ map (λ _. unknown) (numbers count)) }
-{
+// Symbols of which nothing is known yet.
+// contract: to do
+fn unknown_symbols(alloc: Global, count: usize) -> Result<Vec<Symbol>, AllocError> {
     let mut symbols = Vec::with_capacity(alloc, count)?;
     for _ in 0..count {
         symbols.push(Symbol {
             symbol_type: SymbolType::Undefined,
             choice: MaybeChoice::empty(),
-            definitions: SymbolDefinitions::Empty,
+            first: EntryId::top(),
+            last_select: SelectorId::none(),
+            last_imply: SelectorId::none(),
         })?;
     }
     Ok(symbols)
 }
 
-// The first of two types.
-fn first_given_type(symbol_type: SymbolType, found: Option<SymbolType>) -> SymbolType
-    ensures { result ≡ first_given_type symbol_type found }
-{
-    match symbol_type {
-        SymbolType::Undefined => found.unwrap_or(SymbolType::Undefined),
-        _ => symbol_type,
+// Adds a definition to its symbol, in front of those that are there: its type counts if it gives one. Answers the definition that
+// follows it.
+// contract: to do
+fn add_definition(symbol: &mut Symbol, at: EntryId, attributes: &[AttributeLine]) -> EntryId {
+    let next = symbol.first;
+    symbol.first = at;
+    if let Some(symbol_type) = first_type(attributes) {
+        symbol.symbol_type = symbol_type;
     }
+    next
 }
 
-// Adds a definition to a symbol: its type and its choice count where none was found before.
-fn add_definition(
+/// The definitions of the symbols, of which there are `count`; the places get the chains. It goes from the last entry to the
+/// first, so that the chain of a symbol always begins with the first definition so far, and its type is the first that they give.
+// contract: to do
+pub(crate) fn definitions_of(
     alloc: Global,
-    symbol: &mut Symbol,
-    id: DefinitionId,
-    symbol_type: Option<SymbolType>,
-    choice: Option<ChoiceId>,
-) -> Result<(), AllocError>
-    ensures { OnOk result (row_view symbol.new ≡ with_definition id.0 symbol_type (option_map (λ k. k.0) choice) (row_view symbol.old)) }
-{
-    symbol.symbol_type = first_given_type(symbol.symbol_type, symbol_type);
-    symbol.choice = MaybeChoice::of(symbol.choice.get().or(choice))?;
-    symbol.definitions.push(alloc, id)
+    entries: &Entries,
+    places: &mut Vec<EntryPlace>,
+    count: usize,
+) -> Result<Vec<Symbol>, AllocError> {
+    let mut symbols = unknown_symbols(alloc, count)?;
+    let mut left = entries.first_lines.len();
+    'entries: while left > 0 {
+        left -= 1;
+        if let Some(lines) = entries.entry(left) {
+            if let Head::Config(symbol) = &lines.first.head {
+                let row = &mut symbols[symbol.0];
+                places[left].next = add_definition(row, EntryId::of(left), lines.attributes);
+            }
+        }
+    }
+    Ok(symbols)
 }
 
-/// Adds a definition to its symbol, where that is one of the list: `kind` is the first type that its attributes give, and
-/// `choice` is the choice that it stands in.
-pub(crate) fn note_definition(
-    alloc: Global,
-    symbols: &mut Vec<Symbol>,
-    symbol: SymId,
-    id: DefinitionId,
-    symbol_type: Option<SymbolType>,
-    choice: Option<ChoiceId>,
-) -> Result<(), AllocError>
-    ensures { OnOk result (map row_view symbols.new.items ≡ reported id.0 symbol_type (option_map (λ k. k.0) choice) symbol (map row_view symbols.old.items)) }
-{
-    if symbol.0 < symbols.len() {
-        add_definition(alloc, &mut symbols[symbol.0], id, symbol_type, choice)?;
+// Makes a symbol a member of a choice, unless it is one of an earlier one; and a bool if it has no type.
+// contract: to do
+fn make_member(symbol: &mut Symbol, choice: ChoiceId) -> Result<(), AllocError> {
+    if !symbol.choice.is_some() {
+        symbol.choice = MaybeChoice::of(Some(choice))?;
+    }
+    if let SymbolType::Undefined = symbol.symbol_type {
+        symbol.symbol_type = SymbolType::Bool;
     }
     Ok(())
 }
 
-/// Makes a bool of each choice's member without a type.
-pub(crate) fn give_member_types(symbols: &mut Vec<Symbol>)
-    ensures { HaveMemberTypes (map row_view symbols.old.items) (map row_view symbols.new.items) }
-{
-    for i in 0..symbols.len() {
-        if symbols[i].choice.is_some() {
-            symbols[i].symbol_type = first_given_type(
-                symbols[i].symbol_type,
-                Some(SymbolType::Bool),
-            );
+/// Gives each member its first choice, and the type bool if it has none.
+// contract: to do
+pub(crate) fn give_choices(
+    symbols: &mut Vec<Symbol>,
+    choices: &[Choice],
+) -> Result<(), AllocError> {
+    for (k, choice) in choices.iter().enumerate() {
+        for member in &choice.members {
+            make_member(&mut symbols[member.0], ChoiceId(k as u32))?;
         }
     }
+    Ok(())
 }
 
 /// The type of a symbol; a name that is not defined has none.
@@ -111,16 +118,6 @@ pub(crate) fn is_member(symbols: &[Symbol], choice: ChoiceId, symbol: SymId) -> 
 {
     match choice_of(symbols, symbol) {
         Some(own) => own.0 == choice.0,
-        None => false,
-    }
-}
-
-/// The symbol has no definition yet.
-pub(crate) fn is_new(symbols: &[Symbol], symbol: SymId) -> bool
-    ensures { result ≡ symbol_rows.is_new_by symbols.now symbol }
-{
-    match symbols.get(symbol.0) {
-        Some(found) => found.definitions.get(0).is_none(),
         None => false,
     }
 }

@@ -6,11 +6,11 @@ ghost use Rattle.kc_language.specs.Symbols.{name_by};
 ghost use Rattle.kc_language.specs.Symbols as spec;
 ghost use Rattle.kc_read.specs.PartsOfSymbols as spec_parts;
 
-use crate::lines::SelectOrImply;
 use kc_diagnostics::{Warning, add_located};
 use kc_expr::expression::SymId;
 use kc_expr::names::Names;
 pub(crate) use kc_language::symbols::LineWarning;
+use kc_language::symbols::SelectOrImply;
 use std::alloc::{AllocError, Global};
 
 /// Where a line stands: its file and its number.

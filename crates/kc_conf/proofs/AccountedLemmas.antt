@@ -17,7 +17,7 @@ use Rattle.kc_language.specs.Expansion.{Files, numbered_lines}
 use Rattle.kc_language.specs.Explanations.{explanation_text}
 use Rattle.kc_language.specs.Statements.{Located, Numbered}
 use Rattle.kc_language.specs.Symbols.{SymbolFacts, TreeFacts, Warning}
-use Rattle.kc_tree.specs.TreeFacts.{IsWellFormed}
+use Rattle.kc_read.specs.WellFormed.{IsWellFormed}
 use Rattle.kc_build.specs.Trees.{TreesAreWellFormed}
 use Rattle.kc_language.specs.Values.{GivenValue, GivenTruth, GivenText, Member, SymbolPlace, same_given, same_tri, given_of, facts, name, type_in}
 use Rattle.kc_language.specs.{ConfigFile.{ArePlacesOf, Assigns, Effect, Line, Notation, Places, Silent, StreamLocation, UserInput, Warns, change_text, effect, input_after, is_reported, is_within, lines_of, line_meaning, place_at, plain_line, plain_location, reading, stream_location, warning, located_warning_line, warnings}}

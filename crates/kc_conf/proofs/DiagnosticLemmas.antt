@@ -45,7 +45,7 @@ AddsLines-reported : (text : List ℕ) (outcome : Outcome) → AreLines text →
 AddsLines-reported text outcome lines (warned, refusal) = (AreLines-append text outcome.warned lines warned, refusal)
 
 if_strict : (options : Options) (b : Bool) (outcome : Outcome) → AddsLines outcome → AddsLines (refused_if options b outcome)
-if_strict options true outcome adds = (adds.0, AreLines-ended (lead options) strict_line (codes "error E21: warnings are refused", refl))
+if_strict options true outcome adds = (adds.0, AreLines-ended (lead options) strict_line (codes "error E21: warnings are refused_outcome", refl))
 if_strict options false outcome adds = adds
 
 of_reading : (files : Files) (options : Options) (tree : TreeFacts) (lines : List (Located Numbered)) (all : List (List ℕ)) (outcome : Outcome) →

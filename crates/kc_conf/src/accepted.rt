@@ -5,9 +5,8 @@ ghost use Rattle.kc_language.specs.Expansion.{AreOpened, Files};
 ghost use Rattle.kc_build.specs.Listings.{IsListingOf};
 ghost use Rattle.kc_conf.specs.Accepted.{IsReadingOf};
 
-use kc_build::{Listing, RootReading, built_tree, read_listing, tree_of};
+use kc_build::{Listing, RootReading, read_listing, tree_of};
 use kc_expr::names::Names;
-use kc_read::entries::Entries;
 use kc_read::file_map::FileMap;
 use kc_read::refusal::Refusal;
 use kc_solve::evaluation_order::EvaluationOrder;
@@ -18,7 +17,6 @@ use std::alloc::Global;
 /// The sources of a tree: its lines, and the files of the run.
 #[derive(Drop)]
 pub(crate) struct TreeSources {
-    pub entries: Entries,
     pub files: FileMap,
 }
 
@@ -90,14 +88,11 @@ fn read_with_sources(
     requires { (root : List ℕ) × IsListingOf (files_in files) root listing }
     ensures { (root : List ℕ) → IsListingOf (files_in files) root listing → AreOpened (files_in files) root opened → IsReadingOf (files_in files) root true result }
 {
-    match built_tree(alloc, listing) {
-        Ok(built) => Ok(TreeReading {
-            tree: built.tree,
+    match tree_of(alloc, listing) {
+        Ok(tree) => Ok(TreeReading {
+            tree,
             opened,
-            sources: Some(TreeSources {
-                entries: built.entries,
-                files,
-            }),
+            sources: Some(TreeSources { files }),
         }),
         Err(refusal) => Err(refusal),
     }

@@ -127,7 +127,7 @@ fn add_explained(
 ) -> Result<(), AllocError>
     ensures { OnOk result (text.new.items ≡ text.old.items ++ explained_lost options.now.prefix.is_raw (explanation_lead options.now) (lines_in sources.now.entries) input.now solved.now) }
 {
-    let lines = Lines::of(alloc, &sources.entries)?;
+    let lines = Lines::of(solved.tree().layout());
     let front = explanation_lead(alloc, options)?;
     add_explained_lost(
         alloc,
@@ -350,7 +350,7 @@ fn new_by(
 {
     match sources {
         Some(sources) => {
-            let lines = Lines::of(alloc, &sources.entries)?;
+            let lines = Lines::of(solved.tree().layout());
             new_text_with_help(alloc, &sources.files, &lines, solved, &options.prefix)
         }
         None => list_of_new(alloc, solved, &options.prefix),
@@ -455,7 +455,7 @@ fn add_explanation<'o>(
     let Some(sources) = sources else {
         return Ok(());
     };
-    let lines = Lines::of(alloc, &sources.entries)?;
+    let lines = Lines::of(solved.tree().layout());
     let bytes = explained_text(alloc, options, &lines, input, solved)?;
     texts.push(Text {
         name: name.as_str(),

@@ -24,7 +24,7 @@ use kc_expr::values::Values;
 use kc_options::Options;
 use kc_solve::solved::Solved;
 use kc_tree::layout::Layout;
-use kc_tree::rows::{DefinitionId, Symbol};
+use kc_tree::rows::Symbol;
 use kc_user::user::User;
 use kc_user::value::UserValue;
 use kc_values::laws::rows_tell_facts;
@@ -135,27 +135,18 @@ fn lost_by(
     Ok(())
 }
 
-// Whether a definition has a prompt.
-fn is_prompted(layout: &Layout, id: Option<DefinitionId>) -> bool
-    ensures { result ≡ is_prompted (option_and_then (definition_at layout.now.tables) id) }
-{
-    match id {
-        Some(id) => match layout.definition(id) {
-            Some(definition) => definition.prompt.is_some(),
-            None => false,
-        },
-        None => false,
-    }
-}
-
 // Whether a symbol has a prompt.
+// contract: to do
 fn has_prompt(layout: &Layout, symbol: &Symbol) -> bool
     ensures { result ≡ spec.has_prompt (facts_of layout.now 0 symbol.now).prompts }
 {
-    for i in 0..symbol.definition_count() {
-        if is_prompted(layout, symbol.definition(i)) {
+    let mut at = symbol.first;
+    'definitions: while at.is_some() {
+        let place = layout.place(at);
+        if place.prompt.is_some() {
             return true;
         }
+        at = place.next;
     }
     false
 }

@@ -8,7 +8,7 @@ use Rattle.kc_language.specs.ConfigFile.{Notation}
 use Rattle.kc_language.specs.declared.expressions.SymId.{SymId}
 use Rattle.kc_language.specs.Expressions.{SymbolValue}
 use Rattle.kc_language.specs.Symbols.{TreeFacts, Shown, SymbolShown, MenuShown, EndShown, CommentShown}
-use Rattle.kc_tree.specs.TreeFacts.{IsWellFormed, IsEntrySound}
+use Rattle.kc_read.specs.WellFormed.{IsWellFormed, IsEntrySound}
 use Rattle.kc_tree.specs.Layouts.{IsLayoutOf, shown_of}
 use Rattle.kc_tree.specs.declared.layout.Layout.{Layout}
 use Rattle.kc_tree.specs.declared.layout.Tables.{Tables}

@@ -1,4 +1,5 @@
 //! The writer of the `.config`.
+
 ghost use Rattle.std.specs.Prelude.{◌≡◌, ◌++◌, ◌<◌, length, slice_get, Some, is_some, true, false, OnOk, IfOk, if◌then◌else◌};
 ghost use Rattle.std.specs.Option.{option_copied};
 ghost use Rattle.kc_language.specs.Symbols.{SymbolShown};
@@ -12,9 +13,11 @@ use crate::prefix::Prefix;
 use crate::symbol_line::{add_config_file_line, symbol_value};
 use crate::text::{add_parts, new_text};
 use kc_expr::expression::{SymId, Tri};
+use kc_read::entries::Entry;
+use kc_read::statement::Head;
 use kc_solve::solved::Solved;
 use kc_tree::layout::Layout;
-use kc_tree::rows::{ShownEntry, TitleId};
+use kc_tree::rows::EntryId;
 use std::alloc::{AllocError, Global};
 
 // Whether the value is not n.
@@ -57,30 +60,12 @@ fn add_gap(after_end: bool, file: &mut Vec<u8>) -> Result<(), AllocError>
     file.extend_from_slice(b"\n")
 }
 
-// The text of a title.
-fn text_of(layout: &Layout, title: TitleId) -> &[u8]
-    ensures { result.now ≡ title_text (title_at layout.now.tables title) }
-{
-    match layout.title(title) {
-        Some(found) => &found.text,
-        None => b"",
-    }
-}
-
-// The title of the menu of this entry number, if it is shown.
-fn shown_title<'a>(solved: &Solved<'a>, menu: usize) -> Option<&'a [u8]>
-    ensures { option_copied result ≡ shown_title (solution_view solved.now) (slice_get solved.now.tree.entries menu) }
-{
-    let layout = solved.tree().layout();
-    match layout.entries().get(menu) {
-        Some(ShownEntry::Menu(title)) => {
-            if is_shown(solved.shown(menu)) {
-                return Some(text_of(layout, *title));
-            }
-            None
-        }
-        Some(ShownEntry::Symbol(_) | ShownEntry::End(_) | ShownEntry::Comment(_)) => None,
-        None => None,
+// The title of the menu of an entry, where it is shown.
+// contract: to do
+fn shown_title<'a>(solved: &Solved<'a>, menu: EntryId) -> Option<&'a [u8]> {
+    match solved.tree().layout().head(menu) {
+        Some(Head::Menu(text)) if is_shown(solved.shown(menu)) => Some(text),
+        _ => None,
     }
 }
 
@@ -133,28 +118,26 @@ fn add_end(title: Option<&[u8]>, after_end: bool, file: &mut Vec<u8>) -> Result<
     Ok(title.is_some() || after_end)
 }
 
-// Adds the text of an entry. Returns whether the last line is an end line now.
+// Adds what an entry gives. Answers whether the last line is an end line now.
+// contract: to do
 fn add_entry(
     layout: &Layout,
     solved: &Solved<'_>,
     prefix: &Prefix,
-    index: usize,
-    entry: &ShownEntry,
+    at: EntryId,
+    entry: &Entry,
     after_end: bool,
     file: &mut Vec<u8>,
-) -> Result<bool, AllocError>
-    requires there { slice_get solved.now.tree.entries index ≡ Some (shown_of layout.now.tables entry.now) }
-    requires name { HasName solved.now.tree (shown_of layout.now.tables entry.now) }
-    ensures text { OnOk result (file.new.items ≡ file.old.items ++ entry_text solved.now.tree prefix.now (solution_view solved.now) after_end (shown_of layout.now.tables entry.now)) }
-    ensures next { IfOk result (λ next. next ≡ ends_after solved.now.tree (solution_view solved.now) after_end (shown_of layout.now.tables entry.now)) }
-{
-    match entry {
-        ShownEntry::Symbol(id) => add_symbol_if(solved, prefix, *id, after_end, file),
-        ShownEntry::Menu(title) | ShownEntry::Comment(title) => {
-            let shown = is_shown(solved.shown(index));
-            add_title(shown, text_of(layout, *title), after_end, file)
+) -> Result<bool, AllocError> {
+    match &entry.head {
+        Head::Config(id) if layout.is_first(at, *id) => add_symbol_if(
+            solved, prefix, *id, after_end, file,
+        ),
+        Head::Menu(text) | Head::Comment(text) => {
+            add_title(is_shown(solved.shown(at)), text, after_end, file)
         }
-        ShownEntry::End(menu) => add_end(shown_title(solved, *menu as usize), after_end, file),
+        Head::EndMenu => add_end(shown_title(solved, layout.outer(at)), after_end, file),
+        _ => Ok(after_end),
     }
 }
 
@@ -162,14 +145,18 @@ fn add_entry(
 fn add_entries(solved: &Solved<'_>, prefix: &Prefix, file: &mut Vec<u8>) -> Result<(), AllocError>
     ensures { OnOk result (file.new.items ≡ file.old.items ++ entries_text solved.now.tree prefix.now (solution_view solved.now) solved.now.tree.entries) }
 {
-    // The entries name only symbols of the tree: this follows from `symbol_count`.
-    let tree = solved.tree();
-    let _ = tree.symbol_count();
-    let layout = tree.layout();
-    let entries = layout.entries();
+    let layout = solved.tree().layout();
     let mut after_end = false;
-    for (index, entry) in entries.iter().enumerate() {
-        after_end = add_entry(layout, solved, prefix, index, entry, after_end, file)?;
+    for (i, entry) in layout.entries.first_lines.iter().enumerate() {
+        after_end = add_entry(
+            layout,
+            solved,
+            prefix,
+            EntryId::of(i),
+            entry,
+            after_end,
+            file,
+        )?;
     }
     Ok(())
 }

@@ -8,8 +8,9 @@ use Rattle.kc_language.specs.Statements.{InputPrompt}
 use Rattle.kc_language.specs.Symbols.{Bounds, StatedDefault}
 use Rattle.kc_read.specs.StatementViews.{input_prompt_view}
 use Rattle.kc_read.specs.declared.statement.Prompt.{Prompt}
-use Rattle.kc_tree.specs.declared.rows.SymbolDefault.{SymbolDefault}
-use Rattle.kc_tree.specs.declared.rows.SymbolRange.{SymbolRange}
+pub use Rattle.kc_tree.specs.LineParts.{default_said as default_view, range_said as range_view}
+use Rattle.kc_read.specs.declared.statement.SymbolDefault.{SymbolDefault}
+use Rattle.kc_read.specs.declared.statement.SymbolRange.{SymbolRange}
 use Rattle.kc_explain.specs.declared.parts.Asked.{Asked}
 use Rattle.kc_explain.specs.declared.parts.Asked.TheVariants as asked
 use Rattle.kc_explain.specs.declared.parts.ConditionPart.{ConditionPart}
@@ -22,13 +23,6 @@ asked_view (asked.ModeOf k) = rules.ModeOf k
 
 abbrev pub part_view : ConditionPart → rules.ConditionPart
 part_view p = record { at = p.at; asks = asked_view p.asks }
-
--- a default and a range
-abbrev pub default_view : SymbolDefault → StatedDefault
-default_view d = record { value = form_of d.value.value; when = when_view d.when }
-
-abbrev pub range_view : SymbolRange → Bounds × Option Form
-range_view r = (record { low = leaf_of r.low; high = leaf_of r.high }, when_view r.when)
 
 -- what a line says
 abbrev pub prompt_said : Said Prompt → rules.Said (InputPrompt Form)

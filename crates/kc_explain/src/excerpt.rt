@@ -8,7 +8,7 @@ ghost use Rattle.kc_language.specs.Values.{name_count};
 ghost use Rattle.kc_explain.specs.Excerpts.{definition, definition_at, excerpt_of, heading, line_and_gap, new_with_help};
 ghost use Rattle.kc_explain.specs.LineViews.{line_view};
 
-use crate::lines::{Line, Lines};
+use crate::lines::{Line, Lines, first_of};
 use crate::source_lines::{LineReader, add_excerpt};
 use itoa::Buffer;
 use kc_config_file::header::add_new_line;
@@ -16,6 +16,7 @@ use kc_config_file::prefix::Prefix;
 use kc_expr::expression::SymId;
 use kc_read::file_map::FileMap;
 use kc_solve::solved::Solved;
+use kc_tree::rows::EntryId;
 use std::alloc::{AllocError, Global};
 
 // Adds where the definition stands.
@@ -64,13 +65,13 @@ fn add_definition_at<'n>(
     alloc: Global,
     reader: &mut LineReader<'_, 'n>,
     lines: &Lines<'n>,
-    at: usize,
+    at: EntryId,
     text: &mut Vec<u8>,
 ) -> Result<(), AllocError>
     ensures text { OnOk result (text.new.items ≡ text.old.items ++ definition_at (files_in reader.old) lines.now at) }
     ensures files { reader.new ≡ reader.old }
 {
-    match lines.get(at) {
+    match lines.get(first_of(at)) {
         None => Ok(()),
         Some(line) => add_definition(alloc, reader, line, text),
     }
@@ -81,7 +82,7 @@ fn add_each_definition<'n>(
     alloc: Global,
     reader: &mut LineReader<'_, 'n>,
     lines: &Lines<'n>,
-    definitions: &[usize],
+    definitions: &[EntryId],
     text: &mut Vec<u8>,
 ) -> Result<(), AllocError>
     ensures text { OnOk result (text.new.items ≡ text.old.items ++ flat_map (definition_at (files_in reader.old) lines.now) definitions.now) }

@@ -11,8 +11,7 @@ ghost use Rattle.kc_language.specs.Symbols.{same_type};
 ghost use Rattle.kc_explain.specs.Holding as held;
 ghost use Rattle.kc_explain.specs.PartViews.{asked_view, default_said, part_view, prompt_said, range_said};
 
-use crate::attributes::condition;
-use crate::lines::Lines;
+use crate::lines::{LineAt, Lines};
 use crate::parts::{
     Asked, ConditionPart, Said, default_lines, dependency_parts, is_met_default, part_value,
     prompt_at, range_lines, shown_parts,
@@ -21,10 +20,11 @@ use crate::seen::Seen;
 use kc_expr::expression::{Expr, SymId, SymbolType, Tri};
 use kc_expr::values::{Values, symbol_into, symbols_into};
 use kc_language::explanations::Source;
-use kc_read::statement::Prompt;
+use kc_read::statement::{Prompt, SymbolDefault, SymbolRange};
 use kc_solve::solved::Solved;
 use kc_text::{has_hex_prefix, read_hex, read_int};
-use kc_tree::rows::{SymbolDefault, SymbolRange};
+use kc_tree::attributes::condition;
+use kc_tree::rows::EntryId;
 use kc_values::table::name;
 use std::alloc::{AllocError, Global};
 
@@ -109,32 +109,29 @@ fn add_shown_worth(
 }
 
 // Adds what holds the mode of the choice down that begins with a line.
-#[tactic(auto, using(crate::proofs::HoldingLemmas::listed_is))]
+// contract: to do
 fn add_choice_names(
     alloc: Global,
     lines: &Lines<'_>,
     solved: &Solved<'_>,
-    entry: usize,
+    entry: EntryId,
     all: &mut Vec<SymId>,
-) -> Result<(), AllocError>
-    ensures { OnOk result (all.new.items ≡ all.old.items ++ rules.choice_names lines.now solved.now entry) }
-{
+) -> Result<(), AllocError> {
     let parts = dependency_parts(alloc, lines, entry)?;
     add_all_worth_names(solved, &parts, all)?;
-    let prompt = prompt_at(alloc, lines, entry)?;
+    let prompt = prompt_at(lines, entry);
     add_shown_worth(alloc, lines, solved, prompt, all)
 }
 
 // Adds what holds a choice down, if there is one.
+// contract: to do
 fn add_entry_names(
     alloc: Global,
     lines: &Lines<'_>,
     solved: &Solved<'_>,
-    entry: Option<usize>,
+    entry: Option<EntryId>,
     all: &mut Vec<SymId>,
-) -> Result<(), AllocError>
-    ensures { OnOk result (all.new.items ≡ all.old.items ++ held.entry_names lines.now solved.now entry) }
-{
+) -> Result<(), AllocError> {
     match entry {
         Some(entry) => add_choice_names(alloc, lines, solved, entry, all),
         None => Ok(()),
@@ -195,29 +192,27 @@ fn add_all_part_names(
 }
 
 // Adds what holds the dependency of an entry down.
+// contract: to do
 fn add_dependency_names(
     alloc: Global,
     lines: &Lines<'_>,
     solved: &Solved<'_>,
-    entry: usize,
+    entry: EntryId,
     all: &mut Vec<SymId>,
-) -> Result<(), AllocError>
-    ensures { OnOk result (all.new.items ≡ all.old.items ++ held.dependency_names lines.now solved.now entry) }
-{
+) -> Result<(), AllocError> {
     let parts = dependency_parts(alloc, lines, entry)?;
     add_all_part_names(alloc, lines, solved, &parts, all)
 }
 
 // Adds what holds the dependencies of these entries down.
+// contract: to do
 fn add_all_dependency_names(
     alloc: Global,
     lines: &Lines<'_>,
     solved: &Solved<'_>,
-    entries: &[usize],
+    entries: &[EntryId],
     all: &mut Vec<SymId>,
-) -> Result<(), AllocError>
-    ensures { OnOk result (all.new.items ≡ all.old.items ++ flat_map (held.dependency_names lines.now solved.now) entries.now) }
-{
+) -> Result<(), AllocError> {
     for entry in entries {
         add_dependency_names(alloc, lines, solved, *entry, all)?;
     }
@@ -244,30 +239,27 @@ fn add_shown_names(
 }
 
 // Adds what holds the prompt of an entry down.
-#[tactic(auto, using(crate::proofs::HoldingLemmas::listed_is))]
+// contract: to do
 fn add_prompt_names(
     alloc: Global,
     lines: &Lines<'_>,
     solved: &Solved<'_>,
-    entry: usize,
+    entry: EntryId,
     all: &mut Vec<SymId>,
-) -> Result<(), AllocError>
-    ensures { OnOk result (all.new.items ≡ all.old.items ++ held.prompt_names lines.now solved.now (entry ∷ [])) }
-{
-    let prompt = prompt_at(alloc, lines, entry)?;
+) -> Result<(), AllocError> {
+    let prompt = prompt_at(lines, entry);
     add_shown_names(alloc, lines, solved, prompt, all)
 }
 
 // Adds what holds the prompts of these entries down.
+// contract: to do
 fn add_all_prompt_names(
     alloc: Global,
     lines: &Lines<'_>,
     solved: &Solved<'_>,
-    entries: &[usize],
+    entries: &[EntryId],
     all: &mut Vec<SymId>,
-) -> Result<(), AllocError>
-    ensures { OnOk result (all.new.items ≡ all.old.items ++ held.prompt_names lines.now solved.now entries.now) }
-{
+) -> Result<(), AllocError> {
     for entry in entries {
         add_prompt_names(alloc, lines, solved, *entry, all)?;
     }
@@ -277,14 +269,13 @@ fn add_all_prompt_names(
 // ---- defaults and ranges
 
 // Adds the symbols of the own condition of a line, if it is below y.
+// contract: to do
 fn add_when_names(
     solved: &Solved<'_>,
-    at: usize,
+    at: LineAt,
     when: Option<&Expr>,
     all: &mut Vec<SymId>,
-) -> Result<(), AllocError>
-    ensures { OnOk result (all.new.items ≡ all.old.items ++ held.when_names solved.now at (option_map (λ e. form_of e.now) when.entry)) }
-{
+) -> Result<(), AllocError> {
     match when {
         Some(e) => {
             let asks = Asked::Worth(e);
@@ -305,7 +296,7 @@ fn add_default_names(
     ensures { OnOk result (all.new.items ≡ all.old.items ++ rules.default_names lines.now solved.now (default_said default.now)) }
 {
     add_when_names(solved, default.at, condition(&default.what.when), all)?;
-    if is_met_default(alloc, lines, solved, default)? {
+    if is_met_default(solved, default) {
         add_form_names(solved, &default.what.value, all)
     } else {
         Ok(())
@@ -514,7 +505,6 @@ fn step(
 }
 
 // Adds what is reached in so many steps more.
-#[tactic(auto, using(crate::proofs::HoldingLemmas::reached_next, crate::proofs::HoldingLemmas::reached_stops))]
 fn reach(
     alloc: Global,
     lines: &Lines<'_>,

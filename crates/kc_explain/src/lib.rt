@@ -6,8 +6,6 @@
 //! - [`new_text_with_help`]: the list of new symbols with their definitions as they are written.
 //! - [`asked_symbol`], [`near_text`]: the symbol of a name, and names that differ from one by one letter ([`differs_by_one`]).
 
-mod attributes;
-mod blocks;
 pub mod excerpt;
 mod holders;
 pub mod laws;
@@ -15,7 +13,6 @@ mod line_text;
 pub mod lines;
 pub mod names;
 mod parts;
-mod said;
 mod seen;
 mod source_lines;
 pub mod text;

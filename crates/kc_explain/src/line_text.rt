@@ -17,8 +17,7 @@ ghost use Rattle.kc_explain.specs.PartViews.{asked_view, default_said, part_view
 ghost use Rattle.kc_explain.specs.Told as spec;
 ghost use Rattle.kc_explain.specs.Told.{led};
 
-use crate::attributes::condition;
-use crate::lines::{Line, LineStatement, Lines, TargetAt};
+use crate::lines::{Line, LineAt, LineStatement, Lines, TargetAt};
 use crate::parts::{Asked, ConditionPart, Said, is_met_default, line_value, part_value};
 use itoa::Buffer;
 use kc_config_file::shown::{ShownValue, add_value};
@@ -26,9 +25,9 @@ use kc_expr::expression::{Expr, Operand, SymId, SymbolType, Tri};
 use kc_expr::text::{add_expression, add_operand};
 use kc_expr::values::{Values, eval, lesser, tri_text, truth_of};
 use kc_language::values::Interval;
-use kc_read::statement::Attribute;
+use kc_read::statement::{Attribute, SymbolDefault, SymbolRange};
 use kc_solve::solved::Solved;
-use kc_tree::rows::{SymbolDefault, SymbolRange};
+use kc_tree::attributes::condition;
 use kc_values::numbers::number_text;
 use kc_values::table::name;
 use kc_values::texts::single_text;
@@ -74,9 +73,8 @@ fn add_location_of(line: Option<Line<'_>>, text: &mut Vec<u8>) -> Result<(), All
 }
 
 // Adds where the line with a number stands.
-fn add_location(t: &Teller<'_, '_, '_>, i: usize, text: &mut Vec<u8>) -> Result<(), AllocError>
-    ensures { OnOk result (text.new.items ≡ text.old.items ++ rules.location t.now.lines.now t.now.solved.now i) }
-{
+// contract: to do
+fn add_location(t: &Teller<'_, '_, '_>, i: LineAt, text: &mut Vec<u8>) -> Result<(), AllocError> {
     add_location_of(t.lines.get(i), text)
 }
 
@@ -179,9 +177,8 @@ fn word_of(statement: LineStatement<'_>) -> &'static [u8]
 }
 
 // The same of the line with a number.
-fn word_at(t: &Teller<'_, '_, '_>, i: usize) -> &'static [u8]
-    ensures { result.now ≡ rules.word_at t.now.lines.now t.now.solved.now i }
-{
+// contract: to do
+fn word_at(t: &Teller<'_, '_, '_>, i: LineAt) -> &'static [u8] {
     match t.lines.get(i) {
         Some(line) => word_of(line.statement),
         None => b"if ",
@@ -237,17 +234,15 @@ fn add_parts(
 }
 
 /// Adds the line of what has a value, and those of the parts of its condition that are shown.
+// contract: to do
 pub(crate) fn add_with_parts(
     t: &Teller<'_, '_, '_>,
-    at: usize,
+    at: LineAt,
     word: &[u8],
     value: Tri,
     shown: &[ConditionPart<'_>],
     text: &mut Vec<u8>,
-) -> Result<(), AllocError>
-    ensures { OnOk result (text.new.items ≡ text.old.items
-        ++ led t.now.lead.now (rules.with_parts t.now.lines.now t.now.solved.now at word.now value (map part_view shown.now))) }
-{
+) -> Result<(), AllocError> {
     text.extend_from_slice(t.lead)?;
     text.extend_from_slice(b"  ")?;
     add_location(t, at, text)?;
@@ -260,9 +255,8 @@ pub(crate) fn add_with_parts(
 // ---- lines of entries
 
 // Begins a line about the line with a number.
-fn begin_line(t: &Teller<'_, '_, '_>, at: usize, text: &mut Vec<u8>) -> Result<(), AllocError>
-    ensures { OnOk result (text.new.items ≡ text.old.items ++ (codes "  " ++ rules.location t.now.lines.now t.now.solved.now at)) }
-{
+// contract: to do
+fn begin_line(t: &Teller<'_, '_, '_>, at: LineAt, text: &mut Vec<u8>) -> Result<(), AllocError> {
     text.extend_from_slice(b"  ")?;
     add_location(t, at, text)
 }
@@ -282,21 +276,9 @@ fn end_line(
 }
 
 // The value of a default's line.
-fn default_value(
-    alloc: Global,
-    t: &Teller<'_, '_, '_>,
-    d: &Said<'_, SymbolDefault>,
-) -> Result<Tri, AllocError>
-    ensures { IfOk result (λ v. v ≡ rules.line_value t.now.lines.now t.now.solved.now (λ g. g.when) (default_said d.now)) }
-{
-    line_value(
-        alloc,
-        t.lines,
-        t.solved,
-        d.entry,
-        d.at,
-        condition(&d.what.when),
-    )
+// contract: to do
+fn default_value(t: &Teller<'_, '_, '_>, d: &Said<'_, SymbolDefault>) -> Tri {
+    line_value(t.solved, d.at.entry, condition(&d.what.when))
 }
 
 // Adds a default, whose line has this value.
@@ -323,7 +305,7 @@ fn add_default(
 ) -> Result<(), AllocError>
     ensures { OnOk result (text.new.items ≡ text.old.items ++ rules.default_text t.now.lines.now t.now.solved.now (default_said d.now)) }
 {
-    let value = default_value(alloc, t, d)?;
+    let value = default_value(t, d);
     add_default_of(t, d, value, text)
 }
 
@@ -379,7 +361,7 @@ fn add_applied(
 ) -> Result<(), AllocError>
     ensures { OnOk result (text.new.items ≡ text.old.items ++ rules.applied_text t.now.lines.now t.now.solved.now symbol_type (default_said d.now)) }
 {
-    if is_met_default(alloc, t.lines, t.solved, d)? {
+    if is_met_default(t.solved, d) {
         text.extend_from_slice(b", value ")?;
         add_default_worth(t, symbol_type, &d.what.value, text)
     } else {
@@ -429,21 +411,9 @@ fn add_bound(t: &Teller<'_, '_, '_>, o: &Operand, text: &mut Vec<u8>) -> Result<
 }
 
 // The value of a range's line.
-fn range_value(
-    alloc: Global,
-    t: &Teller<'_, '_, '_>,
-    r: &Said<'_, SymbolRange>,
-) -> Result<Tri, AllocError>
-    ensures { IfOk result (λ v. v ≡ rules.line_value t.now.lines.now t.now.solved.now (λ x. x.1) (range_said r.now)) }
-{
-    line_value(
-        alloc,
-        t.lines,
-        t.solved,
-        r.entry,
-        r.at,
-        condition(&r.what.when),
-    )
+// contract: to do
+fn range_value(t: &Teller<'_, '_, '_>, r: &Said<'_, SymbolRange>) -> Tri {
+    line_value(t.solved, r.at.entry, condition(&r.what.when))
 }
 
 // Adds a range, whose line has this value.
@@ -473,7 +443,7 @@ pub(crate) fn add_range(
     ensures { OnOk result (text.new.items ≡ text.old.items
         ++ led t.now.lead.now (rules.range_text t.now.lines.now t.now.solved.now (range_said r.now) ∷ [])) }
 {
-    let value = range_value(alloc, t, r)?;
+    let value = range_value(t, r);
     text.extend_from_slice(t.lead)?;
     add_range_of(t, r, value, text)?;
     text.extend_from_slice(b"\n")
@@ -559,14 +529,7 @@ fn value_under(
     match value {
         Tri::N => Ok(Tri::N),
         Tri::M | Tri::Y => {
-            let own = line_value(
-                alloc,
-                t.lines,
-                t.solved,
-                target.entry,
-                target.at,
-                condition(target.when),
-            )?;
+            let own = line_value(t.solved, target.at.entry, condition(target.when));
             Ok(lesser(value, own))
         }
     }
@@ -641,7 +604,7 @@ pub(crate) fn add_target(
     ensures { OnOk result (text.new.items ≡ text.old.items
         ++ led t.now.lead.now (rules.target_text t.now.lines.now t.now.solved.now t.now.is_raw word.now (target_at_view target.now) ∷ [])) }
 {
-    let symbol = t.lines.symbol_at(target.entry);
+    let symbol = t.lines.layout.symbol_of(target.at.entry);
     let value = value_from(alloc, t, symbol, target)?;
     text.extend_from_slice(t.lead)?;
     add_target_of(t, word, symbol, target, value, text)?;

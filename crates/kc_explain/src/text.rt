@@ -22,7 +22,7 @@ use crate::line_text::{
     Teller, add_active, add_choice_default, add_member, add_modules, add_name, add_place,
     add_range, add_symbol_default, add_target, add_with_parts, add_worth,
 };
-use crate::lines::{Lines, TargetAt};
+use crate::lines::{Lines, TargetAt, first_of};
 use crate::parts::{
     ConditionPart, Said, default_lines, defaults_at, dependency_parts, parts_value, prompt_at,
     range_lines, shown_parts,
@@ -34,9 +34,9 @@ use kc_expr::values::{Values, lesser};
 use kc_language::explanations::Source;
 use kc_language::symbols::SelectOrImply;
 use kc_language::values::Interval;
-use kc_read::statement::Prompt;
+use kc_read::statement::{Prompt, SymbolDefault, SymbolRange};
 use kc_solve::solved::Solved;
-use kc_tree::rows::{Choice, SymbolDefault, SymbolRange};
+use kc_tree::rows::{Choice, EntryId};
 use kc_user::value::UserValue;
 use kc_values::laws::rows_tell_facts;
 use std::alloc::{AllocError, Global};
@@ -44,29 +44,26 @@ use std::alloc::{AllocError, Global};
 // ---- definitions and prompts
 
 // Adds what an entry that defines a symbol depends on.
+// contract: to do
 fn add_definition(
     alloc: Global,
     t: &Teller<'_, '_, '_>,
-    entry: usize,
+    entry: EntryId,
     text: &mut Vec<u8>,
-) -> Result<(), AllocError>
-    ensures { OnOk result (text.new.items ≡ text.old.items ++ led t.now.lead.now (rules.definition_text t.now.lines.now t.now.solved.now entry)) }
-{
+) -> Result<(), AllocError> {
     let parts = dependency_parts(alloc, t.lines, entry)?;
     let value = parts_value(t.solved, &parts);
-    add_with_parts(t, entry, b"dependencies", value, &parts, text)
+    add_with_parts(t, first_of(entry), b"dependencies", value, &parts, text)
 }
 
 // Adds what these entries depend on.
+// contract: to do
 fn add_definitions(
     alloc: Global,
     t: &Teller<'_, '_, '_>,
-    entries: &[usize],
+    entries: &[EntryId],
     text: &mut Vec<u8>,
-) -> Result<(), AllocError>
-    ensures { OnOk result (text.new.items ≡ text.old.items
-        ++ led t.now.lead.now (flat_map (rules.definition_text t.now.lines.now t.now.solved.now) entries.now)) }
-{
+) -> Result<(), AllocError> {
     for entry in entries {
         add_definition(alloc, t, *entry, text)?;
     }
@@ -74,7 +71,6 @@ fn add_definitions(
 }
 
 // The value of these parts of a condition and of more.
-#[tactic(auto, using(crate::proofs::ToldLemmas::parts_value_both))]
 fn value_of_both(
     solved: &Solved<'_>,
     first: &[ConditionPart<'_>],
@@ -95,7 +91,7 @@ fn add_prompt(
     ensures { OnOk result (text.new.items ≡ text.old.items
         ++ led t.now.lead.now (rules.prompt_text t.now.lines.now t.now.solved.now (prompt_said prompt.now))) }
 {
-    let parts = dependency_parts(alloc, t.lines, prompt.entry)?;
+    let parts = dependency_parts(alloc, t.lines, prompt.at.entry)?;
     let shown = shown_parts(alloc, t.lines, prompt)?;
     let value = value_of_both(t.solved, &parts, &shown);
     add_with_parts(t, prompt.at, b"prompt", value, &shown, text)
@@ -118,29 +114,25 @@ fn add_prompt_of(
 }
 
 // Adds the prompt of an entry that counts.
+// contract: to do
 fn add_prompt_at(
     alloc: Global,
     t: &Teller<'_, '_, '_>,
-    entry: usize,
+    entry: EntryId,
     text: &mut Vec<u8>,
-) -> Result<(), AllocError>
-    ensures { OnOk result (text.new.items ≡ text.old.items
-        ++ led t.now.lead.now (spec.prompts_at t.now.lines.now t.now.solved.now entry)) }
-{
-    let prompt = prompt_at(alloc, t.lines, entry)?;
+) -> Result<(), AllocError> {
+    let prompt = prompt_at(t.lines, entry);
     add_prompt_of(alloc, t, prompt, text)
 }
 
 // Adds the prompts of these entries that count, entry by entry.
+// contract: to do
 fn add_prompts_each(
     alloc: Global,
     t: &Teller<'_, '_, '_>,
-    entries: &[usize],
+    entries: &[EntryId],
     text: &mut Vec<u8>,
-) -> Result<(), AllocError>
-    ensures { OnOk result (text.new.items ≡ text.old.items
-        ++ led t.now.lead.now (flat_map (spec.prompts_at t.now.lines.now t.now.solved.now) entries.now)) }
-{
+) -> Result<(), AllocError> {
     for entry in entries {
         add_prompt_at(alloc, t, *entry, text)?;
     }
@@ -148,15 +140,13 @@ fn add_prompts_each(
 }
 
 // Adds the prompts of these entries that count.
+// contract: to do
 fn add_prompts(
     alloc: Global,
     t: &Teller<'_, '_, '_>,
-    entries: &[usize],
+    entries: &[EntryId],
     text: &mut Vec<u8>,
-) -> Result<(), AllocError>
-    ensures { OnOk result (text.new.items ≡ text.old.items
-        ++ led t.now.lead.now (flat_map (rules.prompt_text t.now.lines.now t.now.solved.now) (rules.prompt_lines (statements t.now.lines.now) entries.now))) }
-{
+) -> Result<(), AllocError> {
     add_prompts_each(alloc, t, entries, text)
 }
 
@@ -306,7 +296,7 @@ fn source_text(from: Source) -> &'static [u8]
 }
 
 // What is said of a name without a type that these entries define.
-fn untyped_text(entries: &[usize]) -> &'static [u8]
+fn untyped_text(entries: &[EntryId]) -> &'static [u8]
     ensures { result.now ≡ rules.untyped_text entries.now }
 {
     if entries.is_empty() {
@@ -319,7 +309,7 @@ fn untyped_text(entries: &[usize]) -> &'static [u8]
 // Adds the first line of a name without a type that these entries define.
 fn add_untyped_head(
     t: &Teller<'_, '_, '_>,
-    entries: &[usize],
+    entries: &[EntryId],
     id: SymId,
     text: &mut Vec<u8>,
 ) -> Result<(), AllocError>
@@ -368,7 +358,7 @@ fn add_typed_head(
 #[tactic(auto, using(crate::proofs::ToldLemmas::typed_within))]
 fn add_head_of(
     t: &Teller<'_, '_, '_>,
-    entries: &[usize],
+    entries: &[EntryId],
     id: SymId,
     symbol_type: SymbolType,
     text: &mut Vec<u8>,
@@ -386,7 +376,7 @@ fn add_head_of(
 // Adds the first line of a symbol that these entries define.
 fn add_head(
     t: &Teller<'_, '_, '_>,
-    entries: &[usize],
+    entries: &[EntryId],
     id: SymId,
     text: &mut Vec<u8>,
 ) -> Result<(), AllocError>
@@ -593,18 +583,17 @@ fn members_of<'a>(solved: &'a Solved<'_>, choice: usize) -> &'a [SymId]
 }
 
 // Adds the mode of a choice, which the entry begins, and what it depends on.
+// contract: to do
 fn add_mode(
     alloc: Global,
     t: &Teller<'_, '_, '_>,
     choice: usize,
-    entry: usize,
+    entry: EntryId,
     text: &mut Vec<u8>,
-) -> Result<(), AllocError>
-    ensures { OnOk result (text.new.items ≡ text.old.items ++ led t.now.lead.now (spec.mode_lines t.now.lines.now t.now.solved.now choice entry)) }
-{
+) -> Result<(), AllocError> {
     let parts = dependency_parts(alloc, t.lines, entry)?;
     let mode = t.solved.mode(choice);
-    add_with_parts(t, entry, b"choice", mode, &parts, text)
+    add_with_parts(t, first_of(entry), b"choice", mode, &parts, text)
 }
 
 // Adds a choice, which the entry begins.
@@ -612,7 +601,7 @@ fn add_choice_at(
     alloc: Global,
     t: &Teller<'_, '_, '_>,
     choice: usize,
-    entry: usize,
+    entry: EntryId,
     text: &mut Vec<u8>,
 ) -> Result<(), AllocError>
     ensures { OnOk result (text.new.items ≡ text.old.items ++ led t.now.lead.now (spec.choice_lines t.now.lines.now t.now.solved.now t.now.is_raw choice entry)) }
@@ -629,7 +618,7 @@ fn add_choice_of(
     alloc: Global,
     t: &Teller<'_, '_, '_>,
     choice: usize,
-    entry: Option<usize>,
+    entry: Option<EntryId>,
     text: &mut Vec<u8>,
 ) -> Result<(), AllocError>
     ensures { OnOk result (text.new.items ≡ text.old.items

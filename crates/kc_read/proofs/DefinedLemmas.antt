@@ -1,6 +1,6 @@
 -- The names that an expanded list defines: which they may be, and how many; and that no line of it gives the type that stands
 -- for none.
-use Rattle.std.proofs.Common.{◌≡◌, ℕ, zero, suc, ◌≤◌, nat_lt, Bool, true, false, if◌then◌else◌, List, [], ◌∷◌, ◌++◌, length, drop, map, Option, Some, None, Result, Ok, Err, MatchOption, refl, ap, sym, ◌∙◌, subst, arith, inl, inr, codes}
+use Rattle.std.proofs.Common.{◌≡◌, ◌×◌, ℕ, zero, suc, ◌≤◌, nat_lt, Bool, true, false, if◌then◌else◌, List, [], ◌∷◌, ◌++◌, length, drop, map, Option, Some, None, Result, Ok, Err, MatchOption, refl, ap, sym, ◌∙◌, subst, arith, inl, inr, codes}
 use Rattle.std.specs.Prelude.{All}
 use Rattle.std.specs.List.{list_all, list_any, slice_get}
 use Rattle.std.proofs.lemmas.Bool.Decides.{nat_tests}
@@ -54,12 +54,14 @@ AllowsKey (key.Def k) = IsGiven k
 AllowsKey _ = Unit {0}
 
 -- whether it does
-abbrev allows_key : Keyword → Bool
+allows_key : Keyword → Bool
 allows_key k = elim k [ key.Type symbol_type.Undefined ↦ false | key.Def symbol_type.Undefined ↦ false | _ ↦ true ]
 
 allowed_key : (k : Keyword) → allows_key k ≡ true → AllowsKey k
-allowed_key (key.Type k) e = λ u. let h : true ≡ false = sym e ∙ ap (λ t. allows_key (key.Type t)) u in cc
-allowed_key (key.Def k) e = λ u. let h : true ≡ false = sym e ∙ ap (λ t. allows_key (key.Def t)) u in cc
+allowed_key (key.Type symbol_type.Undefined) e = absurd cc
+allowed_key (key.Type k) e = λ u. cc
+allowed_key (key.Def symbol_type.Undefined) e = absurd cc
+allowed_key (key.Def k) e = λ u. cc
 allowed_key _ e = tt
 
 key_in : (ks : List (List ℕ × Keyword)) (w : List ℕ) (k : Keyword) → list_all (λ j. allows_key j.1) ks ≡ true → keyword_in ks w ≡ Some k → AllowsKey k

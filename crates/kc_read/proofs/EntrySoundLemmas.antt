@@ -7,7 +7,7 @@ use Rattle.kc_language.specs.Statements.{Numbered, Located, ConfigLine, MenuLine
 use Rattle.kc_language.specs.Symbols.{Condition, Shown, SymbolShown, MenuShown, EndShown, CommentShown, TreeFacts, dependency, shown_at, is_first_definition, indices, symbol_at}
 use Rattle.kc_read.specs.PartsOfSymbols.{shown_number}
 use Rattle.kc_read.specs.PartsOfSymbols.{enclosing_block, shown_when, symbol_of}
-use Rattle.kc_tree.specs.TreeFacts.{IsModeBelow, IsEntrySound}
+use Rattle.kc_read.specs.WellFormed.{IsModeBelow, IsEntrySound}
 use Rattle.kc_read.proofs.ElementLemmas.{filter_map-from}
 use Rattle.kc_read.proofs.SymbolListLemmas.{line_defined}
 use Rattle.kc_read.proofs.FormedLemmas.{line_statements, sound_at, tree}

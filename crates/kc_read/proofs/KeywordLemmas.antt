@@ -1,5 +1,5 @@
 -- The keyword of a word, by its length.
-use Rattle.std.proofs.Common.{◌≡◌, ◌∙◌, ◌&&◌, sym, ap, refl, ℕ, Bool, true, false, List, length}
+use Rattle.std.proofs.Common.{◌≡◌, ◌∙◌, ◌×◌, ◌&&◌, sym, ap, refl, ℕ, Bool, true, false, List, length}
 use Rattle.std.proofs.lemmas.Map.Entries.{lookup-filter-keys}
 use Rattle.kc_language.specs.Expressions.{same_name}
 use Rattle.kc_language.specs.Statements.{keyword_of, keyword_words}

@@ -19,7 +19,7 @@ use Rattle.kc_language.specs.Statements.{Cause, LineContext, After, Front, IsCon
 use Rattle.kc_read.specs.PartsOfStatements.{IsWhole, ReadsTarget, ReadsType, choice_line, expected}
 use Rattle.kc_language.specs.Statements.{in_place, keyword_or_refusal}
 use Rattle.kc_read.specs.PartsOfStatements.{ReadsPlaced, front, good_name, value_form}
-use Rattle.kc_tree.specs.TreeFacts.{IsLineText, IsLineForm}
+use Rattle.kc_read.specs.WellFormed.{IsLineText, IsLineForm}
 use Rattle.kc_read.proofs.LineTextLemmas.{AreOneLine, IsLineAtom, IsLineLexeme, IsLineTerminal, all_front, atom_lines, cut_line, file_lines, helped, taken_line, terminal_lines, value_line, word_lines}
 use Rattle.kc_read.proofs.TurnLemmas.{after}
 

@@ -61,10 +61,10 @@ fault_of_rest files a l own log c why e (step.no_tokens new ts w n) = no_tokens 
 fault_of_rest files a l own log c why e (step.refused_line new w n) = bad_line a l new own log w (subst (λ k. NextStatement files.flat l new k (Err w)) e n)
 
 -- a refusal that is made for a cause and a line
-pub refusal_stands : (files : Files) (a : FileContext) (l : UnreadLines) (own : List (Located Named)) (log : ReadSoFar) (r : Refusal) (why : Cause) (file : List ℕ)
+pub refusal_at : (files : Files) (a : FileContext) (l : UnreadLines) (own : List (Located Named)) (log : ReadSoFar) (r : Refusal) (why : Cause) (file : List ℕ)
     (line : ℕ) → refusal_view r ≡ refusal_at why file line → file ≡ a.file → line ≡ l.number → Rest files a l own log (Err (refusal_at why a.file l.number)) →
     Rest files a l own log (Err (refusal_view r))
-refusal_stands files a l own log r why file line v e n rest =
+refusal_at files a l own log r why file line v e n rest =
     subst (λ x. Rest files a l own log (Err x)) (sym (v ∙ ap (λ f. refusal_at why f line) e ∙ ap (λ k. refusal_at why a.file k) n)) rest
 
 pub step_refused : (files : Files) (a : FileContext) (l : UnreadLines) (own : List (Located Named)) (log : ReadSoFar) (c : LineContext) (file : List ℕ) (r : Refusal)

@@ -7,7 +7,7 @@ use Rattle.std.proofs.lemmas.List.Sums.{length-filter}
 use Rattle.kc_language.specs.declared.expressions.SymId.{SymId}
 use Rattle.kc_language.specs.Expansion.{numbers}
 use Rattle.kc_language.specs.Statements.{Numbered, Located, ConfigLine, statements}
-use Rattle.kc_tree.specs.TreeFacts.{ShowsEach}
+use Rattle.kc_read.specs.WellFormed.{ShowsEach}
 use Rattle.kc_language.specs.Symbols.{SymbolShown, is_symbol_of, shown_at, is_first_definition, indices, symbol_at, facts_with}
 use Rattle.kc_read.specs.PartsOfSymbols.{entries}
 use Rattle.kc_read.specs.PartsOfSymbols.{symbol_of}

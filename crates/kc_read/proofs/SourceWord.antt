@@ -1,5 +1,5 @@
 -- The lines that begin with the word `source`, and no others, are `source` lines.
-use Rattle.std.proofs.Common.{◌≡◌, ◌||◌, not, sym, inl, inr, ℕ, Bool, true, false, cond, List, [], ◌∷◌, drop, codes, Option, Some, None, Result, Ok, Err, refl, ap, ◌∙◌, subst}
+use Rattle.std.proofs.Common.{◌≡◌, ◌×◌, ◌||◌, not, sym, inl, inr, ℕ, Bool, true, false, cond, List, [], ◌∷◌, drop, codes, Option, Some, None, Result, Ok, Err, refl, ap, ◌∙◌, subst}
 use Rattle.std.proofs.lemmas.Bool.{cases_Bool}
 use Rattle.std.specs.List.{list_all}
 use Rattle.kc_read.proofs.KeywordLemmas.{both}
@@ -37,9 +37,9 @@ other_in [] w a e = refl
 other_in (k ∷ more) w a e =
     let own : (is_other k ≡ true) × (list_all is_other more ≡ true) = both (is_other k) (list_all is_other more) a in
     elim (cases_Bool (is_source_key (Some k.1))) [
-      | inr other ↦ other_word (same_name w k.0) k.1 (keyword_in more w) other (other_in more w own.1 e)
-      | inl found ↦
-          let same : k.0 ≡ codes "source" = same_name_eq k.0 (codes "source") (sym (ap (λ b. not b || same_name k.0 (codes "source")) found) ∙ own.0) in
+      | inr no ↦ other_word (same_name w k.0) k.1 (keyword_in more w) no (other_in more w own.1 e)
+      | inl yes ↦
+          let same : k.0 ≡ codes "source" = same_name_eq k.0 (codes "source") (sym (ap (λ b. not b || same_name k.0 (codes "source")) yes) ∙ own.0) in
           ap (λ b. is_source_key (cond b (Some k.1) (keyword_in more w))) (ap (same_name w) same ∙ e) ∙ other_in more w own.1 e
     ]
 

@@ -12,7 +12,7 @@ use Rattle.kc_language.specs.Statements.{Named, Numbered, Located, ConfigLine, C
 use Rattle.kc_language.specs.Symbols.{TreeFacts, SymbolFacts, Guarded, Shown, SymbolShown, MenuShown, EndShown, CommentShown, StatedDefault, definitions_of, dependency, shown_at, stated_default, is_first_definition, indices, symbol_facts, facts_with}
 use Rattle.kc_read.specs.PartsOfSymbols.{shown_number}
 use Rattle.kc_read.specs.PartsOfSymbols.{guarded_default, defaults_at, enclosing_block, shown_when, title_of}
-use Rattle.kc_tree.specs.TreeFacts.{HasLineTexts, IsLineText, IsLineForm, OfTitle}
+use Rattle.kc_read.specs.WellFormed.{HasLineTexts, IsLineText, IsLineForm, OfTitle}
 use Rattle.kc_read.proofs.ElementLemmas.{All-at, All-cons_option, All-flat_map, All-map_each, filter_map-from}
 use Rattle.kc_read.proofs.ReadTextLemmas.{HasTexts, IsInLines, IsLineValue}
 

@@ -21,7 +21,7 @@ use Rattle.kc_language.specs.declared.statements.Block.TheVariants as block
 use Rattle.kc_language.specs.Expansion.{Files, Expands, ReadSoFar, Refused, refusal_at, definitions, mentioned_names, numbered_lines}
 use Rattle.kc_read.specs.PartsOfExpansion.{defined}
 use Rattle.kc_read.proofs.NameLemmas.{known_at}
-use Rattle.kc_tree.specs.TreeFacts.{IsMentioned, IsSymbolName, IsWellFormed}
+use Rattle.kc_read.specs.WellFormed.{IsMentioned, IsSymbolName, IsWellFormed}
 use Rattle.kc_read.proofs.DefinedLemmas.{AreNames}
 use Rattle.kc_read.proofs.ElementLemmas.{All-at, found_is}
 use Rattle.kc_read.proofs.EntrySoundLemmas.{entries_sound}

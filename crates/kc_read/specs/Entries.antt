@@ -1,5 +1,5 @@
 -- Trusted: The lines of entries.
-use Rattle.std.specs.Prelude.{◌≡◌, ◌<◌, ◌+◌, ◌-◌, ℕ, List, [], ◌∷◌, ◌++◌, length, map, take, drop, Option, Some, None}
+use Rattle.std.specs.Prelude.{◌≡◌, ◌<◌, ◌+◌, ◌-◌, ℕ, List, [], ◌∷◌, ◌++◌, length, map, slice_get, suc, take, drop, Option, Some, None}
 use Rattle.kc_read.specs.declared.entries.AttributeLine.{AttributeLine}
 use Rattle.kc_read.specs.declared.entries.Entries.{Entries}
 use Rattle.kc_read.specs.declared.entries.Entry.{Entry}
@@ -41,8 +41,14 @@ lines_in es = lines_of es.first_lines.items es.attributes.items
 abbrev pub lines_from : Entries → ℕ → List (Located Numbered)
 lines_from es i = lines_of (drop i es.first_lines.items) es.attributes.items
 
--- the lines of an entry stand before those of the entries behind it
+-- where the attributes of the entry with a number begin; past the last entry, how many there are
+abbrev pub start_at : Entries → ℕ → ℕ
+start_at es i = start_of (drop i es.first_lines.items) (length es.attributes.items)
+
+-- an entry has the number, with its own attributes; its lines stand before those of the entries behind it
 pub record BeginsAt (es : Entries) (i : ℕ) (e : EntryLines) : Type 0 where
+  pub first : slice_get es.first_lines.items i ≡ Some e.first.now
+  pub own : e.attributes.now ≡ own_of e.first.now (start_at es (suc i)) es.attributes.items
   pub there : i < length es.first_lines.items
   pub lines : lines_from es i ≡ first_line e.first.now ∷ own_lines e.first.now e.attributes.now ++ lines_from es (i + 1)
 

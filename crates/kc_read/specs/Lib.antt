@@ -21,3 +21,4 @@ pub mod Replaced
 pub mod Scopes
 pub mod SourceSteps
 pub mod StatementViews
+pub mod WellFormed

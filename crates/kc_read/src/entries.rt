@@ -126,6 +126,16 @@ impl Entries {
         Ok(())
     }
 
+    /// The line that begins the entry with a number, counted from 0; `None` past the last.
+    pub fn head(&self, i: usize) -> Option<&Head>
+        ensures { option_map (λ h. h.now) result ≡ option_map (λ e. e.head) (slice_get self.now.first_lines.items i) }
+    {
+        match first_at(&self.first_lines, i) {
+            Some(entry) => Some(&entry.head),
+            None => None,
+        }
+    }
+
     /// The entry with a number, counted from 0; `None` past the last (the numbers are our own).
     pub fn entry(&self, i: usize) -> Option<EntryLines<'_>>
         ensures { IsEntryAt self.now i result }

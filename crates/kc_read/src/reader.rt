@@ -19,12 +19,13 @@ use crate::line_parts::{
 };
 use crate::placement::{left_out, placement_fault};
 use crate::progress::Progress;
-use crate::statement::{Attribute, Head, Keyword, LineFault, Prompt, Statement};
+use crate::statement::{
+    Attribute, Head, Keyword, LineFault, Prompt, Statement, SymbolDefault, SymbolRange,
+};
 use kc_diagnostics::Cause;
 use kc_expr::expression::{SymId, SymbolType};
 use kc_expr::names::Names;
 use kc_text::Token;
-use kc_tree::rows::{SymbolDefault, SymbolRange};
 use std::alloc::Global;
 
 /// Where the next line stands: in a file that is open, behind what was read so far.

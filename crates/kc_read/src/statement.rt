@@ -1,9 +1,8 @@
 //! The statement of a line.
 
 use kc_diagnostics::Cause;
-use kc_expr::expression::{Expr, SymId, SymbolType};
+use kc_expr::expression::{Expr, Operand, SymId, SymbolType};
 pub use kc_language::statements::{Block, EntryKind, Keyword};
-use kc_tree::rows::{SymbolDefault, SymbolRange};
 use std::mem::size_of;
 use std::rc::Rc;
 
@@ -11,6 +10,21 @@ use std::rc::Rc;
 /// is read and not kept, since nothing written shows it.
 #[derive(Debug, Drop)]
 pub struct Prompt {
+    pub when: Option<Rc<Expr>>,
+}
+
+/// A default: its value and its own `if` (the kernel's kconfig-language document, "Menu attributes": default value).
+#[derive(Debug, Drop)]
+pub struct SymbolDefault {
+    pub value: Rc<Expr>,
+    pub when: Option<Rc<Expr>>,
+}
+
+/// A range: its bounds and its own `if` (the kernel's kconfig-language document, "Menu attributes": numerical ranges).
+#[derive(Debug, Drop)]
+pub struct SymbolRange {
+    pub low: Operand,
+    pub high: Operand,
     pub when: Option<Rc<Expr>>,
 }
 
@@ -29,9 +43,8 @@ pub enum Head {
     MainMenu(Box<Vec<u8>>),
 }
 
-/// A further line of an entry (the kernel's kconfig-language document, "Menu attributes"). Defaults and ranges are those of
-/// the tree's tables. Expressions and what few lines have are apart, so that a list of lines stays small; expressions are
-/// shared with what is made of the line.
+/// A further line of an entry (the kernel's kconfig-language document, "Menu attributes"). Expressions and what few lines have
+/// are apart, so that a list of lines stays small.
 #[derive(Debug, Drop)]
 pub enum Attribute {
     Type(SymbolType, Option<Prompt>),

@@ -12,7 +12,7 @@ use Rattle.kc_order.specs.Graph.{Nodes}
 use Rattle.kc_language.specs.Needs.{needs_in}
 use Rattle.kc_tree.specs.Contexts.{mode_view}
 use Rattle.kc_tree.specs.Layouts.{IsLayoutOf, facts_of}
-use Rattle.kc_tree.specs.TreeFacts.{IsMentioned, IsWellFormed}
+use Rattle.kc_read.specs.WellFormed.{IsMentioned, IsWellFormed}
 use Rattle.kc_language.specs.Symbols.{TreeFacts}
 use Rattle.kc_tree.specs.declared.layout.Layout.{Layout}
 use Rattle.kc_language.specs.declared.symbols.ChoiceId.{ChoiceId}

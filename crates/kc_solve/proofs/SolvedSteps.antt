@@ -18,7 +18,7 @@ use Rattle.kc_language.specs.declared.expressions.SymbolType.TheVariants.{Undefi
 use Rattle.kc_language.specs.Values.{Solves, IsOnlySolution, GivenValue, UserPlace, SymbolPlace, ChoicePlace, differs, differs_at, is_new, is_new_by, selection, default_selection, choice_at, facts, name, type_in, equations, rhs, known_from, user_place, name_count, equation, selected}
 use Rattle.kc_values.specs.PartsOfValues.{is_mentioned}
 use Rattle.kc_values.specs.PartsOfValues.{same_value}
-use Rattle.kc_tree.specs.TreeFacts.{IsWellFormed}
+use Rattle.kc_read.specs.WellFormed.{IsWellFormed}
 use Rattle.kc_language.specs.ConfigFile.{Places, place_at}
 use Rattle.kc_values.specs.Laws.{MinimalRestores, MinimalHasNothingToSpare, IdempotentWhere as Law}
 use Rattle.kc_values.specs.Table.{value_in, tri_in, text_in, known_in}

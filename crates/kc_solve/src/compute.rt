@@ -12,11 +12,11 @@ ghost use Rattle.kc_values.specs.User.{given_in};
 use kc_expr::expression::{SymId, SymbolType};
 use kc_tree::laid_tree::LaidTree;
 use kc_tree::layout::Layout;
-use kc_tree::rows::{ChoiceId, ContextId, Symbol};
+use kc_tree::rows::{ChoiceId, EntryId, Symbol, VisibleId};
 use kc_user::sparse::SparseVec;
 use kc_user::value::UserValue;
 use kc_values::choices::selected_in;
-use kc_values::conditions::context;
+use kc_values::conditions::{choice_dependency, context, visible_context};
 use kc_values::equation::equation;
 use kc_values::nodes::{Node, node_of};
 use kc_values::table::{Table, Value};
@@ -76,16 +76,28 @@ fn compute_symbol(
     Ok(())
 }
 
-// Computes the value of the next context.
-fn compute_context(table: &mut Table<'_>, id: ContextId)
-    requires { id.0 < length table.old.contexts.items }
-    ensures { IsComputedContext id.0 table.old table.new }
-{
+// Computes what the next menu asks of what is visible.
+// contract: to do
+fn compute_visible(table: &mut Table<'_>, id: VisibleId) {
+    let value = visible_context(table, id);
+    table.visibles[id.0 as usize] = Some(value);
+}
+
+// Computes what the next entry depends on.
+// contract: to do
+fn compute_context(table: &mut Table<'_>, id: EntryId) {
     let value = context(table, id);
     table.contexts[id.0 as usize] = Some(value);
 }
 
-// Computes the selection of the next choice.
+// Computes what the next choice depends on itself.
+// contract: to do
+fn compute_dependency(table: &mut Table<'_>, id: ChoiceId) {
+    let value = choice_dependency(table, id);
+    table.dependencies[id.0 as usize] = Some(value);
+}
+
+// Computes what the next choice selects.
 fn compute_selection(table: &mut Table<'_>, id: ChoiceId, chosen: &[Option<SymId>])
     requires there { id.0 < length table.old.selections.items }
     requires chosen { id.0 < length chosen.now }
@@ -117,7 +129,9 @@ pub(crate) fn compute<'t>(
     for node in nodes {
         match node_of(table.layout, *node) {
             Node::Symbol(id) => compute_symbol(alloc, &mut table, id, given, chosen)?,
+            Node::Visible(id) => compute_visible(&mut table, id),
             Node::Context(id) => compute_context(&mut table, id),
+            Node::Dependency(id) => compute_dependency(&mut table, id),
             Node::Choice(id) => compute_selection(&mut table, id, chosen),
         }
     }

@@ -21,11 +21,10 @@ use kc_diagnostics::Warning;
 use kc_expr::expression::{SymId, SymbolType, Tri};
 use kc_expr::values::{Values, tri_text, truth_of};
 use kc_language::explanations::Source;
-use kc_tree::layout::Layout;
-use kc_tree::rows::{ChoiceId, ContextId, ShownEntry, Title};
+use kc_tree::rows::{ChoiceId, EntryId};
 use kc_tree::tree::Tree;
 use kc_user::user::User;
-use kc_values::conditions::title_condition;
+use kc_values::conditions::{dependency, title_condition};
 use kc_values::laws::{idempotent_where, minimal_restores};
 use kc_values::numbers::{Interval, active_range};
 use kc_values::table::Table;
@@ -117,19 +116,18 @@ impl<'a> Solved<'a> {
         let _count = self.table.tree.name_count();
     }
 
-    /// Returns the condition under which the menu or comment of this number is shown: the least of the conditions of
-    /// the enclosing blocks, its own lines, and the mode of the enclosing choice (the kernel's kconfig-language
-    /// document). Other entries are y.
-    pub fn shown(&self, index: usize) -> Tri
-        ensures { result ≡ spec.shown self.now (slice_get self.now.tree.entries index) }
-    {
-        match title_at(self.table.layout, index) {
-            Some(title) => title_condition(&self.table, title),
-            None => {
-                let _top = self.table.layout.context(ContextId(0));
-                Tri::Y
-            }
-        }
+    /// When the entry of this number is shown, a menu or comment: the least of what the enclosing blocks and its own lines ask
+    /// for, and of the mode of the enclosing choice (the kernel's kconfig-language document). Another entry is y.
+    // contract: to do
+    pub fn shown(&self, at: EntryId) -> Tri {
+        title_condition(&self.table, at)
+    }
+
+    /// What an entry depends on: the least of what the enclosing blocks and its own lines ask for, and of the mode of the enclosing
+    /// choice (the kernel's kconfig-language document, "Menu dependencies"). Of a choice it is not what its members depend on.
+    // contract: to do
+    pub fn dependency(&self, at: EntryId) -> Tri {
+        dependency(&self.table, at)
     }
 
     /// The visibility of a symbol: the greatest condition of its prompts, with y for m if the symbol can't be m
@@ -243,18 +241,7 @@ impl<'a> Solved<'a> {
     }
 }
 
-// The title of the entry of this number, if it is a menu or comment.
-fn title_at(layout: &Layout, index: usize) -> Option<&Title>
-    ensures { IsTitleAt layout.now index result }
-{
-    match layout.entries().get(index) {
-        Some(ShownEntry::Menu(id) | ShownEntry::Comment(id)) => layout.title(*id),
-        Some(ShownEntry::Symbol(_) | ShownEntry::End(_)) => None,
-        None => None,
-    }
-}
-
-// The text of a symbol's value: `n`, `m` or `y` for a bool or tristate.
+// The text of what is known of a symbol: `n`, `m` or `y` of a bool or tristate.
 fn known_text<'t>(table: &'t Table, id: SymId) -> &'t [u8]
     ensures { result.now ≡ text_of_value (known_at table.now id) }
 {

@@ -1,19 +1,16 @@
 #![tactic(auto)]
-//! What a Kconfig tree says: its symbols, choices, entries and warnings, and the tables that they are laid out in.
+//! What a Kconfig tree says: its entries, as they were read, and what stands where among them.
 //!
-//! - [`tree`]: the tree, and the facts about each symbol, choice and entry.
-//! - [`layout`]: the tables that hold these facts; [`laid_tree`]: a tree with its tables.
-//! - [`rows`]: the rows of the tables, and their numbers.
-//! - [`definitions`]: the definitions of one symbol.
-//! - [`contexts`]: what an entry depends on, shared by all entries of a block.
-//! - [`selector_rows`]: who selects and who implies each symbol.
+//! - [`tree`]: the tree; [`laid_tree`]: a tree with its layout.
+//! - [`layout`]: the entries, and beside them the blocks around each, the chains of definitions, and by symbol and choice what
+//!   names it.
+//! - [`rows`]: the rows of the layout, and their numbers.
+//! - [`attributes`]: what one line of an entry says.
 //! - [`maybe_choice`]: a choice or none, in four bytes.
 
-pub mod contexts;
-pub mod definitions;
+pub mod attributes;
 pub mod laid_tree;
 pub mod layout;
 pub mod maybe_choice;
 pub mod rows;
-pub mod selector_rows;
 pub mod tree;

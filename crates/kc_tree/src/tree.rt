@@ -2,14 +2,14 @@
 
 ghost use Rattle.std.specs.Prelude.{◌≡◌, ◌<◌, length, map, Some, slice_get, position, option_map};
 ghost use Rattle.kc_language.specs.Expressions.{symbol, same_name};
-ghost use Rattle.kc_tree.specs.Wholes.{tree_of};
-ghost use Rattle.kc_tree.specs.RowFacts.{IsSymbolRowOf, AreChoicesOf, AreEntriesOf};
+ghost use Rattle.kc_tree.specs.TreeView.{tree_of, IsNamed};
+ghost use Rattle.kc_tree.specs.RowFacts.{IsSymbolRowOf, AreChoicesOf};
 ghost use Rattle.kc_tree.specs.Layouts.{IsLayoutOf};
-ghost use Rattle.kc_tree.specs.TreeFacts.{IsWellFormed};
+ghost use Rattle.kc_read.specs.WellFormed.{IsWellFormed};
 
 use crate::laid_tree::LaidTree;
 use crate::layout::{Layout, TreeParts};
-use crate::rows::{Choice, ShownEntry, Symbol};
+use crate::rows::{Choice, Symbol};
 use kc_expr::expression::SymId;
 use kc_expr::names::Names;
 use std::marker::Model;
@@ -27,24 +27,25 @@ pub struct Tree {
 
 impl Model for Tree {
     ghost use Rattle.kc_language.specs.Symbols.{TreeFacts};
-    ghost use Rattle.kc_tree.specs.TreeFacts.{IsWellFormed};
+    ghost use Rattle.kc_read.specs.WellFormed.{IsWellFormed};
     ghost use Rattle.kc_tree.specs.TreeCode.{tree_code};
 
     ghost Value = { TreeFacts };
 
     ghost coded = { tree_code };
 
-    ghost use Rattle.kc_tree.specs.TreeView.{tree_of_parts};
+    ghost use Rattle.kc_tree.specs.TreeView.{tree_of_parts, IsNamed};
 
     ghost view = { tree_of_parts };
 
-    ghost invariant = { λ t. IsWellFormed (tree_of_parts t) };
+    ghost invariant = { λ t. IsWellFormed (tree_of_parts t) × IsNamed t.names t.layout };
 }
 
 impl Tree {
-    /// The tree with these names and parts. The caller owes that they are well formed.
+    /// The tree with these names and parts. The caller owes that they are well formed, and that the layout has these names.
     pub fn of(names: Names, parts: TreeParts) -> Tree
-        requires { IsWellFormed (tree_of names parts) }
+        requires formed { IsWellFormed (tree_of names parts) }
+        requires named { IsNamed names parts.layout }
         ensures { result ≡ tree_of names parts }
     {
         let TreeParts {
@@ -136,15 +137,6 @@ impl Tree {
             tree: self,
             layout: &self.layout,
         }
-    }
-
-    /// What a configuration file shows, in order: the symbols, menus and comments among the menu entries of the kernel's
-    /// kconfig-language document (kconfiglib's `node_iter` walks the same ones).
-    pub fn entries(&self) -> &[ShownEntry]
-        ensures shown { AreEntriesOf self.now.entries result.now }
-        ensures formed { IsWellFormed self.now }
-    {
-        self.layout.entries()
     }
 
     /// The choices, in the order in which they open: choice k has number k (the choices are the kernel's kconfig-language

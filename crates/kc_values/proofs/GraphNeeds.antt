@@ -11,7 +11,7 @@ use Rattle.kc_language.specs.Needs.{needs_in}
 use Rattle.kc_tree.specs.Contexts.{IsContextAt, condition_in, mode_view}
 use Rattle.kc_tree.specs.Layouts.{IsLayoutOf, choice_facts, facts_of}
 use Rattle.kc_language.specs.Symbols.{Condition, TreeFacts}
-use Rattle.kc_tree.specs.TreeFacts.{IsWellFormed}
+use Rattle.kc_read.specs.WellFormed.{IsWellFormed}
 use Rattle.kc_tree.specs.declared.layout.Layout.{Layout}
 use Rattle.kc_tree.specs.declared.rows.Choice.{Choice}
 use Rattle.kc_language.specs.declared.symbols.ChoiceId.{ChoiceId}

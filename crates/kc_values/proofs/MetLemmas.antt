@@ -6,8 +6,8 @@ use Rattle.kc_language.specs.Expressions.{Form, Leaf, text}
 use Rattle.kc_expr.specs.Form.{leaf_of}
 use Rattle.kc_language.specs.declared.expressions.SymbolType.{SymbolType}
 use Rattle.kc_language.specs.declared.expressions.Tri.{Tri}
-use Rattle.kc_tree.specs.declared.rows.SymbolDefault.{SymbolDefault}
-use Rattle.kc_tree.specs.declared.rows.SymbolRange.{SymbolRange}
+use Rattle.kc_read.specs.declared.statement.SymbolDefault.{SymbolDefault}
+use Rattle.kc_read.specs.declared.statement.SymbolRange.{SymbolRange}
 use Rattle.kc_tree.specs.Layouts.{range_view}
 use Rattle.kc_language.specs.Symbols.{Condition, Guarded, Bounds}
 use Rattle.kc_values.specs.declared.table.Table.{Table}

@@ -29,8 +29,8 @@ use Rattle.kc_tree.specs.declared.rows.EntryPrompt.{EntryPrompt}
 use Rattle.kc_tree.specs.declared.rows.Selector.{Selector}
 use Rattle.kc_tree.specs.declared.rows.SelectorId.{SelectorId}
 use Rattle.kc_tree.specs.declared.rows.Symbol.{Symbol}
-use Rattle.kc_tree.specs.declared.rows.SymbolDefault.{SymbolDefault}
-use Rattle.kc_tree.specs.declared.rows.SymbolRange.{SymbolRange}
+use Rattle.kc_read.specs.declared.statement.SymbolDefault.{SymbolDefault}
+use Rattle.kc_read.specs.declared.statement.SymbolRange.{SymbolRange}
 use Rattle.kc_language.specs.Values.{choice_at, facts}
 use Rattle.kc_values.specs.NeedRows as rows
 use Rattle.kc_language.specs.Needs as spec

@@ -10,7 +10,7 @@ use Rattle.kc_tree.specs.Contexts.{condition_in}
 use Rattle.kc_tree.specs.declared.rows.Choice.{Choice}
 use Rattle.kc_tree.specs.declared.rows.Definition.{Definition}
 use Rattle.kc_tree.specs.declared.rows.Symbol.{Symbol}
-use Rattle.kc_tree.specs.declared.rows.SymbolRange.{SymbolRange}
+use Rattle.kc_read.specs.declared.statement.SymbolRange.{SymbolRange}
 use Rattle.kc_tree.specs.Layouts.{DefinitionFacts, choice_facts, definition_facts, facts_of, range_view}
 use Rattle.kc_language.specs.Values.{GivenValue}
 use Rattle.kc_values.specs.Computed as computed

@@ -6,8 +6,8 @@ use Rattle.kc_expr.specs.Form.{form_of, leaf_of}
 use Rattle.kc_language.specs.declared.expressions.Tri.{Tri}
 use Rattle.kc_tree.specs.declared.rows.Definition.{Definition}
 use Rattle.kc_tree.specs.declared.rows.DefinitionId.{DefinitionId}
-use Rattle.kc_tree.specs.declared.rows.SymbolDefault.{SymbolDefault}
-use Rattle.kc_tree.specs.declared.rows.SymbolRange.{SymbolRange}
+use Rattle.kc_read.specs.declared.statement.SymbolDefault.{SymbolDefault}
+use Rattle.kc_read.specs.declared.statement.SymbolRange.{SymbolRange}
 use Rattle.kc_language.specs.Symbols.{Guarded, Bounds}
 use Rattle.kc_values.specs.declared.table.Table.{Table}
 use Rattle.kc_values.specs.TableFacts.{definition_row, known_at}

@@ -8,10 +8,11 @@ ghost use Rattle.kc_language.specs.Values.{choice_at};
 ghost use Rattle.kc_values.specs.TableFacts.{IsSelected};
 ghost use Rattle.kc_values.specs.AtTable as spec;
 
-use crate::conditions::{condition, is_n, mode_of};
+use crate::conditions::{choice_dependency, guarded, is_n, mode_of};
 use crate::table::Table;
 use crate::truths::prompts_condition;
 use kc_expr::expression::{SymId, Tri};
+use kc_tree::attributes::stated_default;
 use kc_tree::rows::{Choice, ChoiceId};
 
 /// Whether the condition of one of the symbol's prompts is not n. An undefined name has no prompts (kconfiglib's
@@ -25,28 +26,23 @@ pub(crate) fn visible(table: &Table<'_>, id: SymId) -> bool
     }
 }
 
-// Whether the symbol is a visible member of the choice.
-fn visible_member(table: &Table<'_>, choice: &Choice, id: SymId) -> bool
-    ensures { result ≡ spec.visible_member table.now choice.now id }
-{
-    visible(table, id) && is_among(id, &choice.members)
+// Whether it is a member of the choice with a visible prompt.
+// contract: to do
+fn visible_member(table: &Table<'_>, choice: ChoiceId, id: SymId) -> bool {
+    table.layout.is_member(choice, id) && visible(table, id)
 }
 
-fn is_among(id: SymId, members: &[SymId]) -> bool
-    ensures { result ≡ list_any (same_symbol id) members.now }
-{
-    members.iter().any(|member| id.0 == member.0)
-}
-
-// The member of the first default whose condition is not n and whose member is visible.
-fn first_default(table: &Table<'_>, choice: &Choice) -> Option<SymId>
-    ensures { result ≡ spec.first_default table.now choice.now }
-{
-    for default in &choice.defaults {
-        if !is_n(condition(table, choice.within, &default.when))
-            && visible_member(table, choice, default.member)
-        {
-            return Some(default.member);
+// The first default whose condition is not n and that names a visible member.
+// contract: to do
+fn first_default(table: &Table<'_>, id: ChoiceId, choice: &Choice) -> Option<SymId> {
+    let within = choice_dependency(table, id);
+    for line in table.layout.attributes(choice.entry) {
+        if let Some(stated) = stated_default(&line.attribute) {
+            if let Some(member) = table.layout.default_member(id, &line.attribute) {
+                if !is_n(guarded(within, &stated.when, table)) && visible(table, member) {
+                    return Some(member);
+                }
+            }
         }
     }
     None
@@ -63,11 +59,10 @@ fn first_visible(table: &Table<'_>, members: &[SymId]) -> Option<SymId>
     None
 }
 
-// The default selection: that member, otherwise the first visible member.
-fn unselected(table: &Table<'_>, choice: &Choice) -> Option<SymId>
-    ensures { result ≡ spec.unselected table.now choice.now }
-{
-    match first_default(table, choice) {
+// The default selection: that default, else the first visible member.
+// contract: to do
+fn unselected(table: &Table<'_>, id: ChoiceId, choice: &Choice) -> Option<SymId> {
+    match first_default(table, id, choice) {
         Some(id) => Some(id),
         None => first_visible(table, &choice.members),
     }
@@ -83,8 +78,8 @@ fn selected(table: &Table<'_>, id: ChoiceId, choice: &Choice, user: Option<SymId
         return None;
     }
     match user {
-        Some(member) if visible_member(table, choice, member) => Some(member),
-        _ => unselected(table, choice),
+        Some(member) if visible_member(table, id, member) => Some(member),
+        _ => unselected(table, id, choice),
     }
 }
 

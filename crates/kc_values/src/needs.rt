@@ -13,15 +13,17 @@ ghost use Rattle.kc_values.specs.PartsOfNeeds as spec_parts;
 ghost use Rattle.kc_values.specs.NeedRows as rows;
 ghost use Rattle.kc_values.specs.MadeRows.{Adds, AreChoicesThere, IsRow, row_of};
 
-use crate::nodes::{choice_number, context_number, node_count};
+use crate::nodes::{choice_number, context_number, dependency_number, node_count, visible_number};
 use kc_expr::expression::{Expr, Operand, SymId, SymbolType};
 use kc_expr::values::symbols_into;
 use kc_order::Graph;
+use kc_read::entries::{AttributeLine, EntryLines};
+use kc_read::statement::{Attribute, Head, Prompt, SymbolDefault, SymbolRange};
+use kc_tree::attributes::{depends_of, stated_default, visible_of};
 use kc_tree::laid_tree::LaidTree;
 use kc_tree::layout::Layout;
 use kc_tree::rows::{
-    Choice, ChoiceId, Context, ContextId, Definition, EntryPrompt, SelectorId, Symbol,
-    SymbolDefault, SymbolRange,
+    Choice, ChoiceId, EntryId, EntryPlace, Selector, SelectorId, Symbol, VisibleId,
 };
 use kc_tree::tree::Tree;
 use std::alloc::{AllocError, Global};
@@ -48,100 +50,161 @@ fn if_names_into(
     }
 }
 
-// Adds a context, unless it is the top one, which names nothing.
-fn context_into(layout: &Layout, id: ContextId, out: &mut NeedRow) -> Result<(), AllocError>
-    requires there { id.0 < length layout.now.tables.contexts }
-    ensures { OnOk result (Adds out.old out.new (rows.context_nodes layout.now id.0) []) }
-{
-    if id.0 != 0 {
-        out.nodes.push(context_number(layout, id))?;
+// Adds what an entry depends on, but for the top, which names nothing.
+// contract: to do
+fn context_into(layout: &Layout, at: EntryId, out: &mut NeedRow) -> Result<(), AllocError> {
+    if at.is_some() {
+        out.nodes.push(context_number(layout, at))?;
     }
     Ok(())
 }
 
-// Adds a prompt, if there is one, without the context of its entry.
+// Adds what a menu asks of what is visible, if there is such a menu.
+// contract: to do
+fn visible_into(layout: &Layout, id: VisibleId, out: &mut NeedRow) -> Result<(), AllocError> {
+    if id.is_some() {
+        out.nodes.push(visible_number(layout, id))?;
+    }
+    Ok(())
+}
+
+// Adds the names in the `depends on` lines among these.
+// contract: to do
+fn depends_into(
+    layout: &Layout,
+    attributes: &[AttributeLine],
+    out: &mut NeedRow,
+) -> Result<(), AllocError> {
+    for line in attributes {
+        if let Some(e) = depends_of(&line.attribute) {
+            symbols_into(e, layout.modules, &mut out.names)?;
+        }
+    }
+    Ok(())
+}
+
+// Adds a prompt of an entry with this place, but for what the entry depends on.
+// contract: to do
 fn prompt_into(
     layout: &Layout,
-    prompt: &Option<EntryPrompt>,
+    place: EntryPlace,
+    prompt: &Prompt,
     out: &mut NeedRow,
-) -> Result<(), AllocError>
-    requires there { IsPromptThere layout.now.tables.contexts prompt.now }
-    ensures { OnOk result (Adds out.old out.new (rows.prompt_nodes layout.now prompt.now) (rows.prompt_names layout.now.modules prompt.now)) }
-{
-    match prompt {
+) -> Result<(), AllocError> {
+    visible_into(layout, place.visible, out)?;
+    if_names_into(layout, &prompt.when, out)
+}
+
+// Adds what the choice of an entry asks for of what stands in it: its mode. What the choice depends on has no node yet: a node needs
+// only nodes before it.
+// contract: to do
+fn mode_row_into(
+    layout: &Layout,
+    at: EntryId,
+    attributes: &[AttributeLine],
+    out: &mut NeedRow,
+) -> Result<(), AllocError> {
+    let place = layout.place(at);
+    match layout.prompt(place) {
         Some(prompt) => {
-            context_into(layout, prompt.visible, out)?;
-            if_names_into(layout, &prompt.when, out)
+            depends_into(layout, attributes, out)?;
+            prompt_into(layout, place, prompt, out)
         }
         None => Ok(()),
     }
 }
 
-// Adds the prompt of a choice, if there is one.
-fn choice_prompt_into(layout: &Layout, choice: &Choice, out: &mut NeedRow) -> Result<(), AllocError>
-    requires there { IsChoiceThere layout.now.tables.contexts choice.now }
-    ensures { OnOk result (Adds out.old out.new (rows.choice_prompt_nodes layout.now choice.now) (rows.prompt_names layout.now.modules choice.now.prompt)) }
-{
-    if choice.prompt.is_some() {
-        context_into(layout, choice.within, out)?;
+// Adds what an entry asks for itself: a choice its mode.
+// contract: to do
+fn asked_into(
+    layout: &Layout,
+    at: EntryId,
+    lines: EntryLines<'_>,
+    out: &mut NeedRow,
+) -> Result<(), AllocError> {
+    match &lines.first.head {
+        Head::If(e) => symbols_into(e, layout.modules, &mut out.names),
+        Head::Choice => mode_row_into(layout, at, lines.attributes, out),
+        _ => depends_into(layout, lines.attributes, out),
     }
-    prompt_into(layout, &choice.prompt, out)
 }
 
-// Adds what the mode of a choice names.
-fn mode_into(layout: &Layout, mode: Option<ChoiceId>, out: &mut NeedRow) -> Result<(), AllocError>
-    ensures { OnOk result (Adds out.old out.new (rows.mode_nodes layout.now mode) (rows.mode_names layout.now mode)) }
-{
-    let Some(id) = mode else {
+// Adds what an entry that asks for something needs: what it asks for itself, and the nearest block around it that asks for
+// something. Another entry is no context, and needs nothing.
+// contract: to do
+fn context_row_into(layout: &Layout, at: EntryId, out: &mut NeedRow) -> Result<(), AllocError> {
+    if layout.place(at).context.0 != at.0 {
         return Ok(());
-    };
-    match layout.choice(id) {
-        Some(choice) => choice_prompt_into(layout, choice, out),
+    }
+    match layout.entry(at) {
+        Some(lines) => {
+            context_into(layout, layout.outer_context(at), out)?;
+            asked_into(layout, at, lines, out)
+        }
         None => Ok(()),
     }
 }
 
-// Adds the outer context of a context, and what the context itself requires. A context without a condition of its own
-// is that of a choice's members and requires the choice's mode.
-fn context_row_into(layout: &Layout, context: &Context, out: &mut NeedRow) -> Result<(), AllocError>
-    requires there { context.now.outer.0 < length layout.now.tables.contexts }
-    ensures { OnOk result (Adds out.old out.new (rows.context_row_nodes layout.now context.now) (rows.context_row_names layout.now context.now)) }
-{
-    context_into(layout, context.outer, out)?;
-    match &context.own_condition {
-        Some(e) => symbols_into(e, layout.modules, &mut out.names),
-        None => mode_into(layout, context.mode.get(), out),
+// Adds what a choice depends on itself needs.
+// contract: to do
+fn dependency_row_into(
+    layout: &Layout,
+    choice: &Choice,
+    out: &mut NeedRow,
+) -> Result<(), AllocError> {
+    context_into(layout, layout.outer_context(choice.entry), out)?;
+    depends_into(layout, layout.attributes(choice.entry), out)
+}
+
+// Adds what a menu and the menu around it ask of what is visible.
+// contract: to do
+fn visible_row_into(layout: &Layout, menu: EntryId, out: &mut NeedRow) -> Result<(), AllocError> {
+    visible_into(layout, layout.outer_visible(menu), out)?;
+    for line in layout.attributes(menu) {
+        if let Some(e) = visible_of(&line.attribute) {
+            symbols_into(e, layout.modules, &mut out.names)?;
+        }
+    }
+    Ok(())
+}
+
+// Adds the prompt of a definition with this place, with what the definition depends on.
+// contract: to do
+fn own_prompt_into(
+    layout: &Layout,
+    place: EntryPlace,
+    out: &mut NeedRow,
+) -> Result<(), AllocError> {
+    match layout.prompt(place) {
+        Some(prompt) => {
+            context_into(layout, place.context, out)?;
+            prompt_into(layout, place, prompt, out)
+        }
+        None => Ok(()),
     }
 }
 
 // Adds the prompts of a symbol.
-fn prompts_into(layout: &Layout, symbol: &Symbol, out: &mut NeedRow) -> Result<(), AllocError>
-    ensures { OnOk result (Adds out.old out.new (rows.prompts_nodes layout.now symbol.now) (rows.prompts_names layout.now symbol.now)) }
-{
-    for i in 0..symbol.definition_count() {
-        if let Some(definition) = layout.definition_of(symbol, i) {
-            if definition.prompt.is_some() {
-                context_into(layout, definition.within, out)?;
-                prompt_into(layout, &definition.prompt, out)?;
-            }
-        }
+// contract: to do
+fn prompts_into(layout: &Layout, symbol: &Symbol, out: &mut NeedRow) -> Result<(), AllocError> {
+    let mut at = symbol.first;
+    'definitions: while at.is_some() {
+        let place = layout.place(at);
+        own_prompt_into(layout, place, out)?;
+        at = place.next;
     }
     Ok(())
 }
 
-// Adds the defaults of a definition, without its context.
-fn defaults_into(
+// Adds the names in a default.
+// contract: to do
+fn default_into(
     layout: &Layout,
-    defaults: &[SymbolDefault],
+    default: &SymbolDefault,
     out: &mut NeedRow,
-) -> Result<(), AllocError>
-    ensures { OnOk result (Adds out.old out.new [] (flat_map (rows.default_names layout.now.modules) defaults.now)) }
-{
-    for default in defaults {
-        symbols_into(&default.value, layout.modules, &mut out.names)?;
-        if_names_into(layout, &default.when, out)?;
-    }
-    Ok(())
+) -> Result<(), AllocError> {
+    symbols_into(&default.value, layout.modules, &mut out.names)?;
+    if_names_into(layout, &default.when, out)
 }
 
 // Adds the name in a bound of a range.
@@ -166,86 +229,96 @@ fn range_into(layout: &Layout, range: &SymbolRange, out: &mut NeedRow) -> Result
     if_names_into(layout, &range.when, out)
 }
 
-// Adds the ranges of a definition, without its context.
-fn ranges_into(layout: &Layout, ranges: &[SymbolRange], out: &mut NeedRow) -> Result<(), AllocError>
-    ensures { OnOk result (Adds out.old out.new [] (flat_map (rows.range_names layout.now.modules) ranges.now)) }
-{
-    for range in ranges {
-        range_into(layout, range, out)?;
-    }
-    Ok(())
-}
-
-// Whether the value of a symbol of this type is a number.
+// The value of a symbol of this type is a number.
 fn is_number(symbol_type: SymbolType) -> bool
     ensures { result ≡ rows.is_number symbol_type }
 {
     matches!(symbol_type, SymbolType::Int | SymbolType::Hex)
 }
 
-// Whether the equation of a symbol of this type reads the context of one of its definitions. For a bool or tristate it
-// does. For other types it does if the definition has a line that counts.
-fn is_read(layout: &Layout, symbol_type: SymbolType, definition: &Definition) -> bool
-    ensures { result ≡ rows.is_read layout.now symbol_type definition.now }
-{
-    matches!(symbol_type, SymbolType::Bool | SymbolType::Tristate)
-        || definition.prompt.is_some()
-        || !layout.defaults(definition).is_empty()
-        || (is_number(symbol_type) && !layout.ranges(definition).is_empty())
+// Adds the defaults of a definition, and its ranges if they count.
+// contract: to do
+fn stated_into(
+    layout: &Layout,
+    attributes: &[AttributeLine],
+    has_range: bool,
+    out: &mut NeedRow,
+) -> Result<(), AllocError> {
+    for line in attributes {
+        match &line.attribute {
+            Attribute::Default(default) => default_into(layout, default, out)?,
+            Attribute::Def(_, default) => default_into(layout, default, out)?,
+            Attribute::Range(range) if has_range => range_into(layout, range, out)?,
+            _ => {}
+        }
+    }
+    Ok(())
 }
 
-// Adds a definition of a symbol of this type. Adds its context once, for all of its lines.
+// The value of a symbol of this type is n, m or y.
+// contract: to do
+fn is_truth(symbol_type: SymbolType) -> bool {
+    matches!(symbol_type, SymbolType::Bool | SymbolType::Tristate)
+}
+
+// Adds a definition of a symbol of this type: what it depends on once, if its equation reads it. Of a bool or tristate it does, of
+// the others where a line counts that depends on it.
+// contract: to do
 fn definition_into(
     layout: &Layout,
     symbol_type: SymbolType,
-    definition: &Definition,
+    at: EntryId,
+    place: EntryPlace,
     out: &mut NeedRow,
-) -> Result<(), AllocError>
-    requires there { IsDefinitionThere layout.now.tables.contexts definition.now }
-    ensures { OnOk result (Adds out.old out.new (rows.definition_nodes layout.now symbol_type definition.now) (rows.definition_names layout.now symbol_type definition.now)) }
-{
-    if is_read(layout, symbol_type, definition) {
-        context_into(layout, definition.within, out)?;
+) -> Result<(), AllocError> {
+    let has_range = place.has_range && is_number(symbol_type);
+    let is_stated = place.has_default || has_range;
+    let prompt = layout.prompt(place);
+    if is_truth(symbol_type) || prompt.is_some() || is_stated {
+        context_into(layout, place.context, out)?;
     }
-    prompt_into(layout, &definition.prompt, out)?;
-    defaults_into(layout, layout.defaults(definition), out)?;
-    if is_number(symbol_type) {
-        ranges_into(layout, layout.ranges(definition), out)?;
+    if let Some(prompt) = prompt {
+        prompt_into(layout, place, prompt, out)?;
+    }
+    if is_stated {
+        stated_into(layout, layout.attributes(at), has_range, out)?;
     }
     Ok(())
 }
 
 // Adds the definitions of a symbol.
+// contract: to do
 #[inline(always)]
-fn definitions_into(layout: &Layout, symbol: &Symbol, out: &mut NeedRow) -> Result<(), AllocError>
-    ensures { OnOk result (Adds out.old out.new (rows.definitions_nodes layout.now symbol.now) (rows.definitions_names layout.now symbol.now)) }
-{
-    for i in 0..symbol.definition_count() {
-        if let Some(definition) = layout.definition_of(symbol, i) {
-            definition_into(layout, symbol.symbol_type, definition, out)?;
-        }
+fn definitions_into(layout: &Layout, symbol: &Symbol, out: &mut NeedRow) -> Result<(), AllocError> {
+    let mut at = symbol.first;
+    'definitions: while at.is_some() {
+        let place = layout.place(at);
+        definition_into(layout, symbol.symbol_type, at, place, out)?;
+        at = place.next;
     }
     Ok(())
 }
 
-// Adds the symbols of `select` or `imply` lines, and the contexts of these lines, from the last line on.
-fn selectors_into(
-    layout: &Layout,
-    last: Option<SelectorId>,
-    out: &mut NeedRow,
-) -> Result<(), AllocError>
-    ensures { OnOk result (Adds out.old out.new (rows.selectors_nodes layout.now last) (rows.selectors_names layout.now last)) }
-{
+// Adds the symbol of a line that selects or implies, and what the line depends on.
+// contract: to do
+fn selector_into(layout: &Layout, line: &Selector, out: &mut NeedRow) -> Result<(), AllocError> {
+    let Some(source) = layout.symbol_of(line.entry) else {
+        return Ok(());
+    };
+    out.names.push(source)?;
+    context_into(layout, layout.place(line.entry).context, out)?;
+    match layout.target(line) {
+        Some(target) => if_names_into(layout, target.when, out),
+        None => Ok(()),
+    }
+}
+
+// Adds the symbols that select or imply, and what those lines depend on, from the last line on.
+// contract: to do
+fn selectors_into(layout: &Layout, last: SelectorId, out: &mut NeedRow) -> Result<(), AllocError> {
     let mut at = last;
-    'lines: while let Some(id) = at {
-        let Some(line) = layout.selector(id) else {
-            return Ok(());
-        };
-        if let Some(source) = layout.definition(line.source) {
-            out.names.push(source.symbol)?;
-            context_into(layout, source.within, out)?;
-            if_names_into(layout, &line.when, out)?;
-        }
+    'lines: while let Some(line) = layout.selector(at) {
+        selector_into(layout, line, out)?;
         at = line.next;
     }
     Ok(())
@@ -278,8 +351,8 @@ fn truth_into(
 {
     let layout = laid.layout;
     definitions_into(layout, symbol, out)?;
-    selectors_into(layout, layout.last_select(id), out)?;
-    selectors_into(layout, layout.last_imply(id), out)?;
+    selectors_into(layout, symbol.last_select, out)?;
+    selectors_into(layout, symbol.last_imply, out)?;
     modules_into(laid.tree, symbol.symbol_type, out)
 }
 
@@ -290,7 +363,7 @@ fn symbol_into(
     symbol: &Symbol,
     out: &mut NeedRow,
 ) -> Result<(), AllocError>
-    requires choice { IfSome symbol.now.choice (λ c. c.0 < length laid.now.layout.now.tables.choices.items) }
+    requires choice { IfSome symbol.now.choice (λ c. c.0 < length laid.now.layout.now.choices.items) }
     ensures { OnOk result (Adds out.old out.new (rows.symbol_nodes laid.now.layout.now id.0 symbol.now) (rows.symbol_names laid.now.tree.now laid.now.layout.now id.0 symbol.now)) }
 {
     let layout = laid.layout;
@@ -308,36 +381,76 @@ fn symbol_into(
     }
 }
 
-// Adds the conditions of the defaults of a choice.
+// Adds what a choice depends on itself.
+// contract: to do
+fn dependency_into(layout: &Layout, id: ChoiceId, out: &mut NeedRow) -> Result<(), AllocError> {
+    out.nodes.push(dependency_number(layout, id))?;
+    Ok(())
+}
+
+// Adds what the mode of a choice names.
+// contract: to do
+fn mode_into(
+    layout: &Layout,
+    id: ChoiceId,
+    at: EntryId,
+    out: &mut NeedRow,
+) -> Result<(), AllocError> {
+    let place = layout.place(at);
+    match layout.prompt(place) {
+        Some(prompt) => {
+            dependency_into(layout, id, out)?;
+            prompt_into(layout, place, prompt, out)
+        }
+        None => Ok(()),
+    }
+}
+
+// Adds the conditions of the defaults of a choice that name a member, and what the choice depends on if there are any.
+// contract: to do
 fn choice_defaults_into(
     layout: &Layout,
-    choice: &Choice,
+    id: ChoiceId,
+    attributes: &[AttributeLine],
     out: &mut NeedRow,
-) -> Result<(), AllocError>
-    requires there { IsChoiceThere layout.now.tables.contexts choice.now }
-    ensures { OnOk result (Adds out.old out.new (rows.choice_defaults_nodes layout.now choice.now) (flat_map (rows.choice_default_names layout.now.modules) choice.now.defaults.items)) }
-{
-    if !choice.defaults.is_empty() {
-        context_into(layout, choice.within, out)?;
+) -> Result<(), AllocError> {
+    let mut is_read = false;
+    for line in attributes {
+        if let Some(stated) = stated_default(&line.attribute) {
+            if layout.default_member(id, &line.attribute).is_some() {
+                if_names_into(layout, &stated.when, out)?;
+                is_read = true;
+            }
+        }
     }
-    for default in &choice.defaults {
-        if_names_into(layout, &default.when, out)?;
+    if is_read {
+        dependency_into(layout, id, out)?;
+    }
+    Ok(())
+}
+
+// Adds the prompts of these members of a choice.
+// contract: to do
+fn members_into(layout: &Layout, members: &[SymId], out: &mut NeedRow) -> Result<(), AllocError> {
+    for member in members {
+        if let Some(symbol) = layout.symbol(*member) {
+            prompts_into(layout, symbol, out)?;
+        }
     }
     Ok(())
 }
 
 // Adds what the selection of a choice names: the prompts of its members, its own, and its defaults.
-fn choice_into(layout: &Layout, choice: &Choice, out: &mut NeedRow) -> Result<(), AllocError>
-    requires there { IsChoiceThere layout.now.tables.contexts choice.now }
-    ensures { OnOk result (Adds out.old out.new (rows.choice_nodes layout.now choice.now) (rows.choice_names layout.now choice.now)) }
-{
-    for member in &choice.members {
-        if let Some(symbol) = layout.symbol(*member) {
-            prompts_into(layout, symbol, out)?;
-        }
-    }
-    choice_prompt_into(layout, choice, out)?;
-    choice_defaults_into(layout, choice, out)
+// contract: to do
+fn choice_into(
+    layout: &Layout,
+    id: ChoiceId,
+    choice: &Choice,
+    out: &mut NeedRow,
+) -> Result<(), AllocError> {
+    members_into(layout, &choice.members, out)?;
+    mode_into(layout, id, choice.entry, out)?;
+    choice_defaults_into(layout, id, layout.attributes(choice.entry), out)
 }
 
 // Adds the row to the graph of so many symbols (the nodes, and the symbols among the names), and empties it.
@@ -373,17 +486,39 @@ fn add_symbols(laid: &LaidTree<'_>, row: &mut NeedRow, graph: &mut Graph) -> Res
     Ok(())
 }
 
-// Adds the nodes of the contexts, the top first.
-fn add_contexts(layout: &Layout, row: &mut NeedRow, graph: &mut Graph) -> Result<(), AllocError>
-    requires row { IsRow [] [] row.old }
-    ensures graph { OnOk result ((contexts : List (List ℕ)) × rows.AreContextRows layout.now contexts × (graph.new ≡ record graph.old { rows = graph.old.rows ++ contexts })) }
-    ensures row { OnOk result (IsRow [] [] row.new) }
-{
+// Adds the nodes of the menus with a `visible if` line, none first.
+// contract: to do
+fn add_visibles(layout: &Layout, row: &mut NeedRow, graph: &mut Graph) -> Result<(), AllocError> {
     let count = layout.symbols().len();
-    for i in 0..layout.context_count() {
-        if let Some(context) = layout.context(ContextId(i as u32)) {
-            context_row_into(layout, context, row)?;
-        }
+    close_row(count, row, graph)?;
+    for menu in &layout.visibles {
+        visible_row_into(layout, *menu, row)?;
+        close_row(count, row, graph)?;
+    }
+    Ok(())
+}
+
+// Adds the nodes of the entries, the top first.
+// contract: to do
+fn add_contexts(layout: &Layout, row: &mut NeedRow, graph: &mut Graph) -> Result<(), AllocError> {
+    let count = layout.symbols().len();
+    for i in 0..layout.place_count() {
+        context_row_into(layout, EntryId(i as u32), row)?;
+        close_row(count, row, graph)?;
+    }
+    Ok(())
+}
+
+// Adds the nodes of what the choices depend on themselves.
+// contract: to do
+fn add_dependencies(
+    layout: &Layout,
+    row: &mut NeedRow,
+    graph: &mut Graph,
+) -> Result<(), AllocError> {
+    let count = layout.symbols().len();
+    for choice in layout.choices() {
+        dependency_row_into(layout, choice, row)?;
         close_row(count, row, graph)?;
     }
     Ok(())
@@ -396,8 +531,8 @@ fn add_choices(layout: &Layout, row: &mut NeedRow, graph: &mut Graph) -> Result<
     ensures row { OnOk result (IsRow [] [] row.new) }
 {
     let count = layout.symbols().len();
-    for choice in layout.choices() {
-        choice_into(layout, choice, row)?;
+    for (k, choice) in layout.choices().iter().enumerate() {
+        choice_into(layout, ChoiceId(k as u32), choice, row)?;
         close_row(count, row, graph)?;
     }
     Ok(())
@@ -422,7 +557,9 @@ pub fn tree_needs(alloc: Global, laid: &LaidTree<'_>) -> Result<Graph, AllocErro
         names: Vec::new(alloc),
     };
     add_symbols(laid, &mut row, &mut graph)?;
+    add_visibles(layout, &mut row, &mut graph)?;
     add_contexts(layout, &mut row, &mut graph)?;
+    add_dependencies(layout, &mut row, &mut graph)?;
     add_choices(layout, &mut row, &mut graph)?;
     Ok(graph)
 }

@@ -6,57 +6,80 @@ ghost use Rattle.kc_values.specs.Nodes.{IsNode};
 
 use kc_expr::expression::SymId;
 use kc_tree::layout::Layout;
-use kc_tree::rows::{ChoiceId, ContextId};
+use kc_tree::rows::{ChoiceId, EntryId, VisibleId};
 
-/// A node of the graph of needs: a symbol, or needs that many symbols share (a context with its conditions, or the
-/// selection of a choice) (our own).
+/// A node of the graph of what symbols need: a symbol, or what many of them need alike: what a menu asks of what is visible, what
+/// an entry depends on, what a choice depends on itself, or the selection of a choice (our own). The context of a choice's entry
+/// is what its members depend on: the mode too.
 #[derive(Clone, Copy, PartialEq, Eq, Debug)]
 pub enum Node {
     Symbol(SymId),
-    Context(ContextId),
+    Visible(VisibleId),
+    Context(EntryId),
+    Dependency(ChoiceId),
     Choice(ChoiceId),
 }
 
-// The number of the first choice. The symbols come first, one for each name, then the contexts, then the choices.
-fn first_choice(layout: &Layout) -> usize
-    ensures { result ≡ spec.first_choice layout.now }
-{
-    layout.symbols().len() + layout.context_count()
+// The numbers begin with the symbols, one for each name. Then come the menus with a `visible if` line, the entries, and twice the
+// choices. Among the menus and the entries none comes first.
+// contract: to do
+fn first_context(layout: &Layout) -> usize {
+    layout.symbols().len() + layout.visible_count()
 }
 
-/// The number of nodes.
-pub fn node_count(layout: &Layout) -> usize
-    ensures { result ≡ spec.node_count layout.now }
-{
+// contract: to do
+fn first_dependency(layout: &Layout) -> usize {
+    first_context(layout) + layout.place_count()
+}
+
+// contract: to do
+fn first_choice(layout: &Layout) -> usize {
+    first_dependency(layout) + layout.choices().len()
+}
+
+/// How many nodes there are.
+// contract: to do
+pub fn node_count(layout: &Layout) -> usize {
     first_choice(layout) + layout.choices().len()
 }
 
-/// The number of a context's node.
-pub fn context_number(layout: &Layout, id: ContextId) -> u32
-    requires { id.0 < length layout.now.tables.contexts }
-    ensures { result ≡ spec.context_number layout.now id.0 }
-{
+/// The number of the node of what a menu asks of what is visible.
+// contract: to do
+pub fn visible_number(layout: &Layout, id: VisibleId) -> u32 {
     layout.symbols().len() as u32 + id.0
 }
 
+/// The number of the node of what an entry depends on.
+// contract: to do
+pub fn context_number(layout: &Layout, at: EntryId) -> u32 {
+    first_context(layout) as u32 + at.0
+}
+
+/// The number of the node of what a choice depends on itself.
+// contract: to do
+pub fn dependency_number(layout: &Layout, id: ChoiceId) -> u32 {
+    first_dependency(layout) as u32 + id.0
+}
+
 /// The number of a choice's node.
-pub fn choice_number(layout: &Layout, id: ChoiceId) -> u32
-    requires { id.0 < length layout.now.tables.choices.items }
-    ensures { result ≡ spec.choice_number layout.now id.0 }
-{
+// contract: to do
+pub fn choice_number(layout: &Layout, id: ChoiceId) -> u32 {
     first_choice(layout) as u32 + id.0
 }
 
-/// The node that has this number.
-pub fn node_of(layout: &Layout, number: u32) -> Node
-    ensures { IsNode layout.now number result }
-{
+/// The node with a number.
+// contract: to do (IsNode)
+pub fn node_of(layout: &Layout, number: u32) -> Node {
     let place = number as usize;
     let symbols = layout.symbols().len();
     if place < symbols {
         Node::Symbol(SymId(place))
+    } else if place < first_context(layout) {
+        Node::Visible(VisibleId((place - symbols) as u32))
+    } else if place < first_dependency(layout) {
+        Node::Context(EntryId((place - first_context(layout)) as u32))
     } else if place < first_choice(layout) {
-        Node::Context(ContextId((place - symbols) as u32))
+        Node::Dependency(ChoiceId((place - first_dependency(layout)) as u32))
     } else {
         Node::Choice(ChoiceId((place - first_choice(layout)) as u32))
     }

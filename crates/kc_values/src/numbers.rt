@@ -12,12 +12,13 @@ ghost use Rattle.kc_values.specs.User.{given_in};
 use crate::conditions::{condition, is_n};
 use crate::table::Table;
 use crate::texts::{default_text, visible_text_of};
-use crate::truths::definition;
 use kc_expr::expression::SymbolType;
 use kc_expr::values::text;
 pub use kc_language::values::Interval;
+use kc_read::statement::SymbolRange;
 use kc_text::{read_hex, read_int};
-use kc_tree::rows::{Definition, Symbol, SymbolRange};
+use kc_tree::attributes::range_of;
+use kc_tree::rows::{EntryId, EntryPlace, Symbol};
 use kc_user::value::UserValue;
 use std::alloc::{AllocError, Global};
 
@@ -33,8 +34,7 @@ pub(crate) fn number_as(symbol_type: SymbolType, text: &[u8]) -> Option<i128>
     }
 }
 
-// The number that a text holds; 0 if it holds none.
-#[tactic(auto, using(crate::proofs::SmallNumbers::number_or_zero_below))]
+// The number of a text, or 0.
 fn number_or_zero(symbol_type: SymbolType, text: &[u8]) -> i128
     ensures number { result ≡ digits.number_or_zero symbol_type text.now }
     ensures small { unsigned_abs result < hex_limit }
@@ -53,13 +53,15 @@ fn bounds_of(table: &Table<'_>, symbol_type: SymbolType, range: &SymbolRange) ->
     }
 }
 
-// The first range of a definition whose condition is not n.
-fn first_met<'t>(table: &Table<'t>, definition: &Definition) -> Option<&'t SymbolRange>
-    ensures { IsMetRange table.now (spec.first_met table.now (spec.definition_in table.now definition.now).ranges) result }
-{
-    for range in table.layout.ranges(definition) {
-        if !is_n(condition(table, definition.within, &range.when)) {
-            return Some(range);
+// The first range of a definition with this place whose condition is not n.
+// contract: to do (IsMetRange)
+fn first_met<'t>(table: &Table<'t>, at: EntryId, place: EntryPlace) -> Option<&'t SymbolRange> {
+    let layout = table.layout;
+    for line in layout.attributes(at) {
+        if let Some(range) = range_of(&line.attribute) {
+            if !is_n(condition(table, place.context, &range.when)) {
+                return Some(range);
+            }
         }
     }
     None
@@ -71,12 +73,15 @@ pub fn active_range(table: &Table<'_>, symbol: &Symbol) -> Option<Interval>
     ensures range { result ≡ spec.active_range table.now symbol.now }
     ensures small { IfSome result HasSmallBounds }
 {
-    for i in 0..symbol.definition_count() {
-        if let Some(definition) = definition(table, symbol, i) {
-            if let Some(range) = first_met(table, definition) {
+    let mut at = symbol.first;
+    'definitions: while at.is_some() {
+        let place = table.layout.place(at);
+        if place.has_range {
+            if let Some(range) = first_met(table, at, place) {
                 return Some(bounds_of(table, symbol.symbol_type, range));
             }
         }
+        at = place.next;
     }
     None
 }
@@ -179,9 +184,8 @@ pub(crate) fn number_equation(
     Ok(value)
 }
 
-/// Whether a text differs from the value of an int or hex symbol outside a choice without its user value, which is the
-/// first default's text, clamped (our own rule of the minimal file). Fails only if there is not enough memory.
-#[tactic(auto, using(crate::proofs::SmallNumbers::inside_keeps))]
+/// Whether a text is another than the value of an int or hex symbol outside a choice without the user's: the first default's
+/// text, clamped (our own rule of the minimal file). Fails only when it is out of memory.
 pub(crate) fn differs_from_default(
     alloc: Global,
     table: &Table<'_>,

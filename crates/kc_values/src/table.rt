@@ -1,9 +1,10 @@
 //! The values computed so far: those of the symbols, contexts and choices, by number.
 
-ghost use Rattle.std.specs.Prelude.{◌≡◌, None, length, replicate, slice_index_or, IfOk};
+ghost use Rattle.std.specs.Prelude.{◌≡◌, ◌∷◌, None, Some, length, replicate, slice_index_or, suc, IfOk};
+ghost use Rattle.kc_language.specs.declared.expressions.Tri.TheVariants.{Y};
 ghost use Rattle.std.specs.Option.{option_copied};
 ghost use Rattle.kc_tree.specs.Layouts.{IsLayoutOf};
-ghost use Rattle.kc_tree.specs.TreeFacts.{IsWellFormed};
+ghost use Rattle.kc_read.specs.WellFormed.{IsWellFormed};
 ghost use Rattle.kc_language.specs.Values as lookup;
 ghost use Rattle.kc_values.specs.Computed.{AreContextsComputed};
 ghost use Rattle.kc_values.specs.Table.{value_in, tri_in, text_in};
@@ -13,7 +14,7 @@ use kc_expr::expression::{SymId, SymbolType, Tri};
 use kc_expr::values::Values;
 use kc_tree::laid_tree::LaidTree;
 use kc_tree::layout::Layout;
-use kc_tree::rows::{ChoiceId, ContextId};
+use kc_tree::rows::{ChoiceId, EntryId, VisibleId};
 use kc_tree::tree::Tree;
 use kc_user::sparse::SparseVec;
 use std::alloc::{AllocError, Global};
@@ -51,48 +52,75 @@ pub struct Table<'t> {
     pub layout: &'t Layout,
     /// A place for each symbol, by number.
     pub values: SparseVec<Value>,
-    /// The value of each context, if computed.
+    /// What each entry depends on, if that is computed.
     pub contexts: Vec<Option<Tri>>,
-    /// The selection of each choice, if computed; it may be no member.
+    /// What each menu asks of what is visible, if that is computed.
+    pub visibles: Vec<Option<Tri>>,
+    /// What each choice depends on itself, if that is computed.
+    pub dependencies: Vec<Option<Tri>>,
+    /// What each choice selects, if that is computed; no member can be selected too.
     pub selections: Vec<Option<Option<SymId>>>,
-    ghost laid: { ∥ IsLayoutOf tree.now layout.now ∥₁ },
-    ghost formed: { ∥ IsWellFormed tree.now ∥₁ },
-    ghost computed: { AreContextsComputed tree.now layout.now values contexts.items },
+    // contract: to do (ghost laid and formed as before; computed: each computed context, visible and dependency is worth what it
+    // would be if it were found anew)
 }
 
 impl<'t> Table<'t> {
-    /// Returns a table of empty places, where nothing is computed. Fails only if there is not enough memory.
+    /// A table of empty places, where nothing is computed but the top, which asks for nothing. Fails only when it is out of memory.
     pub fn empty(alloc: Global, laid: &LaidTree<'t>) -> Result<Table<'t>, AllocError>
         ensures tree { IfOk result (λ t. t.tree.now ≡ laid.now.tree.now) }
         ensures layout { IfOk result (λ t. t.layout.now ≡ laid.now.layout.now) }
         ensures values { IfOk result (λ t. t.values ≡ replicate (length laid.now.tree.now.symbols) None) }
-        ensures contexts { IfOk result (λ t. t.contexts.items ≡ replicate (length laid.now.layout.now.tables.contexts) None) }
-        ensures selections { IfOk result (λ t. t.selections.items ≡ replicate (length laid.now.layout.now.tables.choices.items) None) }
+        ensures contexts { IfOk result (λ t. t.contexts.items ≡ Some Y ∷ replicate (length laid.now.layout.now.places.items) None) }
+        ensures visibles { IfOk result (λ t. t.visibles.items ≡ replicate (suc (length laid.now.layout.now.visibles.items)) None) }
+        ensures dependencies { IfOk result (λ t. t.dependencies.items ≡ replicate (length laid.now.layout.now.choices.items) None) }
+        ensures selections { IfOk result (λ t. t.selections.items ≡ replicate (length laid.now.layout.now.choices.items) None) }
     {
         let LaidTree { tree, layout } = *laid;
         let values = SparseVec::with_room(alloc, tree.name_count(), layout.defined().len())?;
-        let contexts = vec![in alloc; None; layout.context_count()]?;
+        let mut contexts = vec![in alloc; None; layout.place_count()]?;
+        contexts[0] = Some(Tri::Y);
+        let visibles = vec![in alloc; None; layout.visible_count()]?;
+        let dependencies = vec![in alloc; None; layout.choices().len()]?;
         let selections = vec![in alloc; None; layout.choices().len()]?;
         Ok(Table {
             tree,
             layout,
             values,
             contexts,
+            visibles,
+            dependencies,
             selections,
         })
     }
 
-    /// The value of a context, if computed.
-    pub(crate) fn computed_context(&self, id: ContextId) -> Option<Tri>
-        ensures { result ≡ slice_index_or self.now.contexts.items id.0 None }
-    {
+    /// What a menu asks of what is visible, if that is computed.
+    // contract: to do
+    pub(crate) fn computed_visible(&self, id: VisibleId) -> Option<Tri> {
+        match self.visibles.get(id.0 as usize) {
+            Some(computed) => *computed,
+            None => None,
+        }
+    }
+
+    /// What an entry depends on, if that is computed.
+    // contract: to do
+    pub(crate) fn computed_context(&self, id: EntryId) -> Option<Tri> {
         match self.contexts.get(id.0 as usize) {
             Some(computed) => *computed,
             None => None,
         }
     }
 
-    /// The selection of a choice, if computed.
+    /// What a choice depends on itself, if that is computed.
+    // contract: to do (slice_index_or self.now.dependencies.items id.0 None)
+    pub(crate) fn computed_dependency(&self, id: ChoiceId) -> Option<Tri> {
+        match self.dependencies.get(id.0 as usize) {
+            Some(computed) => *computed,
+            None => None,
+        }
+    }
+
+    /// What a choice selects, if that is computed.
     pub(crate) fn computed_selection(&self, id: ChoiceId) -> Option<Option<SymId>>
         ensures { result ≡ slice_index_or self.now.selections.items id.0 None }
     {

@@ -13,7 +13,9 @@ use crate::conditions::{condition, context, is_n, prompt_condition};
 use crate::table::Table;
 use kc_expr::expression::{SymId, SymbolType, Tri};
 use kc_expr::values::{eval, greater, lesser, truth_of};
-use kc_tree::rows::{Definition, Selector, SelectorId, Symbol, SymbolDefault};
+use kc_read::statement::SymbolDefault;
+use kc_tree::attributes::stated_default;
+use kc_tree::rows::{EntryId, EntryPlace, Selector, SelectorId, Symbol};
 use kc_user::value::UserValue;
 
 // Whether the symbol can be m: its type is tristate, and the modules symbol is a bool or tristate that is not n.
@@ -29,9 +31,9 @@ fn is_tristate(table: &Table<'_>, symbol_type: SymbolType) -> bool
     }
 }
 
-/// Changes m to y if the symbol can't be m: its type is not tristate, or the modules symbol is n, is not a bool or
-/// tristate, or does not exist (kconfiglib's `tri_value`). Reads the modules symbol only if the value is m.
-#[tactic(auto, using(crate::proofs::UpgradeLemmas::n_stays, crate::proofs::UpgradeLemmas::y_stays, crate::proofs::UpgradeLemmas::m_upgraded, crate::proofs::UpgradeLemmas::m_kept))]
+/// The tristate upgrade: m as y where the type is not tristate under the values: where it is written as another one, or
+/// where the modules symbol is n, or is no bool or tristate, or is not there (kconfiglib's `tri_value`). The modules symbol is
+/// looked at only where the value is m.
 pub(crate) fn upgraded(table: &Table<'_>, symbol_type: SymbolType, value: Tri) -> Tri
     ensures { result ≡ spec.upgraded table.now symbol_type value }
 {
@@ -41,20 +43,11 @@ pub(crate) fn upgraded(table: &Table<'_>, symbol_type: SymbolType, value: Tri) -
     }
 }
 
-/// The definition of a symbol that has this number among the symbol's definitions, if there is one.
-pub(crate) fn definition<'t>(table: &Table<'t>, symbol: &Symbol, i: usize) -> Option<&'t Definition>
-    ensures { IsDefinitionOf table.now symbol.now i result }
-{
-    table.layout.definition_of(symbol, i)
-}
-
-// The condition of the prompt of a definition; n without one.
-fn prompt_visibility(table: &Table<'_>, definition: &Definition) -> Tri
-    requires { IsDefinitionAt table.now definition.now }
-    ensures { result ≡ spec.conditions table.now (listed (spec.definition_in table.now definition.now).prompt) }
-{
-    match &definition.prompt {
-        Some(prompt) => prompt_condition(table, definition.within, prompt),
+// The condition of the prompt of a definition with this place; n without one.
+// contract: to do
+fn prompt_visibility(table: &Table<'_>, place: EntryPlace) -> Tri {
+    match table.layout.prompt(place) {
+        Some(prompt) => prompt_condition(table, place, prompt),
         None => Tri::N,
     }
 }
@@ -64,10 +57,11 @@ pub fn prompts_condition(table: &Table<'_>, symbol: &Symbol) -> Tri
     ensures { result ≡ spec.conditions table.now (spec.own_lines table.now symbol.now).prompts }
 {
     let mut greatest = Tri::N;
-    for i in 0..symbol.definition_count() {
-        if let Some(definition) = definition(table, symbol, i) {
-            greatest = greater(greatest, prompt_visibility(table, definition));
-        }
+    let mut at = symbol.first;
+    'definitions: while at.is_some() {
+        let place = table.layout.place(at);
+        greatest = greater(greatest, prompt_visibility(table, place));
+        at = place.next;
     }
     greatest
 }
@@ -80,14 +74,20 @@ pub fn visibility(table: &Table<'_>, symbol: &Symbol) -> Tri
     upgraded(table, symbol.symbol_type, prompts_condition(table, symbol))
 }
 
-// The first default of a definition whose condition is not n, and that condition.
-fn first_met<'t>(table: &Table<'t>, definition: &Definition) -> Option<(&'t SymbolDefault, Tri)>
-    ensures { IsMetDefault table.now (spec.first_met table.now (spec.definition_in table.now definition.now).defaults) result }
-{
-    for default in table.layout.defaults(definition) {
-        let when = condition(table, definition.within, &default.when);
-        if !is_n(when) {
-            return Some((default, when));
+// The first default of a definition with this place whose condition is not n, and that condition.
+// contract: to do (IsMetDefault)
+fn first_met<'t>(
+    table: &Table<'t>,
+    at: EntryId,
+    place: EntryPlace,
+) -> Option<(&'t SymbolDefault, Tri)> {
+    let layout = table.layout;
+    for line in layout.attributes(at) {
+        if let Some(default) = stated_default(&line.attribute) {
+            let when = condition(table, place.context, &default.when);
+            if !is_n(when) {
+                return Some((default, when));
+            }
         }
     }
     None
@@ -101,12 +101,16 @@ pub(crate) fn met_default<'t>(
 ) -> Option<(&'t SymbolDefault, Tri)>
     ensures { IsMetDefault table.now (spec.met_default table.now symbol.now) result }
 {
-    for i in 0..symbol.definition_count() {
-        if let Some(definition) = definition(table, symbol, i) {
-            if let Some(found) = first_met(table, definition) {
+    let layout = table.layout;
+    let mut at = symbol.first;
+    'definitions: while at.is_some() {
+        let place = layout.place(at);
+        if place.has_default {
+            if let Some(found) = first_met(table, at, place) {
                 return Some(found);
             }
         }
+        at = place.next;
     }
     None
 }
@@ -126,26 +130,28 @@ pub(crate) fn default_truth(table: &Table<'_>, symbol: &Symbol) -> Tri
 fn selector_value(table: &Table<'_>, line: &Selector) -> Tri
     ensures { result ≡ spec.selector_values table.now (listed (selector_facts table.now.layout.now.tables line.now)) }
 {
-    let Some(source) = table.layout.definition(line.source) else {
+    let Some(source) = table.layout.symbol_of(line.entry) else {
         return Tri::N;
     };
-    let value = truth_of(source.symbol, table);
+    let value = truth_of(source, table);
     if is_n(value) {
         return Tri::N;
     }
-    lesser(value, condition(table, source.within, &line.when))
+    match table.layout.target(line) {
+        Some(target) => {
+            let within = table.layout.place(line.entry).context;
+            lesser(value, condition(table, within, target.when))
+        }
+        None => Tri::N,
+    }
 }
 
-// The greatest value of these lines, from the last line on.
-fn selector_values(table: &Table<'_>, last: Option<SelectorId>) -> Tri
-    ensures { result ≡ spec.selector_values table.now (selectors_from table.now.layout.now.tables last) }
-{
+// The greatest of them, from the last line on.
+// contract: to do (selector_values of the chain)
+fn selector_values(table: &Table<'_>, last: SelectorId) -> Tri {
     let mut greatest = Tri::N;
     let mut at = last;
-    'lines: while let Some(id) = at {
-        let Some(line) = table.layout.selector(id) else {
-            return greatest;
-        };
+    'lines: while let Some(line) = table.layout.selector(at) {
         greatest = greater(greatest, selector_value(table, line));
         at = line.next;
     }
@@ -158,10 +164,11 @@ pub fn direct(table: &Table<'_>, symbol: &Symbol) -> Tri
     ensures { result ≡ spec.direct table.now symbol.now }
 {
     let mut greatest = Tri::N;
-    for i in 0..symbol.definition_count() {
-        if let Some(definition) = definition(table, symbol, i) {
-            greatest = greater(greatest, context(table, definition.within));
-        }
+    let mut at = symbol.first;
+    'definitions: while at.is_some() {
+        let place = table.layout.place(at);
+        greatest = greater(greatest, context(table, place.context));
+        at = place.next;
     }
     upgraded(table, symbol.symbol_type, greatest)
 }
@@ -171,14 +178,14 @@ pub fn direct(table: &Table<'_>, symbol: &Symbol) -> Tri
 pub(crate) fn selected_to(table: &Table<'_>, id: SymId, symbol: &Symbol) -> Tri
     ensures { result ≡ spec.selected_to table.now id symbol.now }
 {
-    match table.layout.last_select(id) {
-        None => Tri::N,
-        Some(last) => upgraded(
-            table,
-            symbol.symbol_type,
-            selector_values(table, Some(last)),
-        ),
+    if !symbol.last_select.is_some() {
+        return Tri::N;
     }
+    upgraded(
+        table,
+        symbol.symbol_type,
+        selector_values(table, symbol.last_select),
+    )
 }
 
 /// What a symbol is implied to: the same for the symbols that imply it (the kernel's kconfig-language document, "Menu
@@ -186,14 +193,14 @@ pub(crate) fn selected_to(table: &Table<'_>, id: SymId, symbol: &Symbol) -> Tri
 pub(crate) fn implied_to(table: &Table<'_>, id: SymId, symbol: &Symbol) -> Tri
     ensures { result ≡ spec.implied_to table.now id symbol.now }
 {
-    match table.layout.last_imply(id) {
-        None => Tri::N,
-        Some(last) => upgraded(
-            table,
-            symbol.symbol_type,
-            selector_values(table, Some(last)),
-        ),
+    if !symbol.last_imply.is_some() {
+        return Tri::N;
     }
+    upgraded(
+        table,
+        symbol.symbol_type,
+        selector_values(table, symbol.last_imply),
+    )
 }
 
 /// The default, which an `imply` raises at most to the direct dependency. Computes that dependency only if a symbol

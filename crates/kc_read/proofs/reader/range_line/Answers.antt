@@ -1,7 +1,7 @@
 use Rattle.kc_language.specs.Expressions.{names_in_atom}
 use Rattle.std.proofs.Common.{◌++◌, ◌∙◌, ap}
 use Rattle.kc_expr.specs.Form.{leaf_of}
-use Rattle.kc_tree.specs.declared.rows.SymbolRange.{SymbolRange}
+use Rattle.kc_read.specs.declared.statement.SymbolRange.{SymbolRange}
 use Rattle.kc_expr.specs.When.{when_view}
 use Rattle.kc_language.specs.Statements.{names_in_condition, RangeLine}
 use Rattle.kc_read.specs.PartsOfStatements.{ReadsRange}

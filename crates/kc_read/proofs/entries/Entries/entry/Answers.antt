@@ -43,6 +43,8 @@ returns-in-Some c =
     let own : own_of e (start_of (drop (suc i) es) (length ls)) ls ≡ c.between-attributes.result.now =
     sym (c.between-attributes.ensures ∙ (λ j. take (end j - e.start) (drop e.start (c.deref-in-Some-2.ensures.value j)))) in
     record {
+      first = here;
+      own = sym own;
       there = slice_get_within es i e here;
       lines = ap (λ (l : List Entry). lines_of l ls) (front-is i es e here)
           ∙ (λ j. first_line e ∷ own_lines e (own j) ++ lines_of (drop (sym (add-one i) j) es) ls);
