@@ -29,8 +29,9 @@ use Rattle.kc_language.specs.declared.diagnostics.Warning.TheVariants.{SetAgain}
 use Rattle.kc_config_file.specs.ReadingLaws.{LinesGiveInTurn, LinesInTurn}
 use Rattle.kc_conf.specs.Laws.{DoneAreWhole, HoldsLine, IsAccountedFor, IsSetAgain, NothingIsLost, RefusesNothing}
 use Rattle.kc_conf.specs.PartsOfLaws.{IsKeptOrWarned, LeavesAlone}
-use Rattle.kc_language.specs.Outcome.{Options, lead, Outcome, lines_text, lost_text, lost_warnings, input_names, reported, read_of, root_file, streams, warned_files, with_rule}
+use Rattle.kc_language.specs.Outcome.{Options, lead, Outcome, done_outcome, lines_text, lost_text, lost_warnings, input_names, reported, read_of, root_file, streams, wants}
 use Rattle.kc_language.specs.Outcome.{fresh_input}
+use Rattle.kc_language.specs.declared.outcome.Output.{Output}
 use Rattle.kc_conf.specs.Computed.{explanation_lead}
 use Rattle.kc_conf.specs.Faults.{AreLines}
 use Rattle.kc_conf.proofs.{EffectLemmas.{all_reported, assigned_typed, effect_is, silent_says}, RerunLemmas.{has_its_texts}}
@@ -327,8 +328,8 @@ module _ (files : Files) (options : Options) (all : List (List ℕ)) (tree : Tre
   abbrev last_lines : List (Option StreamLocation)
   last_lines = (input_after tree prefix empty lines).lines
 
-  module _ (formed : IsWellFormed tree) (turn : LinesInTurn tree prefix) (asked : options.warn_lost ≡ true) (outcome : Outcome) (opened : List (List ℕ)) (tree_lines : List (Located Numbered)) (is : outcome ≡ with_rule options opened
-      (reported (lines_text tree.warnings) (reported (read_of options tree all).warned (warned_files files options tree tree_lines (read_of options tree all).input solution)))) where
+  module _ (formed : IsWellFormed tree) (turn : LinesInTurn tree prefix) (asked : options.warn_lost ≡ true) (outcome : Outcome) (opened : List (List ℕ)) (tree_lines : List (Located Numbered)) (is : outcome ≡ reported (lines_text tree.warnings)
+      (reported (read_of options tree all).warned (done_outcome files options opened tree tree_lines (read_of options tree all).input solution))) where
     abbrev last : UserInput
     last = input_after tree prefix empty lines
 
@@ -381,7 +382,7 @@ module _ (files : Files) (options : Options) (all : List (List ℕ)) (tree : Tre
       line_counts : length (input_after tree prefix empty before).lines ≡ length tree.symbols
       line_counts =
           turn.counts.lines empty before
-          ∙ ap (λ b. length (if b || is_some options.explanation then replicate (length tree.symbols) no_line else [])) asked
+          ∙ ap (λ b. length (if b || wants options Output.Explanation then replicate (length tree.symbols) no_line else [])) asked
           ∙ length-replicate (length tree.symbols) no_line
 
       line_below : s.0 < length (input_after tree prefix empty before).lines

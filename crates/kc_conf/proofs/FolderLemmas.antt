@@ -12,7 +12,7 @@ use Rattle.kc_conf.specs.Many.{AreRootedAt, EndsTurn, IsPart, RunsEach, RunsTurn
 use Rattle.kc_conf.specs.Many as many
 use Rattle.kc_language.specs.Outcome.{Options, IsAcceptedTree, IsLenientOutcome, IsOutcome, IsOutcomeOfReading, IsRefusedTree, Outcome, accepted_tree, long_line, looped, no_tree, read_of, refused_if, refused_name, refused_tree, refuses_input, reported, root_file, unknown_symbol, whole}
 use Rattle.kc_conf.specs.Faults.{IsRefusedName, NamesAreTaken}
-use Rattle.kc_conf.proofs.SourceLemmas.{lines-same, warned_files-same}
+use Rattle.kc_conf.proofs.SourceLemmas.{done_outcome-same, lines-same}
 
 -- in the other direction
 pub flipped : (root : List ℕ) (files others : Files) → ExpandsAlike root files others → ExpandsAlike root others files
@@ -46,15 +46,15 @@ module _ (options : Options) (files others : Files) (alike : ExpandsAlike (root_
   top = root_file options
 
   -- what follows from the input files is made of the lines' files alone
-  rest_over : (tree : TreeFacts) (log : TreeLog) (all : List (List ℕ)) (rest : Outcome) → Expands files (root_file options) (Ok log) →
-      IsOutcomeOfReading files options tree (numbered_lines log.lines) (read_of options tree all) rest →
-      IsOutcomeOfReading others options tree (numbered_lines log.lines) (read_of options tree all) rest
-  rest_over tree log all rest expands (long_line stop stopped is) = long_line stop stopped is
-  rest_over tree log all rest expands (whole solution none solves is) =
+  rest_over : (opened : List (List ℕ)) (tree : TreeFacts) (log : TreeLog) (all : List (List ℕ)) (rest : Outcome) → Expands files (root_file options) (Ok log) →
+      IsOutcomeOfReading files options opened tree (numbered_lines log.lines) (read_of options tree all) rest →
+      IsOutcomeOfReading others options opened tree (numbered_lines log.lines) (read_of options tree all) rest
+  rest_over opened tree log all rest expands (long_line stop stopped is) = long_line stop stopped is
+  rest_over opened tree log all rest expands (whole solution none solves is) =
       let read = read_of options tree all in
       whole solution none solves
       (is ∙ ap (λ o. reported read.warned (refused_if options (refuses_input options read.input solution) o))
-      (warned_files-same files others (numbered_lines log.lines) (lines-same files others log (alike.holds log expands)) options tree read.input solution))
+      (done_outcome-same files others (numbered_lines log.lines) (lines-same files others log (alike.holds log expands)) options opened tree read.input solution))
 
   lenient_over : (opened all : List (List ℕ)) (outcome : Outcome) → IsLenientOutcome files options opened all outcome → IsLenientOutcome others options opened all outcome
   lenient_over opened all outcome (refused_tree r x e) = refused_tree r (refused_over top files others alike r x) e
@@ -62,7 +62,7 @@ module _ (options : Options) (files others : Files) (alike : ExpandsAlike (root_
   lenient_over opened all outcome (unknown_symbol tree asked x read unknown e) = unknown_symbol tree asked (accepted_over top files others alike tree x) read unknown e
   lenient_over opened all outcome (accepted_tree tree log x expands read known y) =
       accepted_tree tree log (accepted_over top files others alike tree x) ((alike.gives _).0 expands) read known
-      (y.0, rest_over tree log all y.0 expands y.1, y.2)
+      (y.0, rest_over opened tree log all y.0 expands y.1, y.2)
 
   outcome_over : (all : List (List ℕ)) (outcome : Outcome) → IsOutcome files options all outcome → IsOutcome others options all outcome
   outcome_over all outcome (lenient, opened, is, are, same) = (lenient, opened, lenient_over opened all lenient is, opened_over top files others alike opened are, same)

@@ -10,7 +10,7 @@ use Rattle.kc_io.specs.declared.device.Action.{Action}
 use Rattle.kc_io.specs.declared.device.Action.TheVariants.{Report}
 use Rattle.kc_io.proofs.LogLemmas.{leads_both, leads_nothing}
 use Rattle.kc_conf.specs.Accepted.{IsAcceptedOf, IsOrderedOf}
-use Rattle.kc_language.specs.Outcome.{Options, lead, IsAcceptedTree, IsLenientOutcome, IsOutcome, Outcome, accepted_tree, is_not_empty, lines_text, reported, refused_outcome, refused_name, refused_tree, root_file, strictly, unknown_name, unknown_symbol, with_rule}
+use Rattle.kc_language.specs.Outcome.{Options, lead, IsAcceptedTree, IsLenientOutcome, IsOutcome, Outcome, accepted_tree, is_not_empty, lines_text, reported, refused_outcome, refused_name, refused_tree, root_file, strictly, unknown_name, unknown_symbol}
 use Rattle.kc_conf.specs.PartsOfOutcome.{name_refusal}
 use Rattle.std.specs.Option.{option_or}
 use Rattle.kc_conf.specs.LawSteps.{OneAnswer, OneOutcome}
@@ -34,7 +34,7 @@ use Rattle.kc_conf.specs.declared.stop.Stop.TheVariants.{OutOfMemory, Failed}
 use Rattle.kc_conf.proofs.HeldLemmas.{AreHeld-sources}
 use Rattle.kc_conf.proofs.GivenLemmas.{AreInputs-later, inputs-exist}
 use Rattle.kc_conf.proofs.Once.{one_opened}
-use Rattle.kc_conf.proofs.OutcomeLemmas.{strictly-reported, with_rule-reported}
+use Rattle.kc_conf.proofs.OutcomeLemmas.{strictly-reported}
 use Rattle.kc_conf.proofs.PartLemmas.{AreLines-nothing}
 use Rattle.kc_conf.proofs.PartOutcomes.{texts-none}
 use Rattle.kc_conf.proofs.RefusedNames.{lenient_refusal, refused_with}
@@ -97,11 +97,9 @@ module _ (law : OneAnswer) (files : Files) (tree : TreeFacts) (options : Options
           let same : other ≡ tree = law.one_accepted files (root_file options) other tree second accepted in
           let warnings : List ℕ = lines_text tree.warnings in
           let after : lenient ≡ reported warnings rest = e ∙ ap (λ (t : TreeFacts). reported (lines_text t.warnings) rest) same in
-          let part : Outcome = with_rule options opened (strictly_after options (is_not_empty warnings) rest) in
+          let part : Outcome = strictly_after options (is_not_empty warnings) rest in
           let whole : outcome ≡ reported warnings part =
-          is ∙ ap (λ o. with_rule options opened (strictly options o)) after
-          ∙ ap (with_rule options opened) (sym (strictly-reported options warnings rest))
-          ∙ sym (with_rule-reported options opened warnings (strictly_after options (is_not_empty warnings) rest)) in
+          is ∙ ap (strictly options) after ∙ sym (strictly-reported options warnings rest) in
           let here : IsOutcome files options all outcome = (lenient, opened, accepted_tree other log second expands read known (rest, of_reading, e), are, is) in
           let taken : refused_name_of options opened tree ≡ None = ap (λ u. option_or u (unknown_name options tree)) read ∙ ap (unknown_name options) (sym same) ∙ known in
           (part, part_of_rest opened part are taken (subst (λ o. IsOutcome files options all o) whole here), inl whole)

@@ -14,7 +14,7 @@ use Rattle.kc_order.specs.Laws.{NamedAreUnordered, OneNamedLoop}
 use Rattle.kc_language.specs.Values.{Solves, equations, name_count}
 use Rattle.kc_language.specs.Needs.{IsAccepted, needs, loop_text, IsLoopText, loop_refused}
 use Rattle.kc_language.specs.Texts.{Solution, value_of}
-use Rattle.kc_language.specs.Outcome.{Options, lead, refusal_line, Outcome, IsLenientOutcome, strictly, reported, lines_text, refused_outcome, read_of, root_file, IsRefusedTree, no_tree, looped, IsAcceptedTree, IsSolutionFor, refused_tree, refused_name, unknown_name, unknown_symbol, unreadable_name, accepted_tree, IsOutcomeOfReading, long_line, whole, with_rule}
+use Rattle.kc_language.specs.Outcome.{Options, lead, refusal_line, Outcome, IsLenientOutcome, strictly, reported, lines_text, refused_outcome, read_of, root_file, IsRefusedTree, no_tree, looped, IsAcceptedTree, IsSolutionFor, refused_tree, refused_name, unknown_name, unknown_symbol, unreadable_name, accepted_tree, IsOutcomeOfReading, long_line, whole}
 use Rattle.kc_conf.specs.PartsOfOutcome.{too_long_line, unknown_line, unreadable_line}
 use Rattle.kc_conf.specs.PartsOfOutcome.{outcome_of}
 use Rattle.kc_conf.specs.LawSteps.{OneAnswer, OneOutcome}
@@ -100,14 +100,14 @@ abbrev some_or : {A : Type 0} → A → Option A → A
 some_or d None = d
 some_or d (Some x) = x
 
-one_rest : (files : Files) (options : Options) (tree : TreeFacts) (lines : List (Located Numbered)) (read : ReadResult) (a b : Outcome) →
-    IsOutcomeOfReading files options tree lines read a → IsOutcomeOfReading files options tree lines read b → a ≡ b
-one_rest files options tree lines read a b (long_line stop long is) (long_line other long' is') =
+one_rest : (files : Files) (options : Options) (opened : List (List ℕ)) (tree : TreeFacts) (lines : List (Located Numbered)) (read : ReadResult) (a b : Outcome) →
+    IsOutcomeOfReading files options opened tree lines read a → IsOutcomeOfReading files options opened tree lines read b → a ≡ b
+one_rest files options opened tree lines read a b (long_line stop long is) (long_line other long' is') =
     is ∙ ap (λ s. reported read.warned (refused_outcome (too_long_line s))) (ap (some_or stop) (sym long ∙ long')) ∙ sym is'
-one_rest files options tree lines read a b (long_line stop long is) (whole s none solves is') = absurd (let e : Some stop ≡ None = sym long ∙ none in cc)
-one_rest files options tree lines read a b (whole s none solves is) (long_line stop long is') = absurd (let e : Some stop ≡ None = sym long ∙ none in cc)
-one_rest files options tree lines read a b (whole s none solves is) (whole t none' solves' is') =
-    is ∙ ap (λ x. reported read.warned (outcome_of files options tree lines read.input x)) (one_solution tree read.input.places s t solves solves') ∙ sym is'
+one_rest files options opened tree lines read a b (long_line stop long is) (whole s none solves is') = absurd (let e : Some stop ≡ None = sym long ∙ none in cc)
+one_rest files options opened tree lines read a b (whole s none solves is) (long_line stop long is') = absurd (let e : Some stop ≡ None = sym long ∙ none in cc)
+one_rest files options opened tree lines read a b (whole s none solves is) (whole t none' solves' is') =
+    is ∙ ap (λ x. reported read.warned (outcome_of files options opened tree lines read.input x)) (one_solution tree read.input.places s t solves solves') ∙ sym is'
 
 -- over a refused tree it is the refusal
 lenient_refused : OneAnswer → (files : Files) (options : Options) (opened all : List (List ℕ)) (a : Outcome) (r : Refused) → IsRefusedTree files (root_file options) r →
@@ -123,7 +123,7 @@ module _ (law : OneAnswer) (files : Files) (options : Options) (opened all : Lis
   AreOf (Some name) unknown outcome = outcome ≡ refused_outcome (lead options ++ unreadable_line name)
   AreOf None (Some asked) outcome = outcome ≡ refused_outcome (lead options ++ unknown_line tree asked)
   AreOf None None outcome = (log : ReadSoFar) × Expands files (root_file options) (Ok log)
-      × ((rest : Outcome) × IsOutcomeOfReading files options tree (numbered_lines log.lines) (read_of options tree all) rest × (outcome ≡ reported (lines_text tree.warnings) rest))
+      × ((rest : Outcome) × IsOutcomeOfReading files options opened tree (numbered_lines log.lines) (read_of options tree all) rest × (outcome ≡ reported (lines_text tree.warnings) rest))
 
   pub lenient_is : (a : Outcome) → IsLenientOutcome files options opened all a → AreOf (unreadable_name options opened) (unknown_name options tree) a
   lenient_is a (refused_tree r why is) = absurd (law.not_both files (root_file options) r tree why accepted)
@@ -141,7 +141,7 @@ module _ (law : OneAnswer) (files : Files) (options : Options) (opened all : Lis
         expands,
         (
           rest,
-          subst (λ (t : TreeFacts). IsOutcomeOfReading files options t (numbered_lines log.lines) (read_of options t all) rest) same part,
+          subst (λ (t : TreeFacts). IsOutcomeOfReading files options opened t (numbered_lines log.lines) (read_of options t all) rest) same part,
           is ∙ ap (λ (t : TreeFacts). reported (lines_text t.warnings) rest) same,
         ),
       ))
@@ -151,9 +151,9 @@ module _ (law : OneAnswer) (files : Files) (options : Options) (opened all : Lis
   one_of None (Some asked) a b is is' = is ∙ sym is'
   one_of None None a b (log, expands, (rest, part, is)) (other, expands', (more, part', is')) =
       let same : other ≡ log = law.one_log files (root_file options) other log expands' expands in
-      let part'' : IsOutcomeOfReading files options tree (numbered_lines log.lines) (read_of options tree all) more =
-      subst (λ (l : ReadSoFar). IsOutcomeOfReading files options tree (numbered_lines l.lines) (read_of options tree all) more) same part' in
-      is ∙ ap (reported (lines_text tree.warnings)) (one_rest files options tree (numbered_lines log.lines) (read_of options tree all) rest more part part'') ∙ sym is'
+      let part'' : IsOutcomeOfReading files options opened tree (numbered_lines log.lines) (read_of options tree all) more =
+      subst (λ (l : ReadSoFar). IsOutcomeOfReading files options opened tree (numbered_lines l.lines) (read_of options tree all) more) same part' in
+      is ∙ ap (reported (lines_text tree.warnings)) (one_rest files options opened tree (numbered_lines log.lines) (read_of options tree all) rest more part part'') ∙ sym is'
 
   one_accepted_outcome : (a b : Outcome) → IsLenientOutcome files options opened all a → IsLenientOutcome files options opened all b → a ≡ b
   one_accepted_outcome a b first second = one_of (unreadable_name options opened) (unknown_name options tree) a b (lenient_is a first) (lenient_is b second)
@@ -179,13 +179,11 @@ one_outcome_law law files options all a b (lenient, opened, first, are, is) (oth
     accepts tree accepted =
         let same : opened ≡ others = one_opened files (root_file options) tree opened others accepted are are' in
         let second' : IsLenientOutcome files options opened all other = subst (λ l. IsLenientOutcome files options l all other) (sym same) second in
-        is ∙ ap (λ l. with_rule options l (strictly options lenient)) same
-        ∙ ap (λ o. with_rule options others (strictly options o)) (one_accepted_outcome law files options opened all tree accepted lenient other first second') ∙ sym is'
+        is ∙ ap (strictly options) (one_accepted_outcome law files options opened all tree accepted lenient other first second') ∙ sym is'
 
     by : IsLenientOutcome files options opened all lenient → a ≡ b
     by (refused_tree r why was) =
-        is ∙ ap (λ o. with_rule options opened (strictly options o)) was
-        ∙ ap (λ o. with_rule options others (strictly options o)) (sym (lenient_refused law files options others all other r why second)) ∙ sym is'
+        is ∙ ap (strictly options) was ∙ ap (strictly options) (sym (lenient_refused law files options others all other r why second)) ∙ sym is'
     by (refused_name tree name accepted unread was) = accepts tree accepted
     by (unknown_symbol tree asked accepted read unknown was) = accepts tree accepted
     by (accepted_tree tree log accepted expands read known part) = accepts tree accepted

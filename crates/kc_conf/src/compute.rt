@@ -1,23 +1,19 @@
 //! Computes the result of a run in memory: its warnings and texts.
-ghost use Rattle.std.specs.Prelude.{◌≡◌, ◌++◌, ◌||◌, ◌&&◌, List, [], ◌∷◌, map, IfOk, OnOk, option_map};
+ghost use Rattle.std.specs.Prelude.{◌≡◌, ◌++◌, ◌||◌, ◌&&◌, ℕ, List, [], ◌∷◌, map, IfOk, OnOk, option_map};
 ghost use Rattle.std.specs.List.{flat_map, list_any};
-ghost use Rattle.std.specs.Option.{option_map_or};
 ghost use Rattle.kc_diagnostics.specs.Warnings.{owned_warning};
 ghost use Rattle.kc_language.specs.Symbols.{warning_line};
 ghost use Rattle.kc_language.specs.ConfigFile.{ArePlacesOf};
 ghost use Rattle.kc_language.specs.Texts.{warnings, solution_view};
-ghost use Rattle.kc_language.specs.Texts as whole;
 ghost use Rattle.kc_io.specs.Delivered.{text_view};
-ghost use Rattle.kc_language.specs.Outcome as rules;
 ghost use Rattle.kc_language.specs.Expansion.{Files};
 ghost use Rattle.kc_language.specs.Statements.{Located, Numbered};
 ghost use Rattle.kc_conf.specs.Accepted.{AreSources, IsReady};
 ghost use Rattle.kc_conf.specs.Faults.{AreLines};
-ghost use Rattle.kc_language.specs.Outcome.{lead, target, is_not_empty, lines_text, names_listed, is_outside, lost_warnings, refuses_input};
-ghost use Rattle.kc_conf.specs.PartsOfOutcome.{text_if};
-ghost use Rattle.kc_conf.specs.Computed.{Computes, explained_by, explained_lost, explanation_lead, files_from, lost_by, lost_from, new_by, new_from, sources_if};
+ghost use Rattle.kc_language.specs.Outcome.{lead, is_not_empty, lines_text, is_outside, lost_warnings, refuses_input};
+ghost use Rattle.kc_conf.specs.PartsOfOutcome.{names_if};
+ghost use Rattle.kc_conf.specs.Computed.{Computes, explained_by, explained_lost, explanation_lead, lost_by, lost_from, named_from, new_by, new_from, rule_by, sources_if, text_from};
 ghost use Rattle.kc_read.specs.Entries.{lines_in};
-ghost use Rattle.kc_io.specs.Delivery.{text_at, texts_of};
 
 use crate::accepted::{OrderedTree, TreeSources};
 use crate::explained::{add_explained_lost, explained_text, explanation_lead};
@@ -30,7 +26,7 @@ use kc_explain::{Lines, new_text_with_help};
 use kc_expr::names::Names;
 use kc_io::Text;
 use kc_load::{prerequisites_of, rule_text};
-use kc_options::{Options, lead, target};
+use kc_options::{Options, Output, lead, target, wants};
 use kc_solve::solve::solve;
 use kc_solve::solved::Solved;
 use kc_tree::tree::Tree;
@@ -255,14 +251,14 @@ fn is_refused(
 // ---- the texts
 
 /// The names in the dependency file, if it is wanted.
-pub(crate) fn names_listed(
+pub(crate) fn names_if(
     alloc: Global,
     options: &Options,
     opened: &Names,
 ) -> Result<Option<Names>, AllocError>
-    ensures { IfOk result (λ names. names ≡ names_listed options.now opened.now) }
+    ensures { IfOk result (λ names. names ≡ names_if options.now opened.now) }
 {
-    if options.depfile.is_none() {
+    if !wants(options, Output::DependencyFile) {
         return Ok(None);
     }
     let names = prerequisites_of(
@@ -276,70 +272,7 @@ pub(crate) fn names_listed(
     Ok(Some(names))
 }
 
-// Adds the text of the `.config`, if it is wanted.
-fn add_config<'o>(
-    alloc: Global,
-    options: &'o Options,
-    solved: &Solved<'_>,
-    texts: &mut Vec<Text<'o>>,
-) -> Result<(), AllocError>
-    ensures { OnOk result (map text_view texts.new.items ≡ map text_view texts.old.items
-        ++ text_at options.now.out (text_if options.now.out (whole.config_text solved.now.tree options.now.prefix (solution_view solved.now)))) }
-{
-    let Some(name) = &options.out else {
-        return Ok(());
-    };
-    let bytes = config_text(alloc, solved, &options.prefix)?;
-    texts.push(Text {
-        name: name.as_str(),
-        bytes,
-    })?;
-    Ok(())
-}
-
-// Adds the text of the header, if it is wanted.
-fn add_header<'o>(
-    alloc: Global,
-    options: &'o Options,
-    solved: &Solved<'_>,
-    texts: &mut Vec<Text<'o>>,
-) -> Result<(), AllocError>
-    ensures { OnOk result (map text_view texts.new.items ≡ map text_view texts.old.items
-        ++ text_at options.now.header (text_if options.now.header (whole.header_text solved.now.tree options.now.prefix (solution_view solved.now)))) }
-{
-    let Some(name) = &options.header else {
-        return Ok(());
-    };
-    let bytes = header_text(alloc, solved, &options.prefix)?;
-    texts.push(Text {
-        name: name.as_str(),
-        bytes,
-    })?;
-    Ok(())
-}
-
-// Adds the text of the minimal file, if it is wanted.
-fn add_minimal<'o>(
-    alloc: Global,
-    options: &'o Options,
-    solved: &Solved<'_>,
-    texts: &mut Vec<Text<'o>>,
-) -> Result<(), AllocError>
-    ensures { OnOk result (map text_view texts.new.items ≡ map text_view texts.old.items
-        ++ text_at options.now.minimal (text_if options.now.minimal (whole.minimal_text solved.now.tree options.now.prefix (solution_view solved.now)))) }
-{
-    let Some(name) = &options.minimal else {
-        return Ok(());
-    };
-    let bytes = minimal_text(alloc, solved, &options.prefix)?;
-    texts.push(Text {
-        name: name.as_str(),
-        bytes,
-    })?;
-    Ok(())
-}
-
-// The text of the list of new symbols, with their definitions from these sources, if there are any.
+// The list of new symbols, with their definitions from these sources, if there are any.
 fn new_by(
     alloc: Global,
     options: &Options,
@@ -357,7 +290,7 @@ fn new_by(
     }
 }
 
-// The text of the list of new symbols, with their definitions if help is wanted.
+// The list of new symbols, with their definitions if help is wanted.
 fn new_symbols(
     alloc: Global,
     options: &Options,
@@ -370,120 +303,78 @@ fn new_symbols(
     new_by(alloc, options, wanted, solved)
 }
 
-// Adds the text of the list of new symbols, if it is wanted.
-fn add_new<'o>(
+// The dependency file that lists these names.
+fn rule_by(alloc: Global, options: &Options, names: &Option<Names>) -> Result<Vec<u8>, AllocError>
+    ensures { IfOk result (λ text. text.items ≡ rule_by options.now names.now) }
+{
+    match names {
+        Some(names) => rule_text(alloc, target(options).as_bytes(), names),
+        None => Ok(Vec::new(alloc)),
+    }
+}
+
+// The explanations, made of these sources.
+fn explained_by(
     alloc: Global,
-    options: &'o Options,
+    options: &Options,
     sources: Option<&TreeSources>,
-    solved: &Solved<'_>,
-    texts: &mut Vec<Text<'o>>,
-) -> Result<(), AllocError>
-    ensures { OnOk result (map text_view texts.new.items ≡ map text_view texts.old.items
-        ++ text_at options.now.list_new (text_if options.now.list_new (new_from options.now sources.entry solved.now))) }
-{
-    let Some(name) = &options.list_new else {
-        return Ok(());
-    };
-    let bytes = new_symbols(alloc, options, sources, solved)?;
-    texts.push(Text {
-        name: name.as_str(),
-        bytes,
-    })?;
-    Ok(())
-}
-
-// Adds the text of the list of input lines that name no symbol, if it is wanted.
-fn add_gone<'o>(
-    alloc: Global,
-    options: &'o Options,
     input: &UserInput<'_>,
-    texts: &mut Vec<Text<'o>>,
-) -> Result<(), AllocError>
-    ensures { OnOk result (map text_view texts.new.items ≡ map text_view texts.old.items
-        ++ text_at options.now.list_gone (text_if options.now.list_gone (option_map_or (λ told. told.0 ++ told.1) input.now.gone []))) }
+    solved: &Solved<'_>,
+) -> Result<Vec<u8>, AllocError>
+    ensures { IfOk result (λ text. text.items ≡ explained_by sources.entry options.now input.now solved.now) }
 {
-    let Some(name) = &options.list_gone else {
-        return Ok(());
-    };
-    let bytes = input.gone_text(alloc)?;
-    texts.push(Text {
-        name: name.as_str(),
-        bytes,
-    })?;
-    Ok(())
+    match sources {
+        Some(sources) => {
+            let lines = Lines::of(alloc, &sources.entries)?;
+            explained_text(alloc, options, &lines, input, solved)
+        }
+        None => Ok(Vec::new(alloc)),
+    }
 }
 
-// Adds the text of the dependency file that lists these names, if it is wanted.
-fn add_rule<'o>(
+// The text of an output of this kind.
+fn text_of(
     alloc: Global,
-    options: &'o Options,
+    options: &Options,
+    sources: Option<&TreeSources>,
     names: &Option<Names>,
-    texts: &mut Vec<Text<'o>>,
-) -> Result<(), AllocError>
-    ensures { OnOk result (map text_view texts.new.items ≡ map text_view texts.old.items
-        ++ text_at options.now.depfile (option_map (rules.rule_text (target options.now)) names.now)) }
-{
-    let Some(name) = &options.depfile else {
-        return Ok(());
-    };
-    let Some(names) = names else {
-        return Ok(());
-    };
-    let bytes = rule_text(alloc, target(options).as_bytes(), names)?;
-    texts.push(Text {
-        name: name.as_str(),
-        bytes,
-    })?;
-    Ok(())
-}
-
-// Adds the text of the explanations, if they are wanted.
-fn add_explanation<'o>(
-    alloc: Global,
-    options: &'o Options,
-    sources: Option<&TreeSources>,
     input: &UserInput<'_>,
     solved: &Solved<'_>,
-    texts: &mut Vec<Text<'o>>,
-) -> Result<(), AllocError>
-    ensures { OnOk result (map text_view texts.new.items ≡ map text_view texts.old.items
-        ++ text_at options.now.explanation (explained_by sources.entry options.now input.now solved.now)) }
+    kind: Output,
+) -> Result<Vec<u8>, AllocError>
+    ensures { IfOk result (λ text. text.items ≡ text_from options.now sources.entry names.now input.now solved.now kind) }
 {
-    let Some(name) = &options.explanation else {
-        return Ok(());
-    };
-    let Some(sources) = sources else {
-        return Ok(());
-    };
-    let lines = Lines::of(alloc, &sources.entries)?;
-    let bytes = explained_text(alloc, options, &lines, input, solved)?;
-    texts.push(Text {
-        name: name.as_str(),
-        bytes,
-    })?;
-    Ok(())
+    match kind {
+        Output::Config => config_text(alloc, solved, &options.prefix),
+        Output::Header => header_text(alloc, solved, &options.prefix),
+        Output::Minimal => minimal_text(alloc, solved, &options.prefix),
+        Output::NewSymbols => new_symbols(alloc, options, sources, solved),
+        Output::GoneLines => input.gone_text(alloc),
+        Output::DependencyFile => rule_by(alloc, options, names),
+        Output::Explanation => explained_by(alloc, options, sources, input, solved),
+    }
 }
 
-// The texts of a solution for the user's input, in the order in which they are delivered.
+// The texts of the outputs, in their order.
 fn texts_of<'o>(
     alloc: Global,
     options: &'o Options,
     sources: Option<&TreeSources>,
+    names: &Option<Names>,
     input: &UserInput<'_>,
     solved: &Solved<'_>,
-    names: &Option<Names>,
 ) -> Result<Vec<Text<'o>>, AllocError>
     ensures { IfOk result (λ texts. map text_view texts.items
-        ≡ texts_of options.now (files_from options.now sources.entry input.now solved.now names.now)) }
+        ≡ map (named_from options.now sources.entry names.now input.now solved.now) options.now.outputs.items) }
 {
     let mut texts = Vec::new(alloc);
-    add_config(alloc, options, solved, &mut texts)?;
-    add_header(alloc, options, solved, &mut texts)?;
-    add_minimal(alloc, options, solved, &mut texts)?;
-    add_new(alloc, options, sources, solved, &mut texts)?;
-    add_gone(alloc, options, input, &mut texts)?;
-    add_rule(alloc, options, names, &mut texts)?;
-    add_explanation(alloc, options, sources, input, solved, &mut texts)?;
+    for wanted in &options.outputs {
+        let bytes = text_of(alloc, options, sources, names, input, solved, wanted.kind)?;
+        texts.push(Text {
+            name: wanted.file.as_str(),
+            bytes,
+        })?;
+    }
     Ok(texts)
 }
 
@@ -500,8 +391,9 @@ pub(crate) fn compute<'o>(
 ) -> Result<Option<Vec<Text<'o>>>, AllocError>
     requires ready { IsReady accepted.now }
     requires places { ArePlacesOf accepted.now.laid.tree.now input.now.places }
-    ensures computes { (files : Files) (lines : List (Located Numbered)) → AreSources files lines options.now accepted.now.sources
-        → IfOk result (λ texts. Computes files options.now accepted.now.laid.tree.now lines names.now input.now is_warned waiting.old.items waiting.new.items
+    ensures computes { (files : Files) (opened : List (List ℕ)) (lines : List (Located Numbered)) → names.now ≡ names_if options.now opened
+        → AreSources files lines options.now accepted.now.sources
+        → IfOk result (λ texts. Computes files options.now opened accepted.now.laid.tree.now lines input.now is_warned waiting.old.items waiting.new.items
         (option_map (λ texts. map text_view texts.items) texts)) }
     ensures lines { AreLines waiting.old.items → IfOk result (λ texts. AreLines waiting.new.items) }
 {
@@ -514,6 +406,6 @@ pub(crate) fn compute<'o>(
     if is_refused(options, input, &solved, &lost, is_warned) {
         return Ok(None);
     }
-    let texts = texts_of(alloc, options, sources, input, &solved, names)?;
+    let texts = texts_of(alloc, options, sources, names, input, &solved)?;
     Ok(Some(texts))
 }

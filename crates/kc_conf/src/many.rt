@@ -12,7 +12,7 @@ ghost use Rattle.kc_language.specs.Outcome.{Options, IsAcceptedTree, IsRefusedTr
 ghost use Rattle.kc_conf.specs.PartRuns.{LeavesTurn, StopsLines};
 
 use crate::accepted::{AcceptedTree, OrderedTree, TreeReading, borrowed, read_tree};
-use crate::compute::names_listed;
+use crate::compute::names_if;
 use crate::diagnostics::{report, say_no_memory, say_refusal};
 use crate::laws::{exactly_one_outcome, one_answer};
 use crate::names::{refuse_name, refused_among};
@@ -76,7 +76,7 @@ fn run_part<'o, D: Device>(
 {
     one_answer();
     exactly_one_outcome();
-    let names = names_listed(alloc, options, accepted.opened)?;
+    let names = names_if(alloc, options, accepted.opened)?;
     let refused = refused_among(alloc, options, &names, accepted.laid.tree)?;
     if let Some(name) = refused {
         return refuse_name(options, &name, device);

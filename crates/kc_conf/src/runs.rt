@@ -6,8 +6,8 @@ ghost use Rattle.kc_read.specs.RefusalView.{refusal_view};
 ghost use Rattle.kc_language.specs.declared.diagnostics.Cause.TheVariants.{Memory};
 ghost use Rattle.kc_io.specs.Delivered.{text_view};
 ghost use Rattle.kc_conf.specs.Accepted.{IsAcceptedOf, IsReadOf, IsReady};
-ghost use Rattle.kc_language.specs.Outcome.{Options, fresh_input, lead, refusal_line, root_file, is_not_empty, lines_text, names_listed};
-ghost use Rattle.kc_conf.specs.PartsOfOutcome.{too_long_line};
+ghost use Rattle.kc_language.specs.Outcome.{Options, fresh_input, lead, refusal_line, root_file, is_not_empty, lines_text};
+ghost use Rattle.kc_conf.specs.PartsOfOutcome.{names_if, too_long_line};
 ghost use Rattle.kc_conf.specs.Faults.{AreLines};
 ghost use Rattle.kc_conf.specs.PartsOfOutcome.{strict_line};
 ghost use Rattle.kc_conf.specs.Faults.{Runs, refused_name_of};
@@ -17,7 +17,7 @@ ghost use Rattle.kc_conf.specs.PartRuns.{LeavesPart, LeavesRun, SaysLines};
 ghost use Rattle.kc_conf.specs.Reads.{stop_of};
 
 use crate::accepted::{AcceptedTree, OrderedTree, TreeReading, borrowed, read_tree};
-use crate::compute::{compute, names_listed};
+use crate::compute::{compute, names_if};
 use crate::diagnostics::{report, say_error, say_lines, say_long_line, say_parts, say_refusal};
 use crate::laws::{exactly_one_outcome, one_answer};
 use crate::names::{refuse_name, refused_among};
@@ -27,7 +27,7 @@ use kc_config_file::user_input::UserInput;
 use kc_diagnostics::{Cause, RunError};
 use kc_expr::names::Names;
 use kc_io::{Device, Manner, Text, deliver};
-use kc_options::{Delivery, Options, Status, holds_warnings, lead, wants_sources};
+use kc_options::{Delivery, Options, Output, Status, holds_warnings, lead, wants, wants_sources};
 use kc_read::file_map::FileMap;
 use kc_read::laws::opened_are_one_list;
 use kc_read::refusal::Refusal;
@@ -209,17 +209,14 @@ fn fresh_input<'a>(
     let mut input = UserInput::new(
         alloc,
         tree,
-        options.warn_lost || options.explanation.is_some(),
+        options.warn_lost || wants(options, Output::Explanation),
     )?;
     input.ask_unset(options.warn_lost);
     input.lead_with(lead_text(alloc, options)?);
-    match &options.list_gone {
-        None => Ok(input),
-        Some(_) => {
-            input.keep_gone(alloc);
-            Ok(input)
-        }
+    if wants(options, Output::GoneLines) {
+        input.keep_gone(alloc);
     }
+    Ok(input)
 }
 
 /// Runs for one configuration of an accepted tree, after the tree's diagnostics. `is_warned` is whether the tree has
@@ -233,7 +230,7 @@ pub(crate) fn run_inputs<'o, D: Device>(
     device: &mut D,
 ) -> Result<Status, Stop<'o>>
     requires ready { IsReady accepted.now }
-    requires names { names.now ≡ names_listed options.now accepted.now.opened.now }
+    requires names { names.now ≡ names_if options.now accepted.now.opened.now }
     requires taken { refused_name_of options.now accepted.now.opened.now accepted.now.laid.tree.now ≡ None }
     requires warned { is_warned ≡ is_not_empty (lines_text accepted.now.laid.tree.now.warnings) }
     ensures { (files : Files) → IsAcceptedOf files options.now accepted.now → LeavesPart files options.now accepted.now.laid.tree.now result (D.log device.old) (D.log device.new) }
@@ -301,7 +298,7 @@ fn run_accepted<'o, D: Device>(
 {
     one_answer();
     exactly_one_outcome();
-    let names = names_listed(alloc, options, accepted.opened)?;
+    let names = names_if(alloc, options, accepted.opened)?;
     let refused = refused_among(alloc, options, &names, accepted.laid.tree)?;
     if let Some(name) = refused {
         return refuse_name(options, &name, device);

@@ -1,6 +1,6 @@
 -- Trusted: How texts are written to their files, event by event, and the laws of delivery (our own).
-use Rattle.std.specs.{Prelude.{◌≡◌, ℕ, Bool, true, false, not, ◌||◌, if◌then◌else◌, List, [], ◌∷◌, ◌++◌, filter, flat_map, Option, Some, Result, Ok, Err, String, string_bytes, bytes_eq}, List.list_any, declared.alloc.Global.Global}
-use Rattle.kc_language.specs.{Outcome.{Options, Outcome, lead, run_error_text}, Statements.error_line, declared.{diagnostics.RunError.RunError, outcome.{Delivery.Delivery, Status.Status}}}
+use Rattle.std.specs.{Prelude.{◌≡◌, ℕ, Bool, true, false, not, ◌||◌, if◌then◌else◌, List, [], ◌∷◌, ◌++◌, filter, flat_map, Option, Some, Result, Ok, Err, string_bytes, bytes_eq}, List.list_any}
+use Rattle.kc_language.specs.{Outcome.{Options, Outcome, lead, run_error_text}, Statements.error_line, declared.{diagnostics.RunError.RunError, outcome.{Delivery.Delivery, Status.Status, WantedOutput.WantedOutput}}}
 use Rattle.kc_io.specs.{Log.{Event, Journal, Leads, Log, did, each_byte, held, is_held, keeps_files, with_events}, declared.{device.{Action.{Action, TheVariants.{Clear, Create, Write, Close, Move}}, Site.{Site, TheVariants.{Place, Beside}}}, delivery.Manner.{Manner, TheVariants.{InPlace, Replacing}}, steps.Failure.Failure}}
 
 -- A text, and the name of the file that is to hold it.
@@ -41,14 +41,12 @@ StopsBefore _ _ = ⊥
 
 -- ---- The texts of an outcome
 -- They have the names of their files, and stand in the order in which they are delivered.
-abbrev pub text_at : Option (String Global) → Option (List ℕ) → List NamedText
-text_at (Some name) (Some bytes) = record { name = string_bytes name; bytes = bytes } ∷ []
-text_at _ _ = []
+abbrev pub with_names : List WantedOutput → List (List ℕ) → List NamedText
+with_names (wanted ∷ outputs) (text ∷ texts) = record { name = string_bytes wanted.file; bytes = text } ∷ with_names outputs texts
+with_names _ _ = []
 
 abbrev pub texts_of : Options → Outcome → List NamedText
-texts_of options outcome = text_at options.out outcome.config ++ text_at options.header outcome.header
-    ++ text_at options.minimal outcome.minimal ++ text_at options.list_new outcome.list_new ++ text_at options.list_gone outcome.list_gone
-    ++ text_at options.depfile outcome.depfile ++ text_at options.explanation outcome.explanation
+texts_of options outcome = with_names options.outputs.items outcome.texts
 
 -- They are written; with --replace those that differ from their files replace these; with --check nothing is written.
 abbrev pub delivers : Options → List NamedText → Journal → List Event

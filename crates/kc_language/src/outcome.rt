@@ -11,6 +11,34 @@ pub enum Delivery {
     Check,
 }
 
+/// What kinds of texts a run can write.
+#[derive(Clone, Copy, Debug, PartialEq, Eq)]
+pub enum Output {
+    /// The full `.config`. A dependency file needs one: its rule makes this file.
+    Config,
+    /// The header.
+    Header,
+    /// The minimal `.config`.
+    Minimal,
+    /// The list of new symbols.
+    NewSymbols,
+    /// The list of the input lines that named no symbol.
+    GoneLines,
+    /// The dependency file.
+    DependencyFile,
+    /// The explanations of the symbols that are asked for.
+    Explanation,
+}
+
+/// An output that is asked for. A file of the name `/dev/stdout` is standard output.
+#[derive(Drop)]
+pub struct WantedOutput {
+    /// Which text it is.
+    pub kind: Output,
+    /// The file that it is written to.
+    pub file: String,
+}
+
 /// What is asked of a run. The names of files are as they were given. `P` keeps the prefix.
 #[derive(Drop)]
 pub struct Options<P> {
@@ -18,26 +46,14 @@ pub struct Options<P> {
     pub root: String,
     /// The `.config` to read.
     pub config: String,
-    /// The full `.config` to write. A dependency file needs one: its rule makes this file.
-    pub out: Option<String>,
+    /// The outputs to write, in this order.
+    pub outputs: Vec<WantedOutput>,
     /// The Kconfig file to begin with.
     pub kconfig: String,
     /// Whether that is a flat file: line markers give its lines their locations, and a `$` in quotes is a byte.
     pub is_flat: bool,
-    /// The header to write.
-    pub header: Option<String>,
-    /// The minimal `.config` to write.
-    pub minimal: Option<String>,
-    /// The list of new symbols to write.
-    pub list_new: Option<String>,
-    /// Whether that list shows the definitions of each symbol, with prompt and help, as comments.
+    /// Whether the list of new symbols shows the definitions of each symbol, with prompt and help, as comments.
     pub with_help: bool,
-    /// The list of the input lines that named no symbol to write.
-    pub list_gone: Option<String>,
-    /// The dependency file to write.
-    pub depfile: Option<String>,
-    /// The file to write explanations to.
-    pub explanation: Option<String>,
     /// The names of the symbols to explain, with or without the prefix.
     pub explain: Vec<String>,
     /// In how many steps the symbols that hold such a symbol down are explained too.

@@ -15,7 +15,7 @@ use std::alloc::Global;
 /// the parts of a result that may be a refusal in registers.
 #[inline(always)]
 pub(crate) fn refuse(alloc: Global, fault: LineFault, file: &[u8], line: u32) -> Refusal
-    ensures refused { result.cause ≢ Memory → refusal_view result ≡ refusal_at (cause_of fault.entry) file.now line }
+    ensures refusal_at { result.cause ≢ Memory → refusal_view result ≡ refusal_at (cause_of fault.entry) file.now line }
     ensures memory { IsMemory result }
 {
     match fault {

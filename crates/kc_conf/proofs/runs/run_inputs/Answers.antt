@@ -60,6 +60,7 @@ finish-requires g c =
 pub returns : goal.returns
 returns g c = λ files of.
     LeavesPart-whole c.one_answer.ensures c.exactly_one_outcome.ensures files c.args.options.now c.args.accepted.now.laid.tree.now of.tree c.args.accepted.now.opened.now of.opened c.requires.taken of.sources.0 of.sources.1
-    c.in_ok-user.user c.read_inputs.new.user c.read_inputs.new.waiting c.args.names.now c.args.is_warned c.compute.new.waiting.items (option_map (λ t. map text_view t.items) c.in_ok-texts.texts)
+    c.in_ok-user.user c.read_inputs.new.user c.read_inputs.new.waiting c.args.is_warned c.compute.new.waiting.items (option_map (λ t. map text_view t.items) c.in_ok-texts.texts)
     c.finish.result (g.D.Device.log c.args.device.now) (g.D.Device.log c.read_inputs.new.device) (g.D.Device.log c.finish.new.device) c.in_ok-user.ensures (rw c.in_default.is at c.in-Ok.ensures.ok)
-    (c.in-Ok.ensures.holds ∙ c.holds_warnings.ensures) c.requires.names c.requires.warned (c.in_ok-texts.ensures.computes files (numbered_lines of.sources.0.lines) of.sources.2) (rw c.deref-2.ensures.value at c.finish.ensures)
+    (c.in-Ok.ensures.holds ∙ c.holds_warnings.ensures) c.requires.warned
+    (c.in_ok-texts.ensures.computes files c.args.accepted.now.opened.now (numbered_lines of.sources.0.lines) c.requires.names of.sources.2) (rw c.deref-2.ensures.value at c.finish.ensures)
