@@ -19,22 +19,21 @@ use Rattle.kc_read.specs.declared.refusal.Refusal.{Refusal}
 use Rattle.kc_language.specs.declared.symbols.ChoiceId.{ChoiceId}
 use Rattle.kc_tree.specs.declared.rows.Symbol.{Symbol}
 use Rattle.kc_language.specs.Symbols.{TreeFacts, listed, prompt_of, choice_of, enclosing_choice, type_of, is_first_definition_at, bad_defaults, bad_members, menu_entry_at, refused_at, line_warnings}
-use Rattle.kc_read.specs.PartsOfSymbols.{is_member, unless_refused, whole_list_refusals, warnings}
-use Rattle.kc_read.specs.PartsOfSymbols.{first_of, is_bad_default, is_bad_member, line_of, menu_entry_before, prompt_before, line_warnings_by, warned_at}
+use Rattle.kc_entries.specs.PartsOfSymbols.{is_member, unless_refused, whole_list_refusals, warnings}
+use Rattle.kc_entries.specs.PartsOfSymbols.{first_of, is_bad_default, is_bad_member, line_of, menu_entry_before, prompt_before, line_warnings_by, warned_at}
 use Rattle.kc_build.specs.declared.diagnostics.Diagnostics.{Diagnostics}
 use Rattle.kc_build.specs.declared.diagnostics.EntrySummary.{EntrySummary}
 use Rattle.kc_language.specs.declared.symbols.MenuEntry.{MenuEntry}
-use Rattle.kc_build.specs.Diagnosed.{Diagnosis, AreLinesDiagnosed, lines_diagnosed, diagnosis_view, line_diagnosed}
-use Rattle.kc_read.specs.ListFacts.{AreBelow}
-use Rattle.kc_build.specs.SymbolRows.{AreSymbols, IsEntrySummary, choice_by, type_by, member_by, line_warnings_in}
+use Rattle.kc_build.specs.Diagnosed.{Diagnosis, AreLinesDiagnosed, IsDiagnosed, lines_diagnosed, diagnosis_view, line_diagnosed}
+use Rattle.kc_entries.specs.ListFacts.{AreBelow}
+use Rattle.kc_build.specs.SymbolRows.{IsEntrySummary, choice_by, type_by, member_by, line_warnings_in}
 use Rattle.kc_build.specs.WholeListRefusals.{entry_refusal}
-use Rattle.kc_build.specs.WalkResult.{IsDiagnosed}
-use Rattle.kc_build.proofs.TypeLemmas.{choices_known, types_known}
-use Rattle.kc_read.proofs.PlaceLemmas.{there_in, get-dropped, drop-dropped}
-use Rattle.kc_read.proofs.MemberLemmas.{below_or_past, member_is}
+use Rattle.kc_build.proofs.TypeLemmas.{AreTyped, choices_known, types_known}
+use Rattle.kc_entries.proofs.PlaceLemmas.{there_in, get-dropped, drop-dropped}
+use Rattle.kc_entries.proofs.MemberLemmas.{below_or_past, member_is}
 use Rattle.kc_read.proofs.MenuEntryLemmas.{has_prompt, entry_goes_on, entry_here, prompt_begins, prompt_goes_on}
-use Rattle.kc_read.proofs.PlaceLemmas.{filter-next, flat_map-next}
-use Rattle.kc_read.proofs.ListLemmas.{first_of-append}
+use Rattle.kc_entries.proofs.PlaceLemmas.{filter-next, flat_map-next}
+use Rattle.kc_entries.proofs.ListLemmas.{first_of-append}
 use Rattle.kc_read.proofs.BlockLemmas.{first_nil, second_nil}
 
 -- The places below one, of those that are kept among all.
@@ -179,7 +178,7 @@ record IsKnown (ls : List (Located Numbered)) (symbols : List Symbol) (summary :
   says : bad_members (statements ls) ≡ [] → line_warnings_in symbols summary prompted l.statement ≡ line_warnings (statements ls) i l.statement
 
 module _ (names : List (List ℕ)) (ls : List (Located Numbered)) (symbols : List Symbol) (below : AreBelow (length symbols) (statements ls))
-    (are : AreSymbols (statements ls) symbols) where
+    (are : AreTyped (statements ls) symbols) where
   types : type_by symbols ≡ type_of (statements ls)
   types = types_known (statements ls) symbols below are
 
@@ -248,7 +247,7 @@ taken_pass p [] = All-nil (λ x. p x ≡ true)
 taken_pass p (x ∷ xs) = all_pass p (p x) x xs refl (taken_pass p xs)
 
 module _ (names : List (List ℕ)) (ls : List (Located Numbered)) (symbols : List Symbol) (below : AreBelow (length symbols) (statements ls))
-    (are : AreSymbols (statements ls) symbols) (summary : EntrySummary) where
+    (are : AreTyped (statements ls) symbols) (summary : EntrySummary) where
   -- an attribute: whether a definition is the first, and in which choice it stands, does not count
   attribute_known : (prompted : Bool) (i : ℕ) (l : Located Numbered) → slice_get ls i ≡ Some l → is_attribute l.statement ≡ true →
       menu_entry_before (statements ls) i ≡ summary.entry → prompted ≡ prompt_before (statements ls) i →

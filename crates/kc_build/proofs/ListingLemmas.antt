@@ -10,11 +10,11 @@ use Rattle.kc_read.specs.declared.expansion.Expansion.{Expansion}
 use Rattle.std.proofs.lemmas.List.{length-map}
 use Rattle.kc_language.specs.Text.{most_lines}
 use Rattle.kc_language.specs.Expansion.{modules_of, Files, Expands, ReadSoFar, mentioned_names}
-use Rattle.kc_read.specs.PartsOfExpansion.{defined as defined_names, located_numbered, number_line}
+use Rattle.kc_entries.specs.PartsOfExpansion.{defined as defined_names, located_numbered, number_line}
 use Rattle.kc_read.specs.Expanded.{IsExpansion}
 use Rattle.kc_language.specs.Statements.{statements}
 use Rattle.kc_read.proofs.NameLemmas.{extends_none}
-use Rattle.kc_read.specs.Entries.{lines_in}
+use Rattle.kc_entries.specs.Entries.{lines_in}
 use Rattle.kc_read.proofs.FewLemmas.{expansion_few}
 use Rattle.kc_build.specs.declared.listing.Listing.{Listing}
 use Rattle.kc_build.specs.Listings.{IsListing}

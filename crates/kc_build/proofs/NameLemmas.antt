@@ -2,9 +2,9 @@
 use Rattle.std.proofs.Common.{◌≡◌, ℕ, List, Result, Ok, Err}
 use Rattle.kc_language.specs.Expansion.{Expands, ReadSoFar, Refused, Files}
 use Rattle.kc_language.specs.Statements.{statements}
-use Rattle.kc_tree.specs.TreeFacts.{IsWellFormed}
+use Rattle.kc_entries.specs.WellFormed.{IsWellFormed}
 use Rattle.kc_language.specs.Symbols.{TreeFacts}
-use Rattle.kc_read.specs.PartsOfSymbols.{tree_of_log}
+use Rattle.kc_entries.specs.PartsOfSymbols.{tree_of_log}
 use Rattle.kc_build.specs.Trees.{TreesAreWellFormed}
 use Rattle.kc_build.proofs.BuildLemmas.{whole-formed}
 use Rattle.kc_read.proofs.DefinedLemmas.{expanded_known}

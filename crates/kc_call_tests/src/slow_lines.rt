@@ -77,7 +77,7 @@ fn symbol_line(
     let Some(symbol) = table.tree.facts(id) else {
         return Ok(());
     };
-    let shown = visibility(table, symbol);
+    let shown = visibility(table, id, symbol);
     let report = SymbolReport {
         name: name(table.tree, id),
         value: text_of(table, id),

@@ -1,7 +1,7 @@
 //! Reading a `.config`, values, and the three files.
 ghost use Rattle.std.specs.Prelude.{◌≡◌};
 ghost use Rattle.kc_language.specs.ConfigFile.{ArePlacesOf};
-ghost use Rattle.kc_solve.specs.Graphs.{IsGraphOf};
+ghost use Rattle.kc_solve.specs.Orders.{IsOrderOf};
 
 use crate::end::{CallEnd, done, refused};
 use crate::trees::TreeCall;
@@ -246,7 +246,7 @@ fn end_in_order(
     prefix: &Prefix,
     work: Work,
 ) -> Result<CallEnd, AllocError>
-    requires order { IsGraphOf laid.now order.now }
+    requires order { IsOrderOf laid.now order.now }
     requires user { ArePlacesOf laid.now.tree.now user.now }
 {
     match (solve(alloc, laid, order, user), work) {

@@ -13,11 +13,10 @@ use Rattle.kc_language.specs.declared.expressions.SymId.{SymId}
 use Rattle.kc_language.specs.declared.expressions.SymbolType.TheVariants.{Undefined}
 use Rattle.kc_language.specs.declared.expressions.Tri.{Tri}
 use Rattle.kc_language.specs.declared.expressions.Tri.TheVariants.{N, M, Y}
-use Rattle.kc_language.specs.Expansion.{Files, numbered_lines}
+use Rattle.kc_language.specs.Expansion.{Files}
 use Rattle.kc_language.specs.Explanations.{explanation_text}
-use Rattle.kc_language.specs.Statements.{Located, Numbered}
 use Rattle.kc_language.specs.Symbols.{SymbolFacts, TreeFacts, Warning}
-use Rattle.kc_tree.specs.TreeFacts.{IsWellFormed}
+use Rattle.kc_entries.specs.WellFormed.{IsWellFormed}
 use Rattle.kc_build.specs.Trees.{TreesAreWellFormed}
 use Rattle.kc_language.specs.Values.{GivenValue, GivenTruth, GivenText, Member, SymbolPlace, same_given, same_tri, given_of, facts, name, type_in}
 use Rattle.kc_language.specs.{ConfigFile.{ArePlacesOf, Assigns, Effect, Line, Notation, Places, Silent, StreamLocation, UserInput, Warns, change_text, effect, input_after, is_reported, is_within, lines_of, line_meaning, place_at, plain_line, plain_location, reading, stream_location, warning, located_warning_line, warnings}}
@@ -29,8 +28,9 @@ use Rattle.kc_language.specs.declared.diagnostics.Warning.TheVariants.{SetAgain}
 use Rattle.kc_config_file.specs.ReadingLaws.{LinesGiveInTurn, LinesInTurn}
 use Rattle.kc_conf.specs.Laws.{DoneAreWhole, HoldsLine, IsAccountedFor, IsSetAgain, NothingIsLost, RefusesNothing}
 use Rattle.kc_conf.specs.PartsOfLaws.{IsKeptOrWarned, LeavesAlone}
-use Rattle.kc_language.specs.Outcome.{Options, lead, Outcome, lines_text, lost_text, lost_warnings, input_names, reported, read_of, root_file, streams, warned_files, with_rule}
+use Rattle.kc_language.specs.Outcome.{Options, lead, Outcome, done_outcome, lines_text, lost_text, lost_warnings, input_names, reported, read_of, root_file, streams, wants}
 use Rattle.kc_language.specs.Outcome.{fresh_input}
+use Rattle.kc_language.specs.declared.outcome.Output.{Output}
 use Rattle.kc_conf.specs.Computed.{explanation_lead}
 use Rattle.kc_conf.specs.Faults.{AreLines}
 use Rattle.kc_conf.proofs.{EffectLemmas.{all_reported, assigned_typed, effect_is, silent_says}, RerunLemmas.{has_its_texts}}
@@ -327,24 +327,24 @@ module _ (files : Files) (options : Options) (all : List (List ℕ)) (tree : Tre
   abbrev last_lines : List (Option StreamLocation)
   last_lines = (input_after tree prefix empty lines).lines
 
-  module _ (formed : IsWellFormed tree) (turn : LinesInTurn tree prefix) (asked : options.warn_lost ≡ true) (outcome : Outcome) (opened : List (List ℕ)) (tree_lines : List (Located Numbered)) (is : outcome ≡ with_rule options opened
-      (reported (lines_text tree.warnings) (reported (read_of options tree all).warned (warned_files files options tree tree_lines (read_of options tree all).input solution)))) where
+  module _ (formed : IsWellFormed tree) (turn : LinesInTurn tree prefix) (asked : options.warn_lost ≡ true) (outcome : Outcome) (opened : List (List ℕ)) (is : outcome ≡ reported (lines_text tree.warnings)
+      (reported (read_of options tree all).warned (done_outcome files options opened (read_of options tree all).input solution))) where
     abbrev last : UserInput
     last = input_after tree prefix empty lines
 
-    diagnostics_are : outcome.warned ≡ lines_text tree.warnings ++ (warnings tree prefix empty lines ++ (lines_text (map (λ line. lead options ++ line) (value_warnings solution)) ++ lost_text options tree_lines last solution))
+    diagnostics_are : outcome.warned ≡ lines_text tree.warnings ++ (warnings tree prefix empty lines ++ (lines_text (map (λ line. lead options ++ line) (value_warnings solution)) ++ lost_text options last solution))
     diagnostics_are =
         ap (λ (o : Outcome). o.warned) is
-        ∙ ap (λ w. lines_text tree.warnings ++ (w ++ (lines_text (map (λ line. lead options ++ line) (value_warnings solution)) ++ lost_text options tree_lines (read_of options tree all).input solution))) warned_are
-        ∙ ap (λ (i : UserInput). lines_text tree.warnings ++ (warnings tree prefix empty lines ++ (lines_text (map (λ line. lead options ++ line) (value_warnings solution)) ++ lost_text options tree_lines i solution))) input_is
+        ∙ ap (λ w. lines_text tree.warnings ++ (w ++ (lines_text (map (λ line. lead options ++ line) (value_warnings solution)) ++ lost_text options (read_of options tree all).input solution))) warned_are
+        ∙ ap (λ (i : UserInput). lines_text tree.warnings ++ (warnings tree prefix empty lines ++ (lines_text (map (λ line. lead options ++ line) (value_warnings solution)) ++ lost_text options i solution))) input_is
 
     -- what is warned of as the streams are read stands in the notes, and so does what is lost
     of_streams : (part : List ℕ) → StandsIn part (warnings tree prefix empty lines) → StandsIn part outcome.warned
     of_streams part stands =
         subst (StandsIn part) (sym diagnostics_are)
-        (stands_after (lines_text tree.warnings) part _ (tree.warnings, refl) (stands_before (lines_text (map (λ line. lead options ++ line) (value_warnings solution)) ++ lost_text options tree_lines last solution) part _ stands))
+        (stands_after (lines_text tree.warnings) part _ (tree.warnings, refl) (stands_before (lines_text (map (λ line. lead options ++ line) (value_warnings solution)) ++ lost_text options last solution) part _ stands))
 
-    of_lost : (part : List ℕ) → StandsIn part (lost_text options tree_lines last solution) → StandsIn part outcome.warned
+    of_lost : (part : List ℕ) → StandsIn part (lost_text options last solution) → StandsIn part outcome.warned
     of_lost part stands =
         subst (StandsIn part) (sym diagnostics_are)
         (stands_after (lines_text tree.warnings) part _ (tree.warnings, refl)
@@ -381,7 +381,7 @@ module _ (files : Files) (options : Options) (all : List (List ℕ)) (tree : Tre
       line_counts : length (input_after tree prefix empty before).lines ≡ length tree.symbols
       line_counts =
           turn.counts.lines empty before
-          ∙ ap (λ b. length (if b || is_some options.explanation then replicate (length tree.symbols) no_line else [])) asked
+          ∙ ap (λ b. length (if b || wants options Output.Explanation then replicate (length tree.symbols) no_line else [])) asked
           ∙ length-replicate (length tree.symbols) no_line
 
       line_below : s.0 < length (input_after tree prefix empty before).lines
@@ -397,7 +397,7 @@ module _ (files : Files) (options : Options) (all : List (List ℕ)) (tree : Tre
       line_told_of t = lost_line prefix.is_raw (has_prompt f.prompts) (stream_location l) (name t s) f.symbol_type given (given_of (known solution s)) ++ codes "\n"
 
       abbrev explained : SymId → List ℕ
-      explained x = explanation_text tree_lines solution last prefix.is_raw (explanation_lead options) 1 x
+      explained x = explanation_text solution.tree.lines solution last prefix.is_raw (explanation_lead options) 1 x
 
       abbrev text_by : Bool → List ℕ
       text_by b = if b then flat_map (λ x. flat_map (λ line. line ++ codes "\n" ++ explained x) (lost_at prefix.is_raw last_lines solution x)) solution.tree.defined
@@ -406,7 +406,7 @@ module _ (files : Files) (options : Options) (all : List (List ℕ)) (tree : Tre
       heard_in : (b : Bool) → (options.explain_lost && options.warn_lost) ≡ b → StandsIn (line_told_of solution.tree) (text_by b) → IsKeptOrWarned prefix.is_raw tree solution outcome.warned l s f given
       heard_in b e told =
           inr (of_lost (line_told_of tree)
-          (subst (λ (t : TreeFacts). StandsIn (line_told_of t) (lost_text options tree_lines last solution)) is_whole.solution_is.tree_is
+          (subst (λ (t : TreeFacts). StandsIn (line_told_of t) (lost_text options last solution)) is_whole.solution_is.tree_is
           (subst (λ c. StandsIn (line_told_of solution.tree) (text_by c)) (sym e) told)))
 
       kept : Has (input_after tree prefix here later) s.0 given (stream_location l) → IsKeptOrWarned prefix.is_raw tree solution outcome.warned l s f given
@@ -427,7 +427,7 @@ module _ (files : Files) (options : Options) (all : List (List ℕ)) (tree : Tre
           by : (b : Bool) → (options.explain_lost && options.warn_lost) ≡ b → IsKeptOrWarned prefix.is_raw tree solution outcome.warned l s f given
           by true e = elim (kept_or_explained prefix.is_raw last_lines solution s f given (stream_location l) (subst (λ (t : TreeFacts). facts t s ≡ Some f) (sym is_whole.solution_is.tree_is) defined)
               (subst (λ (t : TreeFacts). Contains t.defined s) (sym is_whole.solution_is.tree_is) (formed.typed_defined s f defined typed)) there by_line
-              explained (AreLines-explanation prefix.is_raw tree_lines last solution (explanation_lead options) 1)) [
+              explained (AreLines-explanation prefix.is_raw last solution (explanation_lead options) 1)) [
                 | inl same ↦ inl same
                 | inr told ↦ heard_in true e told
               ]
@@ -504,11 +504,10 @@ module _ (files : Files) (options : Options) (all : List (List ℕ)) (tree : Tre
 
 pub nothing_lost : TreesAreWellFormed → DoneAreWhole → LinesGiveInTurn → NothingIsLost
 nothing_lost trees wholes turns files options all outcome is_outcome done asked =
-    let (tree, solution, is_whole, (opened, are, log, expands, is), passed) = wholes files options all outcome is_outcome done in (
+    let (tree, solution, is_whole, (opened, are, is), passed) = wholes files options all outcome is_outcome done in (
       tree,
       solution,
       is_whole,
-      has_its_texts files options all outcome tree solution opened log is,
-      each_accounted_for files options all tree solution is_whole (trees files (root_file options) tree is_whole.accepted.built) (turns tree options.prefix) asked outcome opened
-          (numbered_lines log.lines) is,
+      has_its_texts files options all outcome tree solution opened is_whole.solution_is.tree_is is,
+      each_accounted_for files options all tree solution is_whole (trees files (root_file options) tree is_whole.accepted.built) (turns tree options.prefix) asked outcome opened is,
     )

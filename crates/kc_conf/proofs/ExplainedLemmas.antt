@@ -15,7 +15,10 @@ use Rattle.kc_conf.proofs.PartLemmas.{AreLines-append, AreLines-each}
 pub one_line : (text : List ℕ) → AreLines (text ++ codes "\n")
 one_line text = (text ∷ [], sym (append-nil (text ++ codes "\n")))
 
-module _ (is_raw : Bool) (lines : List (Located Numbered)) (input : UserInput) (solution : Solution) where
+module _ (is_raw : Bool) (input : UserInput) (solution : Solution) where
+  abbrev lines : List (Located Numbered)
+  lines = solution.tree.lines
+
   pub AreLines-explanation : (lead : List ℕ) (n : ℕ) (s : SymId) → AreLines (explanation_text lines solution input is_raw lead n s)
   AreLines-explanation lead n s =
       let others = drop 1 (reached lines solution n (s ∷ []) (s ∷ [])) in
@@ -40,5 +43,5 @@ module _ (is_raw : Bool) (lines : List (Located Numbered)) (input : UserInput) (
     lost_by true told = AreLines-explained solution.tree.defined
     lost_by false told = (told, refl)
 
-pub AreLines-lost : (options : Options) (lines : List (Located Numbered)) (input : UserInput) (solution : Solution) → AreLines (lost_text options lines input solution)
-AreLines-lost options lines input solution = lost_by options.prefix.is_raw lines input solution (explanation_lead options) (options.explain_lost && options.warn_lost) (lost_warnings options input solution)
+pub AreLines-lost : (options : Options) (input : UserInput) (solution : Solution) → AreLines (lost_text options input solution)
+AreLines-lost options input solution = lost_by options.prefix.is_raw input solution (explanation_lead options) (options.explain_lost && options.warn_lost) (lost_warnings options input solution)

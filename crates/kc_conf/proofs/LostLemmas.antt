@@ -45,7 +45,7 @@ module _ (is_raw : Bool) (rows : RowsTellFacts) (lines : List (Option StreamLoca
   lost-nowhere e = line None e
 
   -- else the line of what was given and what it is
-  pub lost-line : (row : Symbol) → Some row ≡ slice_get l.symbols.items i.0 → (b : Bool) → b ≡ has_prompt (facts_of l 0 row).prompts →
+  pub lost-line : (row : Symbol) → Some row ≡ slice_get l.symbols.items i.0 → (b : Bool) → b ≡ has_prompt (facts_of l i.0 row).prompts →
       (called : List ℕ) (at : Option StreamLocation) (places : Places) (given : Option GivenValue) (value : GivenValue) → called ≡ name tree i → at ≡ slice_index_or lines i.0 None → places ≡ s.places → given ≡ place_at places (SymbolPlace i.0) →
       value ≡ given_of (known s i) → lost_by is_raw b called row.symbol_type at given value ≡ lost_at is_raw lines s i
   lost-line row e b is called at places given value called_is at_is places_are given_is value_is =

@@ -2,7 +2,7 @@
 use Rattle.std.proofs.Common.{◌≡◌, inl, inr, ℕ, suc, ◌+◌, ◌-◌, ◌<◌, ◌≤◌, Bool, true, false, not, List, [], ◌++◌, refl, sym, ap, subst, ◌∙◌, None, Some, Result, Ok, Err, arith}
 use Rattle.std.specs.Prelude.{◌||◌}
 use Rattle.std.proofs.lemmas.List.{append_cancel_left}
-use Rattle.kc_language.specs.Expansion.{AreOpened, Expands, Files, numbered_lines}
+use Rattle.kc_language.specs.Expansion.{AreOpened, Files}
 use Rattle.kc_language.specs.Symbols.{TreeFacts}
 use Rattle.kc_io.specs.Log.{Log, Leads, failed, reported as io_reported, said}
 use Rattle.kc_io.specs.Delivery.{NamedText}
@@ -10,7 +10,7 @@ use Rattle.kc_io.specs.declared.device.Action.{Action}
 use Rattle.kc_io.specs.declared.device.Action.TheVariants.{Report}
 use Rattle.kc_io.proofs.LogLemmas.{leads_both, leads_nothing}
 use Rattle.kc_conf.specs.Accepted.{IsAcceptedOf, IsOrderedOf}
-use Rattle.kc_language.specs.Outcome.{Options, lead, IsAcceptedTree, IsLenientOutcome, IsOutcome, Outcome, accepted_tree, is_not_empty, lines_text, reported, refused_outcome, refused_name, refused_tree, root_file, strictly, unknown_name, unknown_symbol, with_rule}
+use Rattle.kc_language.specs.Outcome.{Options, lead, IsAcceptedTree, IsLenientOutcome, IsOutcome, Outcome, accepted_tree, is_not_empty, lines_text, reported, refused_outcome, refused_name, refused_tree, root_file, strictly, unknown_name, unknown_symbol}
 use Rattle.kc_conf.specs.PartsOfOutcome.{name_refusal}
 use Rattle.std.specs.Option.{option_or}
 use Rattle.kc_conf.specs.LawSteps.{OneAnswer, OneOutcome}
@@ -34,7 +34,7 @@ use Rattle.kc_conf.specs.declared.stop.Stop.TheVariants.{OutOfMemory, Failed}
 use Rattle.kc_conf.proofs.HeldLemmas.{AreHeld-sources}
 use Rattle.kc_conf.proofs.GivenLemmas.{AreInputs-later, inputs-exist}
 use Rattle.kc_conf.proofs.Once.{one_opened}
-use Rattle.kc_conf.proofs.OutcomeLemmas.{strictly-reported, with_rule-reported}
+use Rattle.kc_conf.proofs.OutcomeLemmas.{strictly-reported}
 use Rattle.kc_conf.proofs.PartLemmas.{AreLines-nothing}
 use Rattle.kc_conf.proofs.PartOutcomes.{texts-none}
 use Rattle.kc_conf.proofs.RefusedNames.{lenient_refusal, refused_with}
@@ -93,16 +93,14 @@ module _ (law : OneAnswer) (files : Files) (tree : TreeFacts) (options : Options
           of_name asked
           (ap (λ u. option_or u (unknown_name options tree)) read ∙ ap (unknown_name options) (sym same) ∙ unknown)
           (lenient, opened, unknown_symbol other asked second read unknown e, are, is)
-      go (accepted_tree other log second expands read known (rest, of_reading, e)) =
+      go (accepted_tree other second read known (rest, of_reading, e)) =
           let same : other ≡ tree = law.one_accepted files (root_file options) other tree second accepted in
           let warnings : List ℕ = lines_text tree.warnings in
           let after : lenient ≡ reported warnings rest = e ∙ ap (λ (t : TreeFacts). reported (lines_text t.warnings) rest) same in
-          let part : Outcome = with_rule options opened (strictly_after options (is_not_empty warnings) rest) in
+          let part : Outcome = strictly_after options (is_not_empty warnings) rest in
           let whole : outcome ≡ reported warnings part =
-          is ∙ ap (λ o. with_rule options opened (strictly options o)) after
-          ∙ ap (with_rule options opened) (sym (strictly-reported options warnings rest))
-          ∙ sym (with_rule-reported options opened warnings (strictly_after options (is_not_empty warnings) rest)) in
-          let here : IsOutcome files options all outcome = (lenient, opened, accepted_tree other log second expands read known (rest, of_reading, e), are, is) in
+          is ∙ ap (strictly options) after ∙ sym (strictly-reported options warnings rest) in
+          let here : IsOutcome files options all outcome = (lenient, opened, accepted_tree other second read known (rest, of_reading, e), are, is) in
           let taken : refused_name_of options opened tree ≡ None = ap (λ u. option_or u (unknown_name options tree)) read ∙ ap (unknown_name options) (sym same) ∙ known in
           (part, part_of_rest opened part are taken (subst (λ o. IsOutcome files options all o) whole here), inl whole)
 
@@ -277,13 +275,8 @@ pub IsAcceptedOf-rooted : (files : Files) (root : List ℕ) (keeps : Bool) (are_
     KeepsFor are_options keeps → AreRootedAt root are_options → (i : ℕ) (options : Options) → are_options i options → IsAcceptedOf files options accepted
 IsAcceptedOf-rooted files root keeps are_options accepted of keeps_for rooted i options is =
     let e = sym (rooted i options is) in
-    let (log, expands, held) = of.sources in
     record {
       tree = subst (λ r. IsAcceptedTree files r accepted.laid.tree.now) e of.tree;
       opened = subst (λ r. AreOpened files r accepted.opened.now) e of.opened;
-      sources = (
-        log,
-        subst (λ r. Expands files r (Ok log)) e expands,
-        AreHeld-sources files (numbered_lines log.lines) keeps options accepted.sources (keeps_for i options is) held,
-      );
+      sources = AreHeld-sources files keeps options accepted.files (keeps_for i options is) of.held;
     }

@@ -36,7 +36,7 @@ use Rattle.kc_conf.specs.declared.stop.Stop.{Stop}
 use Rattle.kc_conf.specs.declared.stop.Stop.TheVariants.{OutOfMemory, Failed}
 use Rattle.kc_conf.proofs.EndingLemmas.{beyond-nothing, cleared-report, delivers-same, stale-same}
 use Rattle.kc_conf.proofs.GivenLemmas.{AreInputs-before, AreInputs-later, AreReads-before, AreReads-later, ReadsUpTo-before, ReadsUpTo-later, first-of-reads, inputs-exist, keeps-are_reads}
-use Rattle.kc_conf.proofs.OutcomeLemmas.{diagnostics-reported, rule-warned, warned_if}
+use Rattle.kc_conf.proofs.OutcomeLemmas.{diagnostics-reported, warned_if}
 use Rattle.kc_conf.proofs.PartLemmas.{AreLines-append, AreLines-nothing}
 use Rattle.kc_conf.proofs.PartOutcomes.{both-taken, texts-none}
 use Rattle.kc_conf.proofs.RefusedNames.{lenient_refusal, refused_with}
@@ -295,7 +295,7 @@ module _ (law : OneAnswer) (outcomes : ExactlyOneOutcome) (files : Files) (optio
   begins-told : (all : List (List ℕ)) (outcome : Outcome) → IsOutcome files options all outcome → BeginsWith outcome.warned (lines_text tree.warnings)
   begins-told all outcome (lenient, opened, is_lenient, are, is) =
       let (rest, begins) = go is_lenient in
-      (rest, ap (λ (o : Outcome). o.warned) is ∙ rule-warned options opened (strictly options lenient) ∙ warned_if options lenient (is_done lenient.status && (options.strict_tree && is_not_empty lenient.warned)) ∙ begins)
+      (rest, ap (λ (o : Outcome). o.warned) is ∙ warned_if options lenient (is_done lenient.status && (options.strict_tree && is_not_empty lenient.warned)) ∙ begins)
     where
       go : IsLenientOutcome files options opened all lenient → BeginsWith lenient.warned (lines_text tree.warnings)
       go (refused_tree r refuses e) = absurd (law.not_both files (root_file options) r tree refuses accepted)
@@ -305,7 +305,7 @@ module _ (law : OneAnswer) (outcomes : ExactlyOneOutcome) (files : Files) (optio
       go (unknown_symbol other asked second read unknown e) =
           let names = both-taken (unreadable_name options opened) (unknown_name options other) (named other opened second are) in
           absurd (let clash : Some asked ≡ None = sym unknown ∙ names.1 in cc)
-      go (accepted_tree other log second expands read known (rest, of_reading, e)) =
+      go (accepted_tree other second read known (rest, of_reading, e)) =
           let same : other ≡ tree = law.one_accepted files (root_file options) other tree second accepted in
           (rest.warned, ap (λ (o : Outcome). o.warned) e ∙ ap (λ (t : TreeFacts). lines_text t.warnings ++ rest.warned) same)
 

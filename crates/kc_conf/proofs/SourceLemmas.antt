@@ -1,17 +1,18 @@
 -- Over files that hold the same for the lines of a tree, the list of new symbols with help is the same.
 use Rattle.std.proofs.Common.{◌≡◌, ℕ, zero, suc, List, [], ◌∷◌, ◌++◌, codes, Option, refl, sym, ap, ◌∙◌, decimal}
 use Rattle.std.specs.List.{flat_map}
-use Rattle.std.specs.Prelude.{All, if◌then◌else◌, option_map, slice_get}
+use Rattle.std.specs.Prelude.{All, if◌then◌else◌, map, slice_get}
 use Rattle.std.proofs.lemmas.List.Elements.{All-head, All-map, All-tail}
 use Rattle.kc_language.specs.ConfigFile.{Notation, UserInput}
 use Rattle.kc_language.specs.Expansion.{Files, ReadSoFar, mentioned_names, numbered_lines}
 use Rattle.kc_language.specs.Expressions.{number_of}
 use Rattle.kc_language.specs.Explanations.{definition_comments, excerpt, new_text_with_help}
-use Rattle.kc_language.specs.Outcome.{Options, Outcome, warned_files}
+use Rattle.kc_language.specs.Outcome.{Options, done_outcome, text_of}
 use Rattle.kc_language.specs.Statements.{Located, Named, Numbered, numbered, statements}
 use Rattle.kc_language.specs.Symbols.{TreeFacts, definitions_of, listed}
 use Rattle.kc_language.specs.Texts.{Solution, SolutionView, new_text, solution_view, symbol_new}
 use Rattle.kc_language.specs.declared.expressions.SymId.{SymId}
+use Rattle.kc_language.specs.declared.outcome.Output.{Output}
 
 each_same : {X Y : Type 0} (f g : X → List Y) (xs : List X) → ((x : X) → f x ≡ g x) → flat_map f xs ≡ flat_map g xs
 each_same f g [] same = refl
@@ -48,12 +49,15 @@ module _ (files others : Files) where
         each_same _ _ tree.defined
         (λ s. ap (λ t. if view.is_new s then t ++ symbol_new tree prefix view s ++ codes "\n" else []) (comments_same s))
 
-    pub warned_files-same : (options : Options) (tree : TreeFacts) (input : UserInput) (solution : Solution) →
-        warned_files files options tree lines input solution ≡ warned_files others options tree lines input solution
-    warned_files-same options tree input solution =
-        ap (λ (text : List ℕ). let o : Outcome = record (warned_files files options tree lines input solution)
-        { list_new = option_map (λ file. if options.with_help then text else new_text tree options.prefix (solution_view solution)) options.list_new } in o)
-        (help_same tree options.prefix (solution_view solution))
+  module _ (options : Options) (opened : List (List ℕ)) (input : UserInput) (solution : Solution) (same : All Same solution.tree.lines) where
+    text_same : (kind : Output) → text_of files options opened input solution kind ≡ text_of others options opened input solution kind
+    text_same Output.NewSymbols =
+        ap (λ (text : List ℕ). if options.with_help then text else new_text solution.tree options.prefix (solution_view solution))
+        (help_same solution.tree.lines same solution.tree options.prefix (solution_view solution))
+    text_same _ = refl
+
+    pub done_outcome-same : done_outcome files options opened input solution ≡ done_outcome others options opened input solution
+    done_outcome-same = λ i. record (done_outcome files options opened input solution) { texts = map (λ wanted. text_same wanted.kind i) options.outputs.items }
 
 -- the files of the lines of a log hold the same
 pub lines-same : (files others : Files) (log : ReadSoFar) → All (λ (l : Located Named). others.bytes l.file ≡ files.bytes l.file) log.lines → All (λ (l : Located Numbered). others.bytes l.file ≡ files.bytes l.file) (numbered_lines log.lines)

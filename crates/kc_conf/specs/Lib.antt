@@ -5,7 +5,6 @@ pub mod Endings
 pub mod Faults
 pub mod LawSteps
 pub mod Laws
-pub mod LostView
 pub mod Many
 pub mod PartRuns
 pub mod RefusedNames

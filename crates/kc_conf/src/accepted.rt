@@ -5,9 +5,8 @@ ghost use Rattle.kc_language.specs.Expansion.{AreOpened, Files};
 ghost use Rattle.kc_build.specs.Listings.{IsListingOf};
 ghost use Rattle.kc_conf.specs.Accepted.{IsReadingOf};
 
-use kc_build::{Listing, RootReading, built_tree, read_listing, tree_of};
+use kc_build::{Listing, RootReading, read_listing, tree_of};
 use kc_expr::names::Names;
-use kc_read::entries::Entries;
 use kc_read::file_map::FileMap;
 use kc_read::refusal::Refusal;
 use kc_solve::evaluation_order::EvaluationOrder;
@@ -15,38 +14,31 @@ use kc_tree::laid_tree::LaidTree;
 use kc_tree::tree::Tree;
 use std::alloc::Global;
 
-/// The sources of a tree: its lines, and the files of the run.
-#[derive(Drop)]
-pub(crate) struct TreeSources {
-    pub entries: Entries,
-    pub files: FileMap,
-}
-
-/// A tree that was read, the names of the files that it opens, and its sources, if kept.
+/// A tree that was read, the names of the files that it opens, and the files of the run, if kept.
 #[derive(Drop)]
 pub(crate) struct TreeReading {
     pub tree: Tree,
     pub opened: Names,
-    pub sources: Option<TreeSources>,
+    pub files: Option<FileMap>,
 }
 
-/// An accepted tree with an order of its symbols, the names of the files that it opens, and its sources, if kept.
+/// An accepted tree with an order of its symbols, the names of the files that it opens, and the files of the run, if kept.
 #[derive(Clone, Copy)]
 pub(crate) struct OrderedTree<'t> {
     pub laid: LaidTree<'t>,
     pub order: &'t EvaluationOrder,
     pub opened: &'t Names,
-    pub sources: Option<&'t TreeSources>,
+    pub files: Option<&'t FileMap>,
 }
 
-/// The tree that a run accepted, with the order that the run used, and its sources, if kept (our own).
+/// The tree that a run accepted, with the order that the run used, and the files of the run, if kept (our own).
 ///
 /// Freeing it takes time. A program that is about to exit can leak it instead.
 #[derive(Drop)]
 pub struct AcceptedTree {
     pub(crate) tree: Tree,
     pub(crate) order: EvaluationOrder,
-    pub(crate) sources: Option<TreeSources>,
+    pub(crate) files: Option<FileMap>,
 }
 
 impl AcceptedTree {
@@ -58,11 +50,11 @@ impl AcceptedTree {
     }
 }
 
-/// The sources of a tree, if kept.
-pub(crate) fn borrowed(sources: &Option<TreeSources>) -> Option<&TreeSources>
-    ensures { option_map (λ s. s.now) result ≡ sources.now }
+/// The files of the run, if kept.
+pub(crate) fn borrowed(files: &Option<FileMap>) -> Option<&FileMap>
+    ensures { option_map (λ map. map.now) result ≡ files.now }
 {
-    sources.as_ref()
+    files.as_ref()
 }
 
 // Builds the tree of a listing.
@@ -74,14 +66,14 @@ fn read_alone(alloc: Global, listing: Listing, opened: Names) -> Result<TreeRead
         Ok(tree) => Ok(TreeReading {
             tree,
             opened,
-            sources: None,
+            files: None,
         }),
         Err(refusal) => Err(refusal),
     }
 }
 
-// Builds the tree of a listing, and keeps its lines and these files.
-fn read_with_sources(
+// Builds the tree of a listing, and keeps these files.
+fn read_with_files(
     alloc: Global,
     listing: Listing,
     opened: Names,
@@ -90,20 +82,17 @@ fn read_with_sources(
     requires { (root : List ℕ) × IsListingOf (files_in files) root listing }
     ensures { (root : List ℕ) → IsListingOf (files_in files) root listing → AreOpened (files_in files) root opened → IsReadingOf (files_in files) root true result }
 {
-    match built_tree(alloc, listing) {
-        Ok(built) => Ok(TreeReading {
-            tree: built.tree,
+    match tree_of(alloc, listing) {
+        Ok(tree) => Ok(TreeReading {
+            tree,
             opened,
-            sources: Some(TreeSources {
-                entries: built.entries,
-                files,
-            }),
+            files: Some(files),
         }),
         Err(refusal) => Err(refusal),
     }
 }
 
-/// Reads the tree of these files. The files are freed before the tree is built, unless the sources are kept.
+/// Reads the tree of these files. The files are freed before the tree is built, unless they are kept.
 ///
 /// # Errors
 ///
@@ -121,7 +110,7 @@ pub(crate) fn read_tree(
         Err(refusal) => return Err(refusal),
     };
     if keeps {
-        return read_with_sources(alloc, listing, opened, files);
+        return read_with_files(alloc, listing, opened, files);
     }
     drop(files);
     read_alone(alloc, listing, opened)

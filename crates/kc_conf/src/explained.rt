@@ -6,11 +6,11 @@ ghost use Rattle.kc_language.specs.Symbols.{listed};
 ghost use Rattle.kc_language.specs.Texts as texts;
 ghost use Rattle.kc_language.specs.Outcome as rules;
 ghost use Rattle.kc_language.specs.Values.{name_count};
-ghost use Rattle.kc_conf.specs.Computed.{explanation_lead};
+ghost use Rattle.kc_conf.specs.Computed.{explained_at, explanation_lead, with_explanation};
 
 use crate::lost::lost_into;
 use kc_config_file::user_input::UserInput;
-use kc_explain::{Lines, add_explanation, asked_symbol};
+use kc_explain::{add_explanation, asked_symbol};
 use kc_expr::expression::SymId;
 use kc_options::{Options, lead};
 use kc_solve::solved::Solved;
@@ -20,20 +20,19 @@ use std::alloc::{AllocError, Global};
 fn add_asked(
     alloc: Global,
     options: &Options,
-    lines: &Lines<'_>,
     input: &UserInput<'_>,
     solved: &Solved<'_>,
     asked: &[u8],
     text: &mut Vec<u8>,
 ) -> Result<(), AllocError>
     ensures { OnOk result (text.new.items ≡ text.old.items
-        ++ flat_map (explanation_text lines.now solved.now input.now options.now.prefix.is_raw [] options.now.explain_depth)
+        ++ flat_map (explanation_text solved.now.tree.lines solved.now input.now options.now.prefix.is_raw [] options.now.explain_depth)
         (listed (asked_symbol solved.now.tree options.now.prefix.prefix asked.now))) }
 {
     match asked_symbol(solved.tree(), &options.prefix, asked) {
         Some(id) => add_explanation(
             alloc,
-            lines,
+            solved.tree().layout(),
             solved,
             input,
             options.prefix.is_raw(),
@@ -51,18 +50,16 @@ fn add_asked(
 pub(crate) fn explained_text(
     alloc: Global,
     options: &Options,
-    lines: &Lines<'_>,
     input: &UserInput<'_>,
     solved: &Solved<'_>,
 ) -> Result<Vec<u8>, AllocError>
-    ensures { IfOk result (λ text. text.items ≡ rules.explained_text options.now lines.now input.now solved.now) }
+    ensures { IfOk result (λ text. text.items ≡ rules.explained_text options.now input.now solved.now) }
 {
     let mut text = Vec::new(alloc);
     for asked in options.explain.iter() {
         add_asked(
             alloc,
             options,
-            lines,
             input,
             solved,
             asked.as_bytes(),
@@ -72,25 +69,33 @@ pub(crate) fn explained_text(
     Ok(text)
 }
 
+/// What lost values are told of: the user's input and its solution; whether strings have no escapes; and what each line of an
+/// explanation begins with.
+#[derive(Clone, Copy)]
+pub(crate) struct LostTeller<'t, 'i, 's> {
+    pub input: &'t UserInput<'i>,
+    pub solved: &'t Solved<'s>,
+    pub is_raw: bool,
+    pub front: &'t [u8],
+}
+
 // Adds these lines about a symbol, each followed by the explanation of the symbol.
 fn add_with_explanation(
     alloc: Global,
-    is_raw: bool,
-    lines: &Lines<'_>,
-    input: &UserInput<'_>,
-    solved: &Solved<'_>,
-    front: &[u8],
+    t: &LostTeller<'_, '_, '_>,
     id: SymId,
     told: &[Vec<u8>],
     text: &mut Vec<u8>,
 ) -> Result<(), AllocError>
-    ensures { OnOk result (text.new.items ≡ text.old.items
-        ++ flat_map (λ line. line ++ codes "\n" ++ explanation_text lines.now solved.now input.now is_raw front.now 1 id) (map (λ line. line.items) told.now)) }
+    ensures { OnOk result (text.new.items ≡ text.old.items ++ flat_map (with_explanation t.now id) (map (λ line. line.items) told.now)) }
 {
+    let layout = t.solved.tree().layout();
     for line in told {
         text.extend_from_slice(line)?;
         text.extend_from_slice(b"\n")?;
-        add_explanation(alloc, lines, solved, input, is_raw, front, 1, id, text)?;
+        add_explanation(
+            alloc, layout, t.solved, t.input, t.is_raw, t.front, 1, id, text,
+        )?;
     }
     Ok(())
 }
@@ -98,21 +103,17 @@ fn add_with_explanation(
 // Adds the line of a symbol's lost value, if it was lost, with the explanation of the symbol.
 fn add_lost_of(
     alloc: Global,
-    is_raw: bool,
-    lines: &Lines<'_>,
-    input: &UserInput<'_>,
-    solved: &Solved<'_>,
-    front: &[u8],
+    t: &LostTeller<'_, '_, '_>,
     id: SymId,
     text: &mut Vec<u8>,
 ) -> Result<(), AllocError>
-    requires { id.0 < name_count solved.now.tree }
+    requires { id.0 < name_count t.now.solved.now.tree }
     ensures { OnOk result (text.new.items ≡ text.old.items
-        ++ flat_map (λ line. line ++ codes "\n" ++ explanation_text lines.now solved.now input.now is_raw front.now 1 id) (texts.lost_at is_raw input.now.lines solved.now id)) }
+        ++ flat_map (with_explanation t.now id) (texts.lost_at t.now.is_raw t.now.input.now.lines t.now.solved.now id)) }
 {
     let mut told = Vec::new(alloc);
-    lost_into(alloc, is_raw, input, solved, id, &mut told)?;
-    add_with_explanation(alloc, is_raw, lines, input, solved, front, id, &told, text)
+    lost_into(alloc, t.is_raw, t.input, t.solved, id, &mut told)?;
+    add_with_explanation(alloc, t, id, &told, text)
 }
 
 /// Returns the start of each line of the explanation of a lost value: the name of the configuration, if it is reported,
@@ -127,33 +128,17 @@ pub(crate) fn explanation_lead(alloc: Global, options: &Options) -> Result<Vec<u
     Ok(front)
 }
 
-/// Adds the lines of all lost values, each with the explanation of its symbol, whose lines start with `front`. Fails
-/// only if there is not enough memory. With `is_raw` strings have no escapes.
+/// Adds the lines of all lost values, each with the explanation of its symbol. Fails only if there is not enough memory.
 pub(crate) fn add_explained_lost(
     alloc: Global,
-    is_raw: bool,
-    lines: &Lines<'_>,
-    input: &UserInput<'_>,
-    solved: &Solved<'_>,
-    front: &[u8],
+    t: &LostTeller<'_, '_, '_>,
     text: &mut Vec<u8>,
 ) -> Result<(), AllocError>
-    ensures { OnOk result (text.new.items ≡ text.old.items
-        ++ flat_map (λ s. flat_map (λ line. line ++ codes "\n" ++ explanation_text lines.now solved.now input.now is_raw front.now 1 s)
-        (texts.lost_at is_raw input.now.lines solved.now s)) solved.now.tree.defined) }
+    ensures { OnOk result (text.new.items ≡ text.old.items ++ flat_map (explained_at t.now) t.now.solved.now.tree.defined) }
 {
-    let tree = solved.tree();
+    let tree = t.solved.tree();
     for i in 0..tree.symbol_count() {
-        add_lost_of(
-            alloc,
-            is_raw,
-            lines,
-            input,
-            solved,
-            front,
-            tree.symbol(i),
-            text,
-        )?;
+        add_lost_of(alloc, t, tree.symbol(i), text)?;
     }
     Ok(())
 }

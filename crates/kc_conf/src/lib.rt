@@ -7,7 +7,7 @@
 //! - [`Stop`]: why a run stopped early. [`say_load_fault`] reports why files could not be loaded.
 //! - [`laws`]: laws of the outcomes of runs.
 //!
-//! From the crates below: [`Options`], [`Delivery`], [`Status`], [`FileMap`], [`Refusal`], [`Cause`].
+//! From the crates below: [`Options`], [`Output`], [`WantedOutput`], [`Delivery`], [`Status`], [`FileMap`], [`Refusal`], [`Cause`].
 
 mod accepted;
 mod compute;
@@ -24,7 +24,7 @@ mod stop;
 
 pub use accepted::AcceptedTree;
 pub use folder_run::{run_in_folder, say_load_fault};
-pub use kc_options::{Delivery, Options, Status};
+pub use kc_options::{Delivery, Options, Output, Status, WantedOutput};
 pub use kc_read::{Cause, FileMap, Refusal};
 pub use many::{Configurations, run_each};
 pub use runs::run;

@@ -1,19 +1,18 @@
 //! Lost values: user values that are not the values of their symbols.
-ghost use Rattle.std.specs.Prelude.{◌≡◌, ◌++◌, ◌<◌, if◌then◌else◌, length, map, IfOk, OnOk, option_map};
+ghost use Rattle.std.specs.Prelude.{◌≡◌, ◌++◌, ◌<◌, if◌then◌else◌, length, map, slice_get, Some, IfOk, OnOk, option_map};
 ghost use Rattle.kc_language.specs.Symbols.{located_warning};
 ghost use Rattle.kc_language.specs.declared.diagnostics.Warning.TheVariants.{Lost, LostWithoutPrompt};
 ghost use Rattle.kc_diagnostics.specs.Warnings.{shown_warning};
 ghost use Rattle.kc_expr.specs.Value.{value_by_type};
 ghost use Rattle.kc_language.specs.Texts.{known};
 ghost use Rattle.std.specs.Option.{option_and_then};
-ghost use Rattle.kc_tree.specs.Layouts.{definition_at, facts_of};
+ghost use Rattle.kc_tree.specs.Layouts.{facts_of};
 ghost use Rattle.kc_language.specs.Values.{SymbolPlace, given_of, name_count};
 ghost use Rattle.kc_language.specs.ConfigFile.{place_at};
 ghost use Rattle.kc_values.specs.User.{given_in};
 ghost use Rattle.kc_config_file.specs.ShownView.{given_by, location_of};
 ghost use Rattle.kc_language.specs.Texts as spec;
 ghost use Rattle.kc_conf.specs.PartsOfTexts as spec_parts;
-ghost use Rattle.kc_conf.specs.LostView.{is_prompted};
 ghost use Rattle.kc_language.specs.Outcome.{lost_warnings};
 
 use kc_config_file::shown::{InputLine, ShownValue, add_value, is_same, shown_given};
@@ -24,7 +23,7 @@ use kc_expr::values::Values;
 use kc_options::Options;
 use kc_solve::solved::Solved;
 use kc_tree::layout::Layout;
-use kc_tree::rows::{DefinitionId, Symbol};
+use kc_tree::rows::Symbol;
 use kc_user::user::User;
 use kc_user::value::UserValue;
 use kc_values::laws::rows_tell_facts;
@@ -75,41 +74,45 @@ fn line_of(alloc: Global, at: InputLine<'_>, warning: Warning<&[u8]>) -> Result<
     Ok(line)
 }
 
+// A symbol whose value is told: its name, its type, whether it has a prompt, and whether strings have no escapes.
+#[derive(Clone, Copy)]
+struct ToldSymbol<'n> {
+    name: &'n [u8],
+    symbol_type: SymbolType,
+    is_prompted: bool,
+    is_raw: bool,
+}
+
 // The line of a lost value.
 fn lost_line(
     alloc: Global,
-    is_raw: bool,
-    is_prompted: bool,
+    symbol: &ToldSymbol<'_>,
     at: InputLine<'_>,
-    name: &[u8],
-    symbol_type: SymbolType,
     given: ShownValue<'_>,
     value: ShownValue<'_>,
 ) -> Result<Vec<u8>, AllocError>
-    ensures { IfOk result (λ line. line.items ≡ spec_parts.lost_line is_raw is_prompted (location_of at.entry) name.now symbol_type (given_by given.entry) (given_by value.entry)) }
+    ensures { let s = symbol.now in
+        IfOk result (λ line. line.items ≡ spec_parts.lost_line s.is_raw s.is_prompted (location_of at.entry) s.name.now s.symbol_type (given_by given.entry) (given_by value.entry)) }
 {
     let mut given_text = Vec::new(alloc);
-    add_value(is_raw, symbol_type, given, &mut given_text)?;
+    add_value(symbol.is_raw, symbol.symbol_type, given, &mut given_text)?;
     let mut value_text = Vec::new(alloc);
-    add_value(is_raw, symbol_type, value, &mut value_text)?;
-    let warning = lost_warning(is_prompted, name, &given_text, &value_text);
+    add_value(symbol.is_raw, symbol.symbol_type, value, &mut value_text)?;
+    let warning = lost_warning(symbol.is_prompted, symbol.name, &given_text, &value_text);
     line_of(alloc, at, warning)
 }
 
 // Adds the line of a symbol's lost value, if it was lost.
 fn lost_by(
     alloc: Global,
-    is_raw: bool,
-    is_prompted: bool,
-    name: &[u8],
-    symbol_type: SymbolType,
+    symbol: &ToldSymbol<'_>,
     at: Option<InputLine<'_>>,
     given: Option<&UserValue>,
     value: ShownValue<'_>,
     lines: &mut Vec<Vec<u8>>,
 ) -> Result<(), AllocError>
-    ensures { OnOk result (map (λ l. l.items) lines.new.items ≡ map (λ l. l.items) lines.old.items
-        ++ spec.lost_by is_raw is_prompted name.now symbol_type (option_map location_of at.entry) (given_in given.entry) (given_by value.entry)) }
+    ensures { let s = symbol.now in OnOk result (map (λ l. l.items) lines.new.items ≡ map (λ l. l.items) lines.old.items
+        ++ spec.lost_by s.is_raw s.is_prompted s.name.now s.symbol_type (option_map location_of at.entry) (given_in given.entry) (given_by value.entry)) }
 {
     let Some(given) = given else {
         return Ok(());
@@ -121,41 +124,23 @@ fn lost_by(
     if is_same(given, value) {
         return Ok(());
     }
-    let line = lost_line(
-        alloc,
-        is_raw,
-        is_prompted,
-        at,
-        name,
-        symbol_type,
-        given,
-        value,
-    )?;
+    let line = lost_line(alloc, symbol, at, given, value)?;
     lines.push(line)?;
     Ok(())
 }
 
-// Whether a definition has a prompt.
-fn is_prompted(layout: &Layout, id: Option<DefinitionId>) -> bool
-    ensures { result ≡ is_prompted (option_and_then (definition_at layout.now.tables) id) }
-{
-    match id {
-        Some(id) => match layout.definition(id) {
-            Some(definition) => definition.prompt.is_some(),
-            None => false,
-        },
-        None => false,
-    }
-}
-
 // Whether a symbol has a prompt.
-fn has_prompt(layout: &Layout, symbol: &Symbol) -> bool
-    ensures { result ≡ spec.has_prompt (facts_of layout.now 0 symbol.now).prompts }
+fn has_prompt(layout: &Layout, id: SymId, symbol: &Symbol) -> bool
+    requires { slice_get layout.now.symbols.items id.0 ≡ Some symbol.now }
+    ensures { result ≡ spec.has_prompt (facts_of layout.now id.0 symbol.now).prompts }
 {
-    for i in 0..symbol.definition_count() {
-        if is_prompted(layout, symbol.definition(i)) {
+    let mut at = symbol.first;
+    'definitions: while at.is_some() {
+        let place = layout.place(at);
+        if place.prompt.is_some() {
             return true;
         }
+        at = place.next;
     }
     false
 }
@@ -187,21 +172,16 @@ pub(crate) fn lost_into(
     let Some(symbol) = layout.symbol(id) else {
         return Ok(());
     };
-    let is_prompted = has_prompt(layout, symbol);
+    let told = ToldSymbol {
+        name: name(tree, id),
+        symbol_type: symbol.symbol_type,
+        is_prompted: has_prompt(layout, id, symbol),
+        is_raw,
+    };
     let at = input.line(id);
     let given = given_at(solved.user(), id);
     let value = shown_value(solved, id);
-    lost_by(
-        alloc,
-        is_raw,
-        is_prompted,
-        name(tree, id),
-        symbol.symbol_type,
-        at,
-        given,
-        value,
-        lines,
-    )
+    lost_by(alloc, &told, at, given, value, lines)
 }
 
 // The lines of all defined symbols.

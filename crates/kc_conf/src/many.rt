@@ -12,7 +12,7 @@ ghost use Rattle.kc_language.specs.Outcome.{Options, IsAcceptedTree, IsRefusedTr
 ghost use Rattle.kc_conf.specs.PartRuns.{LeavesTurn, StopsLines};
 
 use crate::accepted::{AcceptedTree, OrderedTree, TreeReading, borrowed, read_tree};
-use crate::compute::names_listed;
+use crate::compute::names_if;
 use crate::diagnostics::{report, say_no_memory, say_refusal};
 use crate::laws::{exactly_one_outcome, one_answer};
 use crate::names::{refuse_name, refused_among};
@@ -67,21 +67,19 @@ fn run_part<'o, D: Device>(
     alloc: Global,
     options: &'o Options,
     accepted: &OrderedTree<'_>,
-    is_warned: bool,
     device: &mut D,
 ) -> Result<Status, Stop<'o>>
     requires ready { IsReady accepted.now }
-    requires warned { is_warned ≡ is_not_empty (lines_text accepted.now.laid.tree.now.warnings) }
     ensures { (files : Files) → IsAcceptedOf files options.now accepted.now → LeavesTurn files options.now accepted.now.laid.tree.now result (D.log device.old) (D.log device.new) }
 {
     one_answer();
     exactly_one_outcome();
-    let names = names_listed(alloc, options, accepted.opened)?;
+    let names = names_if(alloc, options, accepted.opened)?;
     let refused = refused_among(alloc, options, &names, accepted.laid.tree)?;
     if let Some(name) = refused {
         return refuse_name(options, &name, device);
     }
-    run_inputs(alloc, options, accepted, &names, is_warned, device)
+    run_inputs(alloc, options, accepted, &names, device)
 }
 
 // Whether a run that stopped early for this reason ends the runs for all configurations.
@@ -113,15 +111,13 @@ fn run_turn<D: Device>(
     alloc: Global,
     options: &Options,
     accepted: &OrderedTree<'_>,
-    is_warned: bool,
     device: &mut D,
 ) -> Turn
     requires ready { IsReady accepted.now }
-    requires warned { is_warned ≡ is_not_empty (lines_text accepted.now.laid.tree.now.warnings) }
     ensures { (files : Files) → IsAcceptedOf files options.now accepted.now →
         RunsTurn files accepted.now.laid.tree.now options.now (D.log device.old) (D.log device.new) result.status result.is_over }
 {
-    match run_part(alloc, options, accepted, is_warned, device) {
+    match run_part(alloc, options, accepted, device) {
         Ok(status) => Turn {
             status,
             is_over: false,
@@ -143,17 +139,15 @@ fn take_turn<C: Configurations, D: Device>(
     configurations: &C,
     i: usize,
     accepted: &OrderedTree<'_>,
-    is_warned: bool,
     device: &mut D,
 ) -> Turn
     requires within { i < C.number configurations.now }
     requires ready { IsReady accepted.now }
-    requires warned { is_warned ≡ is_not_empty (lines_text accepted.now.laid.tree.now.warnings) }
     ensures { (files : Files) → ((options : Options) → C.options configurations.now i options → IsAcceptedOf files options accepted.now) →
         TakesTurn (RunsTurn files accepted.now.laid.tree.now) (C.options configurations.now i) (D.log device.old) (D.log device.new) result.status result.is_over }
 {
     match configurations.options_of(alloc, i) {
-        Ok(options) => run_turn(alloc, &options, accepted, is_warned, device),
+        Ok(options) => run_turn(alloc, &options, accepted, device),
         Err(_) => {
             say_no_memory(device);
             Turn {
@@ -183,17 +177,15 @@ fn take_turns<C: Configurations, D: Device>(
     alloc: Global,
     configurations: &C,
     accepted: &OrderedTree<'_>,
-    is_warned: bool,
     device: &mut D,
 ) -> Status
     requires ready { IsReady accepted.now }
-    requires warned { is_warned ≡ is_not_empty (lines_text accepted.now.laid.tree.now.warnings) }
     ensures { (files : Files) → ((i : ℕ) (options : Options) → C.options configurations.now i options → IsAcceptedOf files options accepted.now) →
         TakeTurns (RunsTurn files accepted.now.laid.tree.now) (C.options configurations.now) 0 (C.number configurations.now) (D.log device.old) (D.log device.new) result }
 {
     let mut status = Status::Done;
     for i in 0..configurations.count() {
-        let turn = take_turn(alloc, configurations, i, accepted, is_warned, device);
+        let turn = take_turn(alloc, configurations, i, accepted, device);
         status = greater(status, turn.status);
         if turn.is_over {
             return status;
@@ -246,13 +238,7 @@ fn run_each_of<C: Configurations, D: Device>(
 {
     let warnings = accepted.laid.tree.parse_warnings();
     match say_tree(alloc, warnings, device) {
-        Ok(()) => take_turns(
-            alloc,
-            configurations,
-            accepted,
-            !warnings.is_empty(),
-            device,
-        ),
+        Ok(()) => take_turns(alloc, configurations, accepted, device),
         Err(stop) => end_unsaid(stop, device),
     }
 }
@@ -272,25 +258,25 @@ fn run_each_over<C: Configurations, D: Device>(
     let TreeReading {
         tree,
         opened,
-        sources,
+        files,
     } = read;
     let laid = tree.laid();
     let order = match EvaluationOrder::of(alloc, &laid) {
         Ok(order) => order,
         Err(refusal) => return refuse_all(&refusal, device),
     };
-    let lent = borrowed(&sources);
+    let lent = borrowed(&files);
     let accepted = OrderedTree {
         laid,
         order: &order,
         opened: &opened,
-        sources: lent,
+        files: lent,
     };
     let status = run_each_of(alloc, configurations, &accepted, device);
     *kept = Some(AcceptedTree {
         tree,
         order,
-        sources,
+        files,
     });
     status
 }

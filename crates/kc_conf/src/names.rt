@@ -1,9 +1,9 @@
 //! Refused names: names in the dependency file, and names to be explained.
 ghost use Rattle.std.specs.Prelude.{◌≡◌, ◌++◌, ℕ, List, [], option_map, IfOk};
-ghost use Rattle.kc_language.specs.Outcome.{lead, names_listed, unknown_name, unreadable_name};
+ghost use Rattle.kc_language.specs.Outcome.{lead, unknown_name, unreadable_name};
 ghost use Rattle.kc_language.specs.declared.outcome.Status.TheVariants.{Refused};
 ghost use Rattle.kc_conf.specs.Endings.{Ends};
-ghost use Rattle.kc_conf.specs.PartsOfOutcome.{name_refusal, unknown_line, unreadable_line};
+ghost use Rattle.kc_conf.specs.PartsOfOutcome.{name_refusal, names_if, unknown_line, unreadable_line};
 ghost use Rattle.kc_conf.specs.RefusedNames.{refused_line, unknown_near};
 
 use crate::diagnostics::{first_line, say_error};
@@ -27,8 +27,9 @@ pub(crate) enum RefusedName<'n> {
 }
 
 // The first name in the dependency file that make cannot read.
+#[tactic(auto, using(crate::proofs::RefusedNames::unread_is))]
 fn unreadable_among<'n>(options: &'n Options, names: &'n Option<Names>) -> Option<&'n [u8]>
-    ensures { (opened : List (List ℕ)) → names.now ≡ names_listed options.now opened → option_map (λ name. name.now) result ≡ unreadable_name options.now opened }
+    ensures { (opened : List (List ℕ)) → names.now ≡ names_if options.now opened → option_map (λ name. name.now) result ≡ unreadable_name options.now opened }
 {
     match names {
         Some(names) => unreadable_name(target(options).as_bytes(), names),
@@ -71,7 +72,7 @@ pub(crate) fn refused_among<'n>(
     names: &'n Option<Names>,
     tree: &Tree,
 ) -> Result<Option<RefusedName<'n>>, AllocError>
-    ensures { IfOk result (λ refused. (opened : List (List ℕ)) → names.now ≡ names_listed options.now opened →
+    ensures { IfOk result (λ refused. (opened : List (List ℕ)) → names.now ≡ names_if options.now opened →
         option_map refused_line refused ≡ name_refusal options.now opened tree.now) }
 {
     match unreadable_among(options, names) {

@@ -231,28 +231,37 @@ pub(crate) fn stream_names(alloc: Global, options: &Options) -> Result<Vec<Vec<u
     Ok(names)
 }
 
+/// What input files are read by: their names in diagnostics, the tree, and the notation of names and strings.
+#[derive(Clone, Copy)]
+pub(crate) struct Streams<'a> {
+    pub names: &'a [Vec<u8>],
+    pub tree: &'a Tree,
+    pub prefix: &'a Prefix,
+}
+
 /// Reads the input files one after another, each with a reader of its own, to the end of the last or to a line that is
 /// too long. The caller passes the input before all of them.
 pub(crate) fn read_inputs<'o, 'a, D: Device>(
     alloc: Global,
     options: &'o Options,
-    prefix: &'a Prefix,
-    names: &'a [Vec<u8>],
-    tree: &'a Tree,
+    streams: Streams<'a>,
     device: &mut D,
     user: &mut UserInput<'a>,
     waiting: &mut Waiting,
 ) -> Result<Option<LongLine<'a>>, Stop<'o>>
-    requires prefix { prefix.now ≡ options.now.prefix }
-    requires names { map (λ name. name.items) names.now ≡ input_names options.now }
-    requires user { user.old ≡ fresh_input options.now tree.now }
-    requires waiting { (waiting.old.text.items ≡ []) × (waiting.old.holds ≡ holds_warnings options.now) }
-    ensures ok { IfOk result (λ long. ReadsInputs options.now tree.now (option_map stop_of long) user.old user.new waiting.new (D.log device.old) (D.log device.new)) }
-    ensures err { IfErr result (λ stop. BreaksInputs options.now tree.now stop user.old (D.log device.old) (D.log device.new)) }
-    ensures holds { waiting.new.holds ≡ waiting.old.holds }
-    ensures places { ArePlacesOf tree.now user.new.places }
+    requires prefix { streams.prefix.now ≡ options.now.prefix }
+    requires names { map (λ name. name.items) streams.names.now ≡ input_names options.now }
+    requires fresh { (user.old ≡ fresh_input options.now streams.tree.now) × (waiting.old.text.items ≡ []) × (waiting.old.holds ≡ holds_warnings options.now) }
+    ensures ok { IfOk result (λ long. ReadsInputs options.now streams.entry.tree.now (option_map stop_of long) user.old user.new waiting.new (D.log device.old) (D.log device.new)) }
+    ensures err { IfErr result (λ stop. BreaksInputs options.now streams.entry.tree.now stop user.old (D.log device.old) (D.log device.new)) }
+    ensures kept { (waiting.new.holds ≡ waiting.old.holds) × ArePlacesOf streams.entry.tree.now user.new.places }
 {
     reading_goes_line_by_line();
+    let Streams {
+        names,
+        tree,
+        prefix,
+    } = streams;
     for i in 0..names.len() {
         let stream = names[i].as_slice();
         let mut reader = InputReader::new(alloc, tree, prefix, stream);

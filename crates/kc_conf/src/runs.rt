@@ -6,8 +6,8 @@ ghost use Rattle.kc_read.specs.RefusalView.{refusal_view};
 ghost use Rattle.kc_language.specs.declared.diagnostics.Cause.TheVariants.{Memory};
 ghost use Rattle.kc_io.specs.Delivered.{text_view};
 ghost use Rattle.kc_conf.specs.Accepted.{IsAcceptedOf, IsReadOf, IsReady};
-ghost use Rattle.kc_language.specs.Outcome.{Options, fresh_input, lead, refusal_line, root_file, is_not_empty, lines_text, names_listed};
-ghost use Rattle.kc_conf.specs.PartsOfOutcome.{too_long_line};
+ghost use Rattle.kc_language.specs.Outcome.{Options, fresh_input, lead, refusal_line, root_file, lines_text};
+ghost use Rattle.kc_conf.specs.PartsOfOutcome.{names_if, too_long_line};
 ghost use Rattle.kc_conf.specs.Faults.{AreLines};
 ghost use Rattle.kc_conf.specs.PartsOfOutcome.{strict_line};
 ghost use Rattle.kc_conf.specs.Faults.{Runs, refused_name_of};
@@ -17,17 +17,17 @@ ghost use Rattle.kc_conf.specs.PartRuns.{LeavesPart, LeavesRun, SaysLines};
 ghost use Rattle.kc_conf.specs.Reads.{stop_of};
 
 use crate::accepted::{AcceptedTree, OrderedTree, TreeReading, borrowed, read_tree};
-use crate::compute::{compute, names_listed};
+use crate::compute::{compute, names_if};
 use crate::diagnostics::{report, say_error, say_lines, say_long_line, say_parts, say_refusal};
 use crate::laws::{exactly_one_outcome, one_answer};
 use crate::names::{refuse_name, refused_among};
-use crate::reading::{LongLine, Waiting, read_inputs, stream_names};
+use crate::reading::{LongLine, Streams, Waiting, read_inputs, stream_names};
 use crate::stop::Stop;
 use kc_config_file::user_input::UserInput;
 use kc_diagnostics::{Cause, RunError};
 use kc_expr::names::Names;
 use kc_io::{Device, Manner, Text, deliver};
-use kc_options::{Delivery, Options, Status, holds_warnings, lead, wants_sources};
+use kc_options::{Delivery, Options, Output, Status, holds_warnings, lead, wants, wants_sources};
 use kc_read::file_map::FileMap;
 use kc_read::laws::opened_are_one_list;
 use kc_read::refusal::Refusal;
@@ -209,50 +209,47 @@ fn fresh_input<'a>(
     let mut input = UserInput::new(
         alloc,
         tree,
-        options.warn_lost || options.explanation.is_some(),
+        options.warn_lost || wants(options, Output::Explanation),
     )?;
     input.ask_unset(options.warn_lost);
     input.lead_with(lead_text(alloc, options)?);
-    match &options.list_gone {
-        None => Ok(input),
-        Some(_) => {
-            input.keep_gone(alloc);
-            Ok(input)
-        }
+    if wants(options, Output::GoneLines) {
+        input.keep_gone(alloc);
     }
+    Ok(input)
 }
 
-/// Runs for one configuration of an accepted tree, after the tree's diagnostics. `is_warned` is whether the tree has
-/// warnings.
+/// Runs for one configuration of an accepted tree, after the tree's diagnostics.
 pub(crate) fn run_inputs<'o, D: Device>(
     alloc: Global,
     options: &'o Options,
     accepted: &OrderedTree<'_>,
     names: &Option<Names>,
-    is_warned: bool,
     device: &mut D,
 ) -> Result<Status, Stop<'o>>
     requires ready { IsReady accepted.now }
-    requires names { names.now ≡ names_listed options.now accepted.now.opened.now }
+    requires names { names.now ≡ names_if options.now accepted.now.opened.now }
     requires taken { refused_name_of options.now accepted.now.opened.now accepted.now.laid.tree.now ≡ None }
-    requires warned { is_warned ≡ is_not_empty (lines_text accepted.now.laid.tree.now.warnings) }
     ensures { (files : Files) → IsAcceptedOf files options.now accepted.now → LeavesPart files options.now accepted.now.laid.tree.now result (D.log device.old) (D.log device.new) }
 {
     one_answer();
     exactly_one_outcome();
     let tree = accepted.laid.tree;
-    let streams = stream_names(alloc, options)?;
+    let names_told = stream_names(alloc, options)?;
     let mut user = fresh_input(alloc, options, tree)?;
     let mut waiting = Waiting {
         holds: holds_warnings(options),
         text: Vec::new(alloc),
     };
+    let streams = Streams {
+        names: &names_told,
+        tree,
+        prefix: &options.prefix,
+    };
     let long = match read_inputs(
         alloc,
         options,
-        &options.prefix,
-        &streams,
-        tree,
+        streams,
         device,
         &mut user,
         &mut waiting,
@@ -269,7 +266,6 @@ pub(crate) fn run_inputs<'o, D: Device>(
         accepted,
         names,
         &user,
-        is_warned,
         &mut waiting.text,
     )?;
     finish(options, &waiting.text, texts, device)
@@ -301,21 +297,14 @@ fn run_accepted<'o, D: Device>(
 {
     one_answer();
     exactly_one_outcome();
-    let names = names_listed(alloc, options, accepted.opened)?;
+    let names = names_if(alloc, options, accepted.opened)?;
     let refused = refused_among(alloc, options, &names, accepted.laid.tree)?;
     if let Some(name) = refused {
         return refuse_name(options, &name, device);
     }
     let warnings = accepted.laid.tree.parse_warnings();
     match say_tree(alloc, warnings, device) {
-        Ok(()) => run_inputs(
-            alloc,
-            options,
-            accepted,
-            &names,
-            !warnings.is_empty(),
-            device,
-        ),
+        Ok(()) => run_inputs(alloc, options, accepted, &names, device),
         Err(stop) => Err(stop),
     }
 }
@@ -336,25 +325,25 @@ fn run_tree<'o, D: Device>(
     let TreeReading {
         tree,
         opened,
-        sources,
+        files,
     } = read;
     let laid = tree.laid();
     let order = match EvaluationOrder::of(alloc, &laid) {
         Ok(order) => order,
         Err(refusal) => return refuse(&refusal, device),
     };
-    let lent = borrowed(&sources);
+    let lent = borrowed(&files);
     let accepted = OrderedTree {
         laid,
         order: &order,
         opened: &opened,
-        sources: lent,
+        files: lent,
     };
     let ended = run_accepted(alloc, options, &accepted, device);
     *kept = Some(AcceptedTree {
         tree,
         order,
-        sources,
+        files,
     });
     ended
 }

@@ -11,7 +11,7 @@ use Rattle.kc_language.specs.declared.expressions.SymbolType.TheVariants as symb
 use Rattle.kc_language.specs.Expressions.{symbol, SymbolValue, Truth, TextValue}
 use Rattle.kc_language.specs.Values.{Solves, GivenValue, Member, UserPlace, SymbolPlace, ChoicePlace, is_yes, given_of, choice_at, name_count, known_from, user_place, equations, name as name_of}
 use Rattle.kc_language.specs.Symbols.{TreeFacts, SymbolFacts, ChoiceFacts, Shown, SymbolShown, MenuShown, EndShown, CommentShown}
-use Rattle.kc_tree.specs.TreeFacts.{IsLineText, IsWellFormed, OfTitles, ShowsEach}
+use Rattle.kc_entries.specs.WellFormed.{IsLineText, IsWellFormed, OfTitles, ShowsEach}
 use Rattle.kc_language.specs.ConfigFile.{Notation, Places, place_at, is_prefix, Assignment, places_given}
 use Rattle.kc_user.specs.PartsOfConfigFile.{no_places}
 use Rattle.kc_user.specs.Places.{allowed, allowed_by, allowed_for, members_of}

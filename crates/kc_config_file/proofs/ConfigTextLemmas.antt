@@ -9,7 +9,7 @@ use Rattle.std.proofs.lemmas.Option.{slice_get-get_or}
 use Rattle.kc_language.specs.Lines.{is_line_feed}
 use Rattle.kc_language.specs.declared.expressions.SymId.{SymId}
 use Rattle.kc_language.specs.Symbols.{TreeFacts, Shown, SymbolShown, MenuShown, EndShown, CommentShown}
-use Rattle.kc_tree.specs.TreeFacts.{IsLineText, OfTitles}
+use Rattle.kc_entries.specs.WellFormed.{IsLineText, OfTitles}
 use Rattle.kc_language.specs.ConfigFile.{Notation, meaning_of, effect_of, is_prefix, Assignment}
 use Rattle.kc_config_file.specs.PartsOfConfigFile.{assignment_of}
 use Rattle.kc_language.specs.Texts.{IsNotUnsetLine, HasPlainTitles, config_text, title_lines, shown_title, symbol_config, end_is_last, entry_text, SolutionView, is_shown}

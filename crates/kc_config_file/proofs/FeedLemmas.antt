@@ -36,6 +36,12 @@ module _ (tree : TreeFacts) (prefix : Notation) (name : List ℕ) where
   Feeds-append a b old mid new before middle after told told_mid told_after (w, t, k) (v, u, l) =
       (w ++ v, u ∙ ap (λ o. o ++ v) t ∙ append_assoc told w v, ReadsPiece-append a b old mid new before middle after w v k l)
 
+  -- more bytes are pending
+  pub Feeds-more : (piece : List ℕ) (old : StreamPosition) (pending : List ℕ) (places : UserInput) (told : List ℕ) → pending ≡ old.pending ++ piece →
+      Feeds tree prefix name piece old (record { number = old.number; pending = pending }) places places told told
+  Feeds-more piece old pending places told is =
+      ([], sym (append-nil told), λ rest more. ap (λ t. reading tree prefix places (lines_from name old.number t ++ more)) (sym (append_assoc old.pending piece rest) ∙ ap (λ t. t ++ rest) (sym is)))
+
   -- an LF ends the line
   pub ReadsPiece-lf : (b : ℕ) (old : StreamPosition) (before : UserInput) → IsWithinLine old → is_line_feed b ≡ true →
       let l = line name old.number old.pending true in

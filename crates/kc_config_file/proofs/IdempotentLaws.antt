@@ -4,7 +4,7 @@ use Rattle.kc_language.specs.declared.expressions.SymId.{SymId}
 use Rattle.kc_language.specs.Expressions.{SymbolValue}
 use Rattle.kc_language.specs.Values.{Solves, GivenValue, UserPlace, changes_on_reread, name_count, known_from, user_place, rhs, equations, written}
 use Rattle.kc_language.specs.Symbols.{TreeFacts}
-use Rattle.kc_tree.specs.TreeFacts.{IsLineText, IsWellFormed, OfTitles, ShowsEach}
+use Rattle.kc_entries.specs.WellFormed.{IsLineText, IsWellFormed, OfTitles, ShowsEach}
 use Rattle.kc_language.specs.ConfigFile.{Notation, Places, place_at, is_prefix}
 use Rattle.kc_values.specs.GivenLines.{reread_places}
 use Rattle.kc_values.specs.Laws.{SolutionsAgree}

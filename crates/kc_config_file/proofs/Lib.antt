@@ -15,8 +15,10 @@ pub mod InTurnLemmas
 mod LineLaws
 pub mod LineLemmas
 pub mod LongLineLemmas
+pub mod MenuEntryLemmas
 pub mod MinimalLaws
 pub mod MinimalTextLemmas
+pub mod OpenLemmas
 pub mod PlaceLemmas
 pub mod QuotedLemmas
 mod ReaderLemmas

@@ -7,7 +7,7 @@ use Rattle.kc_language.specs.Expressions.{SymbolValue}
 use Rattle.kc_order.specs.Minimal.{kept, Restores, NothingCanGo}
 use Rattle.kc_language.specs.Values.{Solves, GivenValue, UserPlace, SymbolPlace, ChoicePlace, differs, default_selection, name_count, user_place, rhs, equations}
 use Rattle.kc_language.specs.Symbols.{TreeFacts, is_symbol_of}
-use Rattle.kc_tree.specs.TreeFacts.{IsWellFormed}
+use Rattle.kc_entries.specs.WellFormed.{IsWellFormed}
 use Rattle.kc_language.specs.ConfigFile.{Notation, Places, place_at, is_prefix, Assignment, ReadResult, lines_from, no_input, reading, places_given}
 use Rattle.kc_user.specs.PartsOfConfigFile.{no_places}
 use Rattle.kc_user.specs.Places.{AllowedPlaces}

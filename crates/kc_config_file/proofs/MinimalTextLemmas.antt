@@ -11,7 +11,7 @@ use Rattle.kc_language.specs.Expressions.{symbol, SymbolValue, Truth}
 use Rattle.kc_order.specs.Minimal.{kept}
 use Rattle.kc_language.specs.Values.{Solves, GivenValue, Member, UserPlace, SymbolPlace, ChoicePlace, is_yes, given_of, differs, default_selection, facts, choice_at, name_count, known_from, user_place, equations, name as name_of}
 use Rattle.kc_language.specs.Symbols.{TreeFacts, SymbolFacts, is_symbol_of}
-use Rattle.kc_tree.specs.TreeFacts.{IsWellFormed}
+use Rattle.kc_entries.specs.WellFormed.{IsWellFormed}
 use Rattle.kc_language.specs.ConfigFile.{Notation, place_at, is_prefix, Assignment, places_given}
 use Rattle.kc_user.specs.PartsOfConfigFile.{no_places}
 use Rattle.kc_config_file.specs.PartsOfConfigFile.{choice_of}

@@ -14,7 +14,7 @@ use Rattle.kc_language.specs.declared.expressions.Tri.TheVariants.{N, M, Y}
 use Rattle.kc_language.specs.declared.expressions.SymbolType.TheVariants as symbol_type
 use Rattle.kc_language.specs.Expressions.{SymbolValue, Truth, TextValue}
 use Rattle.kc_language.specs.Symbols.{TreeFacts, Shown, SymbolShown, MenuShown, EndShown, CommentShown}
-use Rattle.kc_tree.specs.TreeFacts.{IsLineText, IsWellFormed, OfTitles}
+use Rattle.kc_entries.specs.WellFormed.{IsLineText, IsWellFormed, OfTitles}
 use Rattle.kc_language.specs.Values.{GivenValue, UserPlace, name_count, known_from, name as name_of}
 use Rattle.kc_config_file.specs.HasNames.{HasNames}
 use Rattle.kc_language.specs.Texts.{HasShortLines, valuation_view, config_file_line, config_text, title_lines, shown_title, symbol_config, end_is_last, entry_text, minimal_text, SolutionView, is_shown}

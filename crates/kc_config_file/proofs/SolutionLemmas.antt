@@ -7,7 +7,7 @@ use Rattle.kc_language.specs.Values.{GivenValue, name as name_of}
 use Rattle.kc_language.specs.Texts.{IsSolution, Solution, value_of}
 use Rattle.kc_language.specs.declared.expressions.SymId.{SymId}
 use Rattle.kc_language.specs.Symbols.{SymbolFacts, TreeFacts}
-use Rattle.kc_tree.specs.TreeFacts.{IsWellFormed}
+use Rattle.kc_entries.specs.WellFormed.{IsWellFormed}
 use Rattle.kc_user.specs.Places.{ArePlaces, allowed, allowed_for}
 use Rattle.kc_language.specs.Needs.{IsAccepted}
 use Rattle.kc_config_file.specs.WrittenLaws.{IsSolutionOf}

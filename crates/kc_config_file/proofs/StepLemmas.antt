@@ -7,8 +7,8 @@ use Rattle.kc_language.specs.declared.expressions.SymbolType.{SymbolType}
 use Rattle.kc_language.specs.declared.expressions.SymbolType.TheVariants as symbol_type
 use Rattle.kc_language.specs.Symbols.{TreeFacts, SymbolFacts, Warning}
 use Rattle.kc_language.specs.declared.diagnostics.Warning.TheVariants as warning
-use Rattle.kc_tree.specs.TreeFacts.{IsWellFormed}
-use Rattle.kc_tree.specs.Contexts.{mode_view}
+use Rattle.kc_entries.specs.WellFormed.{IsWellFormed}
+use Rattle.kc_tree.specs.Places.{mode_view}
 use Rattle.kc_language.specs.declared.symbols.ChoiceId.{ChoiceId}
 use Rattle.kc_language.specs.Values.{GivenValue, is_yes, type_in}
 use Rattle.kc_language.specs.ConfigFile.{LineMeaning, Notation, Places, StreamLocation, UserInput, Warns, is_reported, not_allowed, set_by_type, places_given}

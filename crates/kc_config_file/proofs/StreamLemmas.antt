@@ -11,7 +11,7 @@ use Rattle.std.specs.Str.Lines.{strip_carriage_return}
 use Rattle.kc_language.specs.Lines.{is_line_feed}
 use Rattle.kc_language.specs.declared.expressions.SymId.{SymId}
 use Rattle.kc_language.specs.Symbols.{TreeFacts, SymbolFacts}
-use Rattle.kc_tree.specs.TreeFacts.{IsWellFormed}
+use Rattle.kc_entries.specs.WellFormed.{IsWellFormed}
 use Rattle.kc_language.specs.Values.{GivenValue, is_yes}
 use Rattle.kc_user.specs.Laws.{EmptyArePlaces, SettingKeepsPlaces, SelectingKeepsPlaces}
 use Rattle.kc_user.specs.Places.{ArePlaces, allowed, members_of}

@@ -20,7 +20,7 @@ use Rattle.kc_language.specs.declared.expressions.SymbolType.{SymbolType}
 use Rattle.kc_language.specs.declared.expressions.SymbolType.TheVariants as symbol_type
 use Rattle.kc_language.specs.Expressions.{same_name, SymbolValue, Truth, TextValue, is_name_byte}
 use Rattle.kc_language.specs.Symbols.{TreeFacts, SymbolFacts}
-use Rattle.kc_tree.specs.TreeFacts.{IsWellFormed}
+use Rattle.kc_entries.specs.WellFormed.{IsWellFormed}
 use Rattle.kc_language.specs.Values.{GivenValue, GivenTruth, GivenText, given_of, name as name_of, type_in}
 use Rattle.kc_user.specs.Places.{allowed, allowed_by, allowed_for, fits_quoted}
 use Rattle.kc_language.specs.ConfigFile.{Notation, Set, Unset, meaning_of, effect_of, raw_string, set_by_type, unset_by_type, symbol_named, is_prefix, Assignment}

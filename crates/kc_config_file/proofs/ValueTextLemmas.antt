@@ -22,7 +22,7 @@ use Rattle.kc_language.specs.Needs.{needs_in, unordered_after, needs, needs_of, 
 use Rattle.kc_language.specs.Values.{Solves, GivenValue, GivenTruth, GivenText, Member, UserPlace, SymbolPlace, facts, name, number_text, is_within_range, clamped, if_within_range, number_or_zero, name_count, known_from, user_place, equations, is_n, written}
 use Rattle.kc_values.specs.PartsOfValues.{is_mentioned}
 use Rattle.kc_language.specs.Symbols.{TreeFacts, SymbolFacts, Guarded}
-use Rattle.kc_tree.specs.TreeFacts.{HasLineTexts, IsLineForm, IsLineText}
+use Rattle.kc_entries.specs.WellFormed.{HasLineTexts, IsLineForm, IsLineText}
 use Rattle.kc_user.specs.Places.{allowed_by, allowed_for, allowed_text, AllowedPlaces}
 use Rattle.kc_language.specs.declared.values.Interval.{Interval}
 use Rattle.kc_values.specs.Laws.{EquationsReadNeeds, NeedsAreSymbols}

@@ -8,7 +8,6 @@ pub mod InputView
 pub mod KnownValue
 pub mod LineByLine
 pub mod LineSteps
-pub mod Named
 pub mod PartsOfConfigFile
 pub mod PartsOfTexts
 pub mod Prefixes

@@ -1,7 +1,7 @@
 -- For proofs: What the lines and chunks of an input file give, for its name, a tree and a prefix.
-use Rattle.std.specs.Prelude.{ℕ, List, [], ◌∷◌, Bool}
-use Rattle.kc_config_file.specs.Feeding.{StreamPosition, Feeds}
-use Rattle.kc_language.specs.ConfigFile.{Line, UserInput, input_after, warning}
+use Rattle.std.specs.Prelude.{◌<◌, ◌≤◌, ℕ, List, [], ◌∷◌, Bool, length, take}
+use Rattle.kc_config_file.specs.Feeding.{Feeds, GoesOnBy, IsWithinLine, StreamPosition}
+use Rattle.kc_language.specs.ConfigFile.{ArePlacesOf, Line, UserInput, input_after, warning}
 use Rattle.kc_config_file.specs.PartsOfConfigFile.{line}
 use Rattle.kc_config_file.specs.declared.step.NamedStream.{NamedStream}
 
@@ -21,3 +21,15 @@ warning_of stream before l = warning stream.tree.now stream.prefix.now before l
 abbrev pub TakesPiece : NamedStream → List ℕ → StreamPosition → StreamPosition → UserInput → UserInput → List ℕ → List ℕ → Type 0
 TakesPiece stream piece old new before after told told_after =
     Feeds stream.tree.now stream.prefix.now stream.name.now piece old new before after told told_after
+
+-- n of the bytes were taken
+pub record TakesFront (stream : NamedStream) (bytes : List ℕ) (n : ℕ) (old new : StreamPosition) (before after : UserInput) (told told_after : List ℕ) : Type 0 where
+  pub some : 0 < n
+  pub within : n ≤ length bytes
+  pub ok : TakesPiece stream (take n bytes) old new before after told told_after
+  pub position : GoesOnBy (take n bytes) old new
+
+-- a reader stands within a line, and the user's places are those of the tree
+pub record IsOpen (stream : NamedStream) (position : StreamPosition) (input : UserInput) : Type 0 where
+  pub user : ArePlacesOf stream.tree.now input.places
+  pub within : IsWithinLine position

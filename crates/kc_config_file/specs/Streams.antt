@@ -3,7 +3,7 @@ use Rattle.std.specs.Prelude.{◌≡◌, ℕ, List, [], ◌∷◌, ◌++◌, map
 use Rattle.std.specs.List.{concat}
 use Rattle.kc_user.specs.Places.{ArePlaces}
 use Rattle.kc_language.specs.Symbols.{TreeFacts}
-use Rattle.kc_tree.specs.TreeFacts.{IsWellFormed}
+use Rattle.kc_entries.specs.WellFormed.{IsWellFormed}
 use Rattle.kc_config_file.specs.Calls.{Call, Feed, Finish, AllAnswered}
 use Rattle.kc_config_file.specs.declared.fault.InputFault.{InputFault}
 use Rattle.kc_config_file.specs.Feeding.{StreamPosition, Refuses, stream_start}

@@ -5,7 +5,7 @@ use Rattle.kc_language.specs.declared.expressions.SymId.{SymId}
 use Rattle.kc_language.specs.Expressions.{SymbolValue}
 use Rattle.kc_language.specs.Values.{Solves, GivenValue, UserPlace, equations, name_count}
 use Rattle.kc_language.specs.Symbols.{TreeFacts}
-use Rattle.kc_tree.specs.TreeFacts.{IsWellFormed}
+use Rattle.kc_entries.specs.WellFormed.{IsWellFormed}
 use Rattle.kc_user.specs.Places.{ArePlaces, allowed}
 use Rattle.kc_language.specs.{ConfigFile.{Assigns, Line, Notation, Places, UserInput, effect, effect_of, is_prefix, is_within, meaning_of, place_at}}
 use Rattle.kc_language.specs.Needs.{IsAccepted}

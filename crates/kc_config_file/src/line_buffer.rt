@@ -5,9 +5,9 @@ ghost use Rattle.kc_language.specs.Lines.{is_line_feed};
 ghost use Rattle.kc_text.specs.PartsOfLines.{HoldsNoLineFeed};
 ghost use Rattle.kc_language.specs.ConfigFile.{ArePlacesOf};
 ghost use Rattle.kc_config_file.specs.PartsOfConfigFile.{line};
-ghost use Rattle.kc_config_file.specs.Feeding.{IsWithinLine, GoesOnBy, Refuses, StopsBecause, FinishesStream, fed, ended};
+ghost use Rattle.kc_config_file.specs.Feeding.{Refuses, StopsBecause, FinishesStream, fed, ended};
 ghost use Rattle.kc_text.specs.PartsOfText.{one_more};
-ghost use Rattle.kc_config_file.specs.LineByLine.{line_at, after_line, warning_of, TakesPiece};
+ghost use Rattle.kc_config_file.specs.LineByLine.{line_at, after_line, warning_of, IsOpen, TakesFront, TakesPiece};
 ghost use Rattle.kc_config_file.specs.ReaderView.{position_of};
 
 use crate::fault::InputFault;
@@ -15,7 +15,7 @@ use crate::step::{NamedStream, read_line};
 use crate::user_input::UserInput;
 use bstr::ByteSlice;
 use kc_text::without_carriage_return;
-use std::alloc::{AllocError, Global};
+use std::alloc::AllocError;
 
 /// The most bytes of a line.
 pub(crate) const LONGEST_DOT_LINE: usize = 65535;
@@ -41,7 +41,6 @@ fn text_of(bytes: &[u8], ended: bool) -> &[u8]
 // Reads the bytes as the line of this number, and moves on to the next number. Fails only if there is not enough
 // memory; then it changes nothing.
 fn read_numbered<'a>(
-    alloc: Global,
     stream: &NamedStream<'a>,
     number: &mut u64,
     bytes: &[u8],
@@ -56,7 +55,7 @@ fn read_numbered<'a>(
     ensures unchanged { OnErr result ((user.new ≡ user.old) × (number.new ≡ number.old) × (told.new.items ≡ told.old.items)) }
 {
     let text = text_of(bytes, ended);
-    read_line(alloc, stream, *number, text, user, told)?;
+    read_line(stream, *number, text, user, told)?;
     *number = number.saturating_add(1);
     Ok(())
 }
@@ -64,7 +63,6 @@ fn read_numbered<'a>(
 /// Reads the pending bytes as a line, and moves on to the next line. Fails only if there is not enough memory; then it
 /// changes nothing.
 pub(crate) fn end_line<'a>(
-    alloc: Global,
     stream: &NamedStream<'a>,
     line_buffer: &mut LineBuffer,
     ended: bool,
@@ -78,7 +76,6 @@ pub(crate) fn end_line<'a>(
     ensures unchanged { OnErr result ((user.new ≡ user.old) × (position_of line_buffer.new ≡ position_of line_buffer.old) × (told.new.items ≡ told.old.items)) }
 {
     read_numbered(
-        alloc,
         stream,
         &mut line_buffer.number,
         &line_buffer.pending,
@@ -92,24 +89,21 @@ pub(crate) fn end_line<'a>(
 
 // Takes one byte: an LF finishes the line, any other byte becomes pending, unless it is the 65,536th of its line.
 fn take_byte<'a>(
-    alloc: Global,
     stream: &NamedStream<'a>,
     line_buffer: &mut LineBuffer,
     byte: u8,
     user: &mut UserInput<'a>,
     told: &mut Vec<u8>,
 ) -> Result<(), InputFault>
-    requires user { ArePlacesOf stream.now.tree.now user.old.places }
-    requires opened { IsWithinLine (position_of line_buffer.old) }
+    requires { IsOpen stream.now (position_of line_buffer.old) user.old }
     ensures ok { OnOk result (TakesPiece stream.now (byte ∷ []) (position_of line_buffer.old) (position_of line_buffer.new) user.old user.new told.old.items told.new.items) }
     ensures position { OnOk result (position_of line_buffer.new ≡ fed (byte ∷ []) (position_of line_buffer.old)) }
     ensures unchanged { OnErr result ((user.new ≡ user.old) × (position_of line_buffer.new ≡ position_of line_buffer.old) × (told.new.items ≡ told.old.items)) }
     ensures err { IfErr result (λ fault. StopsBecause stream.now.tree.now stream.now.prefix.now stream.now.name.now fault (byte ∷ []) (position_of line_buffer.old) user.old) }
-    ensures user { OnOk result (ArePlacesOf stream.now.tree.now user.new.places) }
-    ensures opened { OnOk result (IsWithinLine (position_of line_buffer.new)) }
+    ensures opened { OnOk result (IsOpen stream.now (position_of line_buffer.new) user.new) }
 {
     if byte == b'\n' {
-        end_line(alloc, stream, line_buffer, true, user, told)?;
+        end_line(stream, line_buffer, true, user, told)?;
         return Ok(());
     }
     if line_buffer.pending.len() >= LONGEST_DOT_LINE {
@@ -137,7 +131,6 @@ fn bytes_before_lf(bytes: &[u8], room: usize) -> usize
 // takes that with its LF, and reads it without a copy. Otherwise takes the bytes before the next LF, as many as the
 // line has room for, or one byte if there are none.
 fn take_front<'a>(
-    alloc: Global,
     stream: &NamedStream<'a>,
     line_buffer: &mut LineBuffer,
     bytes: &[u8],
@@ -145,60 +138,44 @@ fn take_front<'a>(
     told: &mut Vec<u8>,
 ) -> Result<usize, InputFault>
     requires some { 0 < length bytes.now }
-    requires user { ArePlacesOf stream.now.tree.now user.old.places }
-    requires opened { IsWithinLine (position_of line_buffer.old) }
-    ensures some { IfOk result (λ n. 0 < n) }
-    ensures within { IfOk result (λ n. n ≤ length bytes.now) }
-    ensures ok { IfOk result (λ n. TakesPiece stream.now (take n bytes.now) (position_of line_buffer.old) (position_of line_buffer.new) user.old user.new told.old.items told.new.items) }
-    ensures position { IfOk result (λ n. GoesOnBy (take n bytes.now) (position_of line_buffer.old) (position_of line_buffer.new)) }
+    requires opened { IsOpen stream.now (position_of line_buffer.old) user.old }
+    ensures taken { IfOk result (λ n. TakesFront stream.now bytes.now n (position_of line_buffer.old) (position_of line_buffer.new) user.old user.new told.old.items told.new.items) }
     ensures unchanged { OnErr result ((user.new ≡ user.old) × (position_of line_buffer.new ≡ position_of line_buffer.old) × (told.new.items ≡ told.old.items)) }
     ensures err { IfErr result (λ fault. StopsBecause stream.now.tree.now stream.now.prefix.now stream.now.name.now fault bytes.now (position_of line_buffer.old) user.old) }
-    ensures user { OnOk result (ArePlacesOf stream.now.tree.now user.new.places) }
-    ensures opened { OnOk result (IsWithinLine (position_of line_buffer.new)) }
+    ensures opened { OnOk result (IsOpen stream.now (position_of line_buffer.new) user.new) }
 {
     let count = bytes_before_lf(bytes, LONGEST_DOT_LINE - line_buffer.pending.len());
     if line_buffer.pending.is_empty() && count < bytes.len() && bytes[count] == b'\n' {
         let whole = &bytes[..count];
-        read_numbered(
-            alloc,
-            stream,
-            &mut line_buffer.number,
-            whole,
-            true,
-            user,
-            told,
-        )?;
+        read_numbered(stream, &mut line_buffer.number, whole, true, user, told)?;
         return Ok(count + 1);
     }
     if count > 0 {
         line_buffer.pending.extend_from_slice(&bytes[..count])?;
         return Ok(count);
     }
-    take_byte(alloc, stream, line_buffer, bytes[0], user, told)?;
+    take_byte(stream, line_buffer, bytes[0], user, told)?;
     Ok(1)
 }
 
 /// Takes the chunk `piece`.
 pub(crate) fn take_piece<'a>(
-    alloc: Global,
     stream: &NamedStream<'a>,
     line_buffer: &mut LineBuffer,
     piece: &[u8],
     user: &mut UserInput<'a>,
     told: &mut Vec<u8>,
 ) -> Result<(), InputFault>
-    requires user { ArePlacesOf stream.now.tree.now user.old.places }
-    requires opened { IsWithinLine (position_of line_buffer.old) }
+    requires { IsOpen stream.now (position_of line_buffer.old) user.old }
     ensures ok { OnOk result (TakesPiece stream.now piece.now (position_of line_buffer.old) (position_of line_buffer.new) user.old user.new told.old.items told.new.items) }
     ensures position { OnOk result (position_of line_buffer.new ≡ fed piece.now (position_of line_buffer.old)) }
     ensures err { IfErr result (λ fault. Refuses stream.now.tree.now stream.now.prefix.now stream.now.name.now fault piece.now (position_of line_buffer.old)
         (position_of line_buffer.new) user.old user.new told.old.items told.new.items) }
-    ensures user { ArePlacesOf stream.now.tree.now user.new.places }
-    ensures opened { IsWithinLine (position_of line_buffer.new) }
+    ensures opened { IsOpen stream.now (position_of line_buffer.new) user.new }
 {
     let mut at = 0;
     while at < piece.len() {
-        at += take_front(alloc, stream, line_buffer, &piece[at..], user, told)?;
+        at += take_front(stream, line_buffer, &piece[at..], user, told)?;
     }
     Ok(())
 }
@@ -206,23 +183,20 @@ pub(crate) fn take_piece<'a>(
 /// Ends the input file: pending bytes are its last line. Fails only if there is not enough memory; then it changes
 /// nothing.
 pub(crate) fn end_stream<'a>(
-    alloc: Global,
     stream: &NamedStream<'a>,
     line_buffer: &mut LineBuffer,
     user: &mut UserInput<'a>,
     told: &mut Vec<u8>,
 ) -> Result<(), AllocError>
-    requires user { ArePlacesOf stream.now.tree.now user.old.places }
-    requires opened { IsWithinLine (position_of line_buffer.old) }
+    requires { IsOpen stream.now (position_of line_buffer.old) user.old }
     ensures ok { OnOk result (FinishesStream stream.now.tree.now stream.now.prefix.now stream.now.name.now (position_of line_buffer.old) user.old user.new told.old.items told.new.items) }
     ensures position { OnOk result (position_of line_buffer.new ≡ ended (position_of line_buffer.old)) }
     ensures unchanged { OnErr result ((user.new ≡ user.old) × (position_of line_buffer.new ≡ position_of line_buffer.old) × (told.new.items ≡ told.old.items)) }
     ensures pending { OnErr result (0 < length line_buffer.old.pending.items) }
-    ensures user { OnOk result (ArePlacesOf stream.now.tree.now user.new.places) }
-    ensures opened { OnOk result (IsWithinLine (position_of line_buffer.new)) }
+    ensures opened { OnOk result (IsOpen stream.now (position_of line_buffer.new) user.new) }
 {
     if line_buffer.pending.is_empty() {
         return Ok(());
     }
-    end_line(alloc, stream, line_buffer, false, user, told)
+    end_line(stream, line_buffer, false, user, told)
 }

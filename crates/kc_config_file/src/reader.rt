@@ -20,7 +20,6 @@ use std::marker::Model;
 /// later call returns that fault and changes nothing.
 #[derive(Drop)]
 pub struct InputReader<'a> {
-    alloc: Global,
     stream: NamedStream<'a>,
     line_buffer: LineBuffer,
     refusal: Option<InputFault>,
@@ -46,8 +45,12 @@ impl<'a> InputReader<'a> {
         ensures { result ≡ record { tree = tree.now; prefix = prefix.now; name = name.now; position = stream_start; refusal = None } }
     {
         InputReader {
-            alloc,
-            stream: NamedStream { tree, prefix, name },
+            stream: NamedStream {
+                alloc,
+                tree,
+                prefix,
+                name,
+            },
             line_buffer: LineBuffer {
                 number: 1,
                 pending: Vec::new(alloc),
@@ -80,14 +83,7 @@ impl<'a> InputReader<'a> {
         if let Some(fault) = self.refusal {
             return Err(fault);
         }
-        match take_piece(
-            self.alloc,
-            &self.stream,
-            &mut self.line_buffer,
-            piece,
-            user,
-            told,
-        ) {
+        match take_piece(&self.stream, &mut self.line_buffer, piece, user, told) {
             Ok(()) => Ok(()),
             Err(fault) => {
                 self.refusal = Some(fault);
@@ -107,7 +103,7 @@ impl<'a> InputReader<'a> {
         if let Some(fault) = self.refusal {
             return Err(fault);
         }
-        match end_stream(self.alloc, &self.stream, &mut self.line_buffer, user, told) {
+        match end_stream(&self.stream, &mut self.line_buffer, user, told) {
             Ok(()) => Ok(()),
             Err(_) => {
                 self.refusal = Some(InputFault::Memory);

@@ -24,9 +24,10 @@ use kc_user::user::User;
 use kc_user::value::UserValue;
 use std::alloc::{AllocError, Global};
 
-/// The name of an input file, and the tree and prefix that it is read for.
+/// The name of an input file, the tree and prefix that it is read for, and the allocator of what is kept of it.
 #[derive(Clone, Copy)]
 pub(crate) struct NamedStream<'a> {
+    pub alloc: Global,
     pub tree: &'a Tree,
     pub prefix: &'a Prefix,
     pub name: &'a [u8],
@@ -150,24 +151,31 @@ fn tell_values<'a>(
     warn(at.file, at.number, warning, told)
 }
 
-// Adds the line with the old and the new value of the symbol.
-fn add_change<'a>(
-    alloc: Global,
+// What a line about a symbol's values says of the symbol, and how it writes them.
+#[derive(Clone, Copy)]
+struct ToldSymbol<'a> {
     is_raw: bool,
     name: &'a [u8],
     symbol_type: SymbolType,
+}
+
+// Adds the line with the old and the new value of the symbol.
+fn add_change<'a>(
+    alloc: Global,
+    symbol: &ToldSymbol<'a>,
     old: Given<'a>,
     new: Given<'a>,
     text: &mut Vec<u8>,
 ) -> Result<(), AllocError>
     ensures { OnOk result (text.new.items ≡ text.old.items
-        ++ change_line is_raw (location_of new.entry.at) name.now symbol_type (given_by old.entry.value) (location_of old.entry.at) (given_by new.entry.value)) }
+        ++ change_line symbol.now.is_raw (location_of new.entry.at) symbol.now.name.now symbol.now.symbol_type (given_by old.entry.value) (location_of old.entry.at)
+        (given_by new.entry.value)) }
 {
     let mut before = Vec::new(alloc);
-    add_value(is_raw, symbol_type, old.value, &mut before)?;
+    add_value(symbol.is_raw, symbol.symbol_type, old.value, &mut before)?;
     let mut now = Vec::new(alloc);
-    add_value(is_raw, symbol_type, new.value, &mut now)?;
-    tell_values(name, old.at, &before, new.at, &now, text)
+    add_value(symbol.is_raw, symbol.symbol_type, new.value, &mut now)?;
+    tell_values(symbol.name, old.at, &before, new.at, &now, text)
 }
 
 // Adds the warning that the symbol is set again.
@@ -181,49 +189,47 @@ fn tell_again(at: InputLine<'_>, name: &[u8], told: &mut Vec<u8>) -> Result<(), 
 // Adds the warning that the symbol is set again, with its old and new value.
 fn tell_change<'a>(
     alloc: Global,
-    is_raw: bool,
-    name: &'a [u8],
-    symbol_type: SymbolType,
+    symbol: &ToldSymbol<'a>,
     old: Given<'a>,
     new: Given<'a>,
     told: &mut Vec<u8>,
 ) -> Result<(), AllocError>
-    ensures whole { OnOk result (told.new.items ≡ told.old.items ++ (located_warning_line new.entry.at.file.now new.entry.at.number (SetAgain name.now)
-        ++ change_line is_raw (location_of new.entry.at) name.now symbol_type (given_by old.entry.value) (location_of old.entry.at) (given_by new.entry.value))) }
+    ensures whole { OnOk result (told.new.items ≡ told.old.items ++ (located_warning_line new.entry.at.file.now new.entry.at.number (SetAgain symbol.now.name.now)
+        ++ change_line symbol.now.is_raw (location_of new.entry.at) symbol.now.name.now symbol.now.symbol_type (given_by old.entry.value) (location_of old.entry.at)
+        (given_by new.entry.value))) }
     ensures nothing { OnErr result (told.new.items ≡ told.old.items) }
 {
     let mut text = Vec::new(alloc);
-    tell_again(new.at, name, &mut text)?;
-    add_change(alloc, is_raw, name, symbol_type, old, new, &mut text)?;
+    tell_again(new.at, symbol.name, &mut text)?;
+    add_change(alloc, symbol, old, new, &mut text)?;
     told.extend_from_slice(&text)
 }
 
 // Adds the warning that the symbol is set again, and the change if there is one and its line is known.
 fn tell_both(
     alloc: Global,
-    is_raw: bool,
-    name: &[u8],
-    symbol_type: SymbolType,
+    symbol: &ToldSymbol<'_>,
     old: ShownValue<'_>,
     from: Option<InputLine<'_>>,
     new: Given<'_>,
     told: &mut Vec<u8>,
 ) -> Result<(), AllocError>
-    ensures whole { OnOk result (told.new.items ≡ told.old.items ++ (located_warning_line new.entry.at.file.now new.entry.at.number (SetAgain name.now)
-        ++ change_text is_raw (location_of new.entry.at) name.now symbol_type (Some (given_by old.entry)) (option_map location_of from.entry) (given_by new.entry.value))) }
+    ensures whole { OnOk result (told.new.items ≡ told.old.items ++ (located_warning_line new.entry.at.file.now new.entry.at.number (SetAgain symbol.now.name.now)
+        ++ change_text symbol.now.is_raw (location_of new.entry.at) symbol.now.name.now symbol.now.symbol_type (Some (given_by old.entry)) (option_map location_of from.entry)
+        (given_by new.entry.value))) }
     ensures nothing { OnErr result (told.new.items ≡ told.old.items) }
 {
     match from {
-        None => tell_again(new.at, name, told),
+        None => tell_again(new.at, symbol.name, told),
         Some(from) => {
             if is_same(old, new.value) {
-                tell_again(new.at, name, told)
+                tell_again(new.at, symbol.name, told)
             } else {
                 let old = Given {
                     value: old,
                     at: from,
                 };
-                tell_change(alloc, is_raw, name, symbol_type, old, new, told)
+                tell_change(alloc, symbol, old, new, told)
             }
         }
     }
@@ -231,20 +237,20 @@ fn tell_both(
 
 // Warns if the symbol already has a value.
 fn warn_again(
-    alloc: Global,
-    is_raw: bool,
-    tree: &Tree,
+    stream: &NamedStream<'_>,
     at: InputLine<'_>,
     id: SymId,
     value: &UserValue,
     input: &UserInput<'_>,
     told: &mut Vec<u8>,
 ) -> Result<(), AllocError>
-    requires mentioned { id.0 < length tree.now.symbols }
-    requires user { ArePlacesOf tree.now input.now.places }
-    ensures whole { OnOk result (told.new.items ≡ told.old.items ++ effect_text is_raw tree.now input.now (location_of at.entry) (Assigns id (given_of_value value.now))) }
+    requires mentioned { id.0 < length stream.now.tree.now.symbols }
+    requires user { ArePlacesOf stream.now.tree.now input.now.places }
+    ensures whole { OnOk result (told.new.items ≡ told.old.items
+        ++ effect_text stream.now.prefix.now.is_raw stream.now.tree.now input.now (location_of at.entry) (Assigns id (given_of_value value.now))) }
     ensures nothing { OnErr result (told.new.items ≡ told.old.items) }
 {
+    let tree = stream.tree;
     if id.0 >= tree.name_count() {
         return Ok(());
     }
@@ -256,16 +262,12 @@ fn warn_again(
                 at,
             };
             let from = input.plain_line(id);
-            tell_both(
-                alloc,
-                is_raw,
-                tree.name(id),
-                type_of(tree, id),
-                shown_given(old),
-                from,
-                new,
-                told,
-            )
+            let symbol = ToldSymbol {
+                is_raw: stream.prefix.is_raw(),
+                name: tree.name(id),
+                symbol_type: type_of(tree, id),
+            };
+            tell_both(stream.alloc, &symbol, shown_given(old), from, new, told)
         }
     }
 }
@@ -299,7 +301,6 @@ fn refuse<'a>(refused: Option<SymId>, at: InputLine<'a>, input: &mut UserInput<'
 
 // Warns about a line that is not taken as written.
 fn leave_out<'a>(
-    alloc: Global,
     stream: &NamedStream<'a>,
     at: InputLine<'a>,
     line: ConfigFileLine<'_>,
@@ -318,7 +319,7 @@ fn leave_out<'a>(
     let is_gone = is_gone(&line_warning);
     let refused = not_allowed(stream.tree, &line_warning);
     warn(at.file, at.number, line_warning, told)?;
-    let noted = user.leave_out(alloc, stream.prefix, line, is_gone);
+    let noted = user.leave_out(stream.alloc, stream.prefix, line, is_gone);
     if noted.is_ok() {
         refuse(refused, at, user);
     } else {
@@ -331,7 +332,6 @@ fn leave_out<'a>(
 /// enough memory; then it changes neither the input nor `told`.
 #[tactic(auto, using(crate::proofs::StepLemmas::unreported, crate::proofs::StepLemmas::untold))]
 pub(crate) fn read_line<'a>(
-    alloc: Global,
     stream: &NamedStream<'a>,
     number: u64,
     text: &[u8],
@@ -352,18 +352,18 @@ pub(crate) fn read_line<'a>(
     };
     let line = parse_config_file_line(stream.prefix.as_bytes(), text);
     let is_raw = stream.prefix.is_raw();
-    match line_effect(alloc, stream.tree, line, is_raw)? {
+    match line_effect(stream.alloc, stream.tree, line, is_raw)? {
         Effect::Silent => Ok(()),
         Effect::Warns(line_warning) => {
             if user.reports(&line_warning) {
-                leave_out(alloc, stream, at, line, line_warning, user, told)
+                leave_out(stream, at, line, line_warning, user, told)
             } else {
                 Ok(())
             }
         }
         Effect::Assigns(id, value) => {
             let before = told.len();
-            warn_again(alloc, is_raw, stream.tree, at, id, &value, user, told)?;
+            warn_again(stream, at, id, &value, user, told)?;
             let given = give(stream.tree, at, id, value, user);
             if given.is_err() {
                 told.truncate(before);

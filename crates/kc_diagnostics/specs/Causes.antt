@@ -1,4 +1,4 @@
--- Trusted: Why there is no tree: the text of each error, and its line (our own).
+-- Trusted: Why a tree is refused: the text of each error, and its line (our own).
 use Rattle.std.specs.Borrow.{Bor}
 use Rattle.std.specs.Prelude.{ℕ, List}
 use Rattle.std.specs.declared.alloc.Global.{Global}
@@ -7,7 +7,7 @@ use Rattle.kc_language.specs.Statements.{Cause}
 use Rattle.kc_language.specs.declared.diagnostics.Cause as declared
 use Rattle.kc_language.specs.declared.diagnostics.Cause.TheVariants as cause
 
--- the same cause, with its name kept otherwise
+-- the same cause, with its name converted
 abbrev pub map_cause : {M N : Type 0} → (M → N) → declared.Cause M → declared.Cause N
 map_cause f (cause.NoFile name) = cause.NoFile (f name)
 map_cause f (cause.InclusionLoop name) = cause.InclusionLoop (f name)

@@ -1,4 +1,4 @@
--- Trusted: Why a run over an accepted tree fails: the text of each error (our own).
+-- Trusted: Errors of a run over an accepted tree: the text of each (our own).
 use Rattle.std.specs.Borrow.{Bor}
 use Rattle.std.specs.Prelude.{ℕ, List}
 use Rattle.kc_diagnostics.specs.PartsOfOutcome.{RunError}

@@ -182,7 +182,6 @@ impl<'e> Configurations for PiecedConfigurations<'e> {
         pieced(alloc, options, self.turns, i)
     }
 
-    #[tactic(auto, using(crate::proofs::KeptLemmas::keeps_for_pieces))]
     fn keeps_sources(&self) -> bool {
         wants_sources(&self.each.options)
     }

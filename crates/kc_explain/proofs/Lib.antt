@@ -1,11 +1,9 @@
-pub mod AttributeLemmas
-pub mod ChoiceNumbers
 pub mod ExcerptLemmas
 pub mod HoldingLemmas
-pub mod LineIndexLemmas
-pub mod NamingLemmas
+pub mod LineLemmas
 pub mod NearLemmas
 pub mod PartLemmas
-pub mod RowLemmas
 pub mod SourceLineLemmas
+pub mod TargetLemmas
 pub mod ToldLemmas
+pub mod WalkLemmas

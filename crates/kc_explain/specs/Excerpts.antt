@@ -1,6 +1,6 @@
 -- For proofs: Definitions as they are written, part by part.
 use Rattle.std.specs.List.{flat_map}
-use Rattle.std.specs.Prelude.{List, Option, [], codes, decimal, if◌then◌else◌, slice_get, ℕ, ◌++◌}
+use Rattle.std.specs.Prelude.{List, Option, [], codes, decimal, if◌then◌else◌, ℕ, ◌++◌}
 use Rattle.kc_language.specs.ConfigFile.{Notation}
 use Rattle.kc_language.specs.Expansion.{Files}
 use Rattle.kc_language.specs.Explanations.{definition_comments, excerpt}
@@ -18,9 +18,6 @@ excerpt_of found number = flat_map comment (flat_map (λ bytes. excerpt bytes nu
 
 abbrev pub definition : Files → Located Numbered → List ℕ
 definition files l = heading l.file l.line ++ excerpt_of (files.bytes l.file) l.line
-
-abbrev pub definition_at : Files → List (Located Numbered) → ℕ → List ℕ
-definition_at files lines i = flat_map (definition files) (listed (slice_get lines i))
 
 abbrev pub line_and_gap : TreeFacts → Notation → SolutionView → SymId → List ℕ
 line_and_gap tree prefix view s = symbol_new tree prefix view s ++ codes "\n"

@@ -1,7 +1,5 @@
 pub mod Excerpts
 pub mod Holding
-pub mod LineCode
-pub mod LineIndexes
 pub mod LineViews
 pub mod NearNames
 pub mod PartViews

@@ -1,14 +1,16 @@
 //! The list of new symbols, each with its definitions as they are written.
 
+ghost use Rattle.kc_entries.specs.Entries.{lines_in};
 ghost use Rattle.kc_read.specs.Files.{files_in};
 ghost use Rattle.std.specs.Prelude.{◌≡◌, ◌<◌, ◌++◌, length, option_map, IfOk, OnOk, codes, decimal, flat_map};
 ghost use Rattle.kc_language.specs.Explanations as whole;
+ghost use Rattle.kc_language.specs.Symbols.{listed};
 ghost use Rattle.kc_language.specs.Texts.{solution_view};
 ghost use Rattle.kc_language.specs.Values.{name_count};
-ghost use Rattle.kc_explain.specs.Excerpts.{definition, definition_at, excerpt_of, heading, line_and_gap, new_with_help};
-ghost use Rattle.kc_explain.specs.LineViews.{line_view};
+ghost use Rattle.kc_explain.specs.Excerpts.{definition, excerpt_of, heading, line_and_gap, new_with_help};
+ghost use Rattle.kc_explain.specs.LineViews.{line_at, line_view};
 
-use crate::lines::{Line, Lines};
+use crate::lines::{Line, definitions_of, first_line};
 use crate::source_lines::{LineReader, add_excerpt};
 use itoa::Buffer;
 use kc_config_file::header::add_new_line;
@@ -16,9 +18,11 @@ use kc_config_file::prefix::Prefix;
 use kc_expr::expression::SymId;
 use kc_read::file_map::FileMap;
 use kc_solve::solved::Solved;
+use kc_tree::layout::Layout;
+use kc_tree::rows::EntryId;
 use std::alloc::{AllocError, Global};
 
-// Adds where the definition stands.
+// Appends the location of a definition.
 fn add_heading(file: &[u8], number: u32, text: &mut Vec<u8>) -> Result<(), AllocError>
     ensures { OnOk result (text.new.items ≡ text.old.items ++ heading file.now number) }
 {
@@ -30,7 +34,7 @@ fn add_heading(file: &[u8], number: u32, text: &mut Vec<u8>) -> Result<(), Alloc
     text.extend_from_slice(b"\n")
 }
 
-// Adds the lines of a definition in this file, if there is such a file.
+// Appends the lines of a definition in this file, if the file exists.
 fn add_from_file<'n>(
     alloc: Global,
     reader: &mut LineReader<'_, 'n>,
@@ -45,7 +49,7 @@ fn add_from_file<'n>(
     add_excerpt(alloc, rest, text)
 }
 
-// Adds the definition that begins with this line.
+// Appends the definition that begins with this line.
 fn add_definition<'n>(
     alloc: Global,
     reader: &mut LineReader<'_, 'n>,
@@ -59,56 +63,56 @@ fn add_definition<'n>(
     add_from_file(alloc, reader, line.file, line.number, text)
 }
 
-// Adds the definition that begins with the line of this number.
+// Appends the definition that begins with an entry.
 fn add_definition_at<'n>(
     alloc: Global,
     reader: &mut LineReader<'_, 'n>,
-    lines: &Lines<'n>,
-    at: usize,
+    layout: &'n Layout,
+    entry: EntryId,
     text: &mut Vec<u8>,
 ) -> Result<(), AllocError>
-    ensures text { OnOk result (text.new.items ≡ text.old.items ++ definition_at (files_in reader.old) lines.now at) }
+    ensures text { OnOk result (text.new.items ≡ text.old.items ++ flat_map (definition (files_in reader.old)) (listed (line_at layout.now entry.0))) }
     ensures files { reader.new ≡ reader.old }
 {
-    match lines.get(at) {
+    match first_line(layout, entry) {
         None => Ok(()),
         Some(line) => add_definition(alloc, reader, line, text),
     }
 }
 
-// Adds the definitions that begin with the lines of these numbers.
+// Appends the definitions that begin with these entries.
 fn add_each_definition<'n>(
     alloc: Global,
     reader: &mut LineReader<'_, 'n>,
-    lines: &Lines<'n>,
-    definitions: &[usize],
+    layout: &'n Layout,
+    entries: &[EntryId],
     text: &mut Vec<u8>,
 ) -> Result<(), AllocError>
-    ensures text { OnOk result (text.new.items ≡ text.old.items ++ flat_map (definition_at (files_in reader.old) lines.now) definitions.now) }
+    ensures text { OnOk result (text.new.items ≡ text.old.items ++ flat_map (λ e. flat_map (definition (files_in reader.old)) (listed (line_at layout.now e.0))) entries.now) }
     ensures files { reader.new ≡ reader.old }
 {
-    for at in definitions {
-        add_definition_at(alloc, reader, lines, *at, text)?;
+    for entry in entries {
+        add_definition_at(alloc, reader, layout, *entry, text)?;
     }
     Ok(())
 }
 
-// Adds the definitions of a symbol.
+// Appends the definitions of a symbol.
 fn add_definitions<'n>(
     alloc: Global,
     reader: &mut LineReader<'_, 'n>,
-    lines: &Lines<'n>,
+    layout: &'n Layout,
     id: SymId,
     text: &mut Vec<u8>,
 ) -> Result<(), AllocError>
-    ensures text { OnOk result (text.new.items ≡ text.old.items ++ whole.definition_comments (files_in reader.old) lines.now id) }
+    ensures text { OnOk result (text.new.items ≡ text.old.items ++ whole.definition_comments (files_in reader.old) (lines_in layout.now.entries) id) }
     ensures files { reader.new ≡ reader.old }
 {
-    let definitions = lines.definitions_of(alloc, id)?;
-    add_each_definition(alloc, reader, lines, &definitions, text)
+    let definitions = definitions_of(alloc, layout, id)?;
+    add_each_definition(alloc, reader, layout, &definitions, text)
 }
 
-// Adds the symbol's line of the list of new symbols and an empty line.
+// Appends the symbol's line of the list of new symbols and an empty line.
 fn add_line_and_gap(
     solved: &Solved<'_>,
     prefix: &Prefix,
@@ -122,11 +126,11 @@ fn add_line_and_gap(
     text.extend_from_slice(b"\n")
 }
 
-// Adds the symbol with its definitions and an empty line, where it is new.
+// Appends the symbol with its definitions and an empty line, if it is new.
 fn add_new_with_help<'n>(
     alloc: Global,
     reader: &mut LineReader<'_, 'n>,
-    lines: &Lines<'n>,
+    layout: &'n Layout,
     solved: &Solved<'_>,
     prefix: &Prefix,
     id: SymId,
@@ -135,26 +139,26 @@ fn add_new_with_help<'n>(
     requires named { id.0 < length solved.now.tree.names }
     requires mentioned { id.0 < name_count solved.now.tree }
     ensures text { OnOk result (text.new.items ≡ text.old.items
-        ++ new_with_help (files_in reader.old) lines.now solved.now.tree prefix.now (solution_view solved.now) id) }
+        ++ new_with_help (files_in reader.old) (lines_in layout.now.entries) solved.now.tree prefix.now (solution_view solved.now) id) }
     ensures files { reader.new ≡ reader.old }
 {
     if !solved.is_new(id) {
         return Ok(());
     }
-    add_definitions(alloc, reader, lines, id, text)?;
+    add_definitions(alloc, reader, layout, id, text)?;
     add_line_and_gap(solved, prefix, id, text)
 }
 
-/// The list of new symbols, each with its definitions as they are written, as comments before its `.config` line, and an
-/// empty line behind it, in the order of their first definition. (Our own form.) Its only error is to be out of memory.
+/// Returns the list of new symbols in the order of their first definition: for each, its definitions as comments, its `.config`
+/// line, and an empty line. (Our own form.) The only error is that memory runs out.
 pub fn new_text_with_help(
     alloc: Global,
     files: &FileMap,
-    lines: &Lines<'_>,
+    layout: &Layout,
     solved: &Solved<'_>,
     prefix: &Prefix,
 ) -> Result<Vec<u8>, AllocError>
-    ensures { IfOk result (λ t. t.items ≡ whole.new_text_with_help (files_in files.now) lines.now solved.now.tree prefix.now (solution_view solved.now)) }
+    ensures { IfOk result (λ t. t.items ≡ whole.new_text_with_help (files_in files.now) (lines_in layout.now.entries) solved.now.tree prefix.now (solution_view solved.now)) }
 {
     let mut text = Vec::new(alloc);
     let mut reader = LineReader::new(alloc, files);
@@ -163,7 +167,7 @@ pub fn new_text_with_help(
         add_new_with_help(
             alloc,
             &mut reader,
-            lines,
+            layout,
             solved,
             prefix,
             tree.symbol(i),

@@ -1,4 +1,4 @@
-//! What holds a symbol down.
+//! The symbols that hold a symbol down.
 
 ghost use Rattle.std.specs.Prelude.{◌≡◌, ◌++◌, [], ◌∷◌, List, IfOk, OnOk, drop, if◌then◌else◌, is_some, length, map, option_map};
 ghost use Rattle.std.specs.List.{flat_map};
@@ -6,25 +6,28 @@ ghost use Rattle.kc_expr.specs.Form.{form_of};
 ghost use Rattle.kc_expr.specs.PartsOfSymbols.{added};
 ghost use Rattle.kc_language.specs.Explanations as rules;
 ghost use Rattle.kc_language.specs.Expressions.{number_of_text};
-ghost use Rattle.kc_language.specs.Statements.{statements};
 ghost use Rattle.kc_language.specs.Symbols.{same_type};
 ghost use Rattle.kc_explain.specs.Holding as held;
+ghost use Rattle.kc_explain.specs.LineViews.{at_entry, lines_of};
+ghost use Rattle.kc_explain.specs.PartViews as view;
 ghost use Rattle.kc_explain.specs.PartViews.{asked_view, default_said, part_view, prompt_said, range_said};
+ghost use Rattle.kc_explain.specs.PartsOfExplanations as named;
 
-use crate::attributes::condition;
-use crate::lines::Lines;
+use crate::lines::{choice_entry, definitions_of};
 use crate::parts::{
-    Asked, ConditionPart, Said, default_lines, dependency_parts, is_met_default, part_value,
-    prompt_at, range_lines, shown_parts,
+    Asked, ConditionPart, PromptLine, Stated, default_lines, dependency_parts, expression_value,
+    is_met_default, part_value, prompt_at, range_lines, shown_parts,
 };
 use crate::seen::Seen;
 use kc_expr::expression::{Expr, SymId, SymbolType, Tri};
 use kc_expr::values::{Values, symbol_into, symbols_into};
 use kc_language::explanations::Source;
-use kc_read::statement::Prompt;
+use kc_entries::statement::{SymbolDefault, SymbolRange};
 use kc_solve::solved::Solved;
 use kc_text::{has_hex_prefix, read_hex, read_int};
-use kc_tree::rows::{SymbolDefault, SymbolRange};
+use kc_tree::attributes::condition;
+use kc_tree::layout::Layout;
+use kc_tree::rows::EntryId;
 use kc_values::table::name;
 use std::alloc::{AllocError, Global};
 
@@ -37,14 +40,14 @@ fn is_y(value: Tri) -> bool
     matches!(value, Tri::Y)
 }
 
-// Adds the symbols of an expression.
+// Appends the symbols of an expression.
 fn add_form_names(solved: &Solved<'_>, e: &Expr, all: &mut Vec<SymId>) -> Result<(), AllocError>
     ensures { OnOk result (all.new.items ≡ all.old.items ++ held.form_names solved.now (form_of e.now)) }
 {
     symbols_into(e, solved.modules(), all)
 }
 
-// Adds the symbols of what a part asks, if that is an expression.
+// Appends the symbols of a part of a condition, if it is an expression.
 fn add_asked_names(
     solved: &Solved<'_>,
     asks: Asked<'_>,
@@ -58,13 +61,13 @@ fn add_asked_names(
     }
 }
 
-// Adds the symbols of a part that is an expression below y.
+// Appends the symbols of a part that is an expression below y.
 fn add_worth_names(
     solved: &Solved<'_>,
     part: &ConditionPart<'_>,
     all: &mut Vec<SymId>,
 ) -> Result<(), AllocError>
-    ensures { OnOk result (all.new.items ≡ all.old.items ++ held.worth_names solved.now (part_view part.now)) }
+    ensures { OnOk result (all.new.items ≡ all.old.items ++ held.worth_names solved.now (asked_view part.now.asks)) }
 {
     if is_y(part_value(solved, part)) {
         Ok(())
@@ -73,13 +76,13 @@ fn add_worth_names(
     }
 }
 
-// Adds those of all parts that are expressions.
+// Appends the symbols of all parts that are expressions below y.
 fn add_all_worth_names(
     solved: &Solved<'_>,
     parts: &[ConditionPart<'_>],
     all: &mut Vec<SymId>,
 ) -> Result<(), AllocError>
-    ensures { OnOk result (all.new.items ≡ all.old.items ++ flat_map (held.worth_names solved.now) (map part_view parts.now)) }
+    ensures { OnOk result (all.new.items ≡ all.old.items ++ held.all_worth_names solved.now (map part_view parts.now)) }
 {
     for part in parts {
         add_worth_names(solved, part, all)?;
@@ -89,256 +92,250 @@ fn add_all_worth_names(
 
 // ---- choices
 
-// Adds what holds the prompt of a choice down, if there is one.
+// Appends what holds down the mode of the choice that begins with an entry, which has this prompt.
 fn add_shown_worth(
     alloc: Global,
-    lines: &Lines<'_>,
+    layout: &Layout,
     solved: &Solved<'_>,
-    prompt: Option<Said<'_, Prompt>>,
+    entry: EntryId,
+    prompt: &PromptLine<'_>,
     all: &mut Vec<SymId>,
 ) -> Result<(), AllocError>
-    ensures { OnOk result (all.new.items ≡ all.old.items ++ held.shown_worth lines.now solved.now (option_map prompt_said prompt.entry)) }
+    ensures { OnOk result (all.new.items ≡ all.old.items
+        ++ held.all_worth_names solved.now (at_entry layout.now (named.menus_parts (lines_of layout.now)) entry ++ view.worth_parts (prompt_said prompt.now).line ((prompt_said prompt.now).what).when)) }
 {
-    match prompt {
-        Some(prompt) => {
-            let shown = shown_parts(alloc, lines, &prompt)?;
-            add_all_worth_names(solved, &shown, all)
-        }
+    let shown = shown_parts(alloc, layout, entry, prompt)?;
+    add_all_worth_names(solved, &shown, all)
+}
+
+// Appends what holds down the mode of the choice that begins with an entry.
+fn add_choice_names(
+    alloc: Global,
+    layout: &Layout,
+    solved: &Solved<'_>,
+    entry: EntryId,
+    all: &mut Vec<SymId>,
+) -> Result<(), AllocError>
+    ensures { OnOk result (all.new.items ≡ all.old.items ++ at_entry layout.now (rules.choice_names (lines_of layout.now) solved.now) entry) }
+{
+    let parts = dependency_parts(alloc, layout, entry)?;
+    add_all_worth_names(solved, &parts, all)?;
+    match prompt_at(layout, entry) {
+        Some(prompt) => add_shown_worth(alloc, layout, solved, entry, &prompt, all),
         None => Ok(()),
     }
 }
 
-// Adds what holds the mode of the choice down that begins with a line.
-#[tactic(auto, using(crate::proofs::HoldingLemmas::listed_is))]
-fn add_choice_names(
+// Appends what holds down the mode of the choice with this number.
+fn add_mode_names(
     alloc: Global,
-    lines: &Lines<'_>,
+    layout: &Layout,
     solved: &Solved<'_>,
-    entry: usize,
+    choice: usize,
     all: &mut Vec<SymId>,
 ) -> Result<(), AllocError>
-    ensures { OnOk result (all.new.items ≡ all.old.items ++ rules.choice_names lines.now solved.now entry) }
+    ensures { OnOk result (all.new.items ≡ all.old.items ++ held.asked_part_names (lines_of layout.now) solved.now (rules.ModeOf choice)) }
 {
-    let parts = dependency_parts(alloc, lines, entry)?;
-    add_all_worth_names(solved, &parts, all)?;
-    let prompt = prompt_at(alloc, lines, entry)?;
-    add_shown_worth(alloc, lines, solved, prompt, all)
-}
-
-// Adds what holds a choice down, if there is one.
-fn add_entry_names(
-    alloc: Global,
-    lines: &Lines<'_>,
-    solved: &Solved<'_>,
-    entry: Option<usize>,
-    all: &mut Vec<SymId>,
-) -> Result<(), AllocError>
-    ensures { OnOk result (all.new.items ≡ all.old.items ++ held.entry_names lines.now solved.now entry) }
-{
-    match entry {
-        Some(entry) => add_choice_names(alloc, lines, solved, entry, all),
+    match choice_entry(layout, choice) {
+        Some(entry) => add_choice_names(alloc, layout, solved, entry, all),
         None => Ok(()),
     }
 }
 
 // ---- dependencies and prompts
 
-// Adds the symbols of what a part asks, or what holds its choice down.
+// Appends the symbols of a part of a condition. For the mode of a choice, appends what holds it down.
 fn add_asked_part_names(
     alloc: Global,
-    lines: &Lines<'_>,
+    layout: &Layout,
     solved: &Solved<'_>,
     asks: Asked<'_>,
     all: &mut Vec<SymId>,
 ) -> Result<(), AllocError>
-    ensures { OnOk result (all.new.items ≡ all.old.items ++ held.asked_part_names lines.now solved.now (asked_view asks.entry)) }
+    ensures { OnOk result (all.new.items ≡ all.old.items ++ held.asked_part_names (lines_of layout.now) solved.now (asked_view asks.entry)) }
 {
     match asks {
         Asked::Worth(e) => add_form_names(solved, e, all),
-        Asked::ModeOf(choice) => {
-            add_entry_names(alloc, lines, solved, lines.choice_entry(choice), all)
-        }
+        Asked::ModeOf(choice) => add_mode_names(alloc, layout, solved, choice, all),
     }
 }
 
-// Adds what holds a part down.
+// Appends what holds a part down.
 fn add_part_names(
     alloc: Global,
-    lines: &Lines<'_>,
+    layout: &Layout,
     solved: &Solved<'_>,
     part: &ConditionPart<'_>,
     all: &mut Vec<SymId>,
 ) -> Result<(), AllocError>
-    ensures { OnOk result (all.new.items ≡ all.old.items ++ rules.part_names lines.now solved.now (part_view part.now)) }
+    ensures { OnOk result (all.new.items ≡ all.old.items ++ held.part_names (lines_of layout.now) solved.now (asked_view part.now.asks)) }
 {
     if is_y(part_value(solved, part)) {
         Ok(())
     } else {
-        add_asked_part_names(alloc, lines, solved, part.asks, all)
+        add_asked_part_names(alloc, layout, solved, part.asks, all)
     }
 }
 
-// Adds what holds these parts down.
+// Appends what holds these parts down.
 fn add_all_part_names(
     alloc: Global,
-    lines: &Lines<'_>,
+    layout: &Layout,
     solved: &Solved<'_>,
     parts: &[ConditionPart<'_>],
     all: &mut Vec<SymId>,
 ) -> Result<(), AllocError>
-    ensures { OnOk result (all.new.items ≡ all.old.items ++ flat_map (rules.part_names lines.now solved.now) (map part_view parts.now)) }
+    ensures { OnOk result (all.new.items ≡ all.old.items ++ held.all_part_names (lines_of layout.now) solved.now (map part_view parts.now)) }
 {
     for part in parts {
-        add_part_names(alloc, lines, solved, part, all)?;
+        add_part_names(alloc, layout, solved, part, all)?;
     }
     Ok(())
 }
 
-// Adds what holds the dependency of an entry down.
+// Appends what holds the dependency of an entry down.
 fn add_dependency_names(
     alloc: Global,
-    lines: &Lines<'_>,
+    layout: &Layout,
     solved: &Solved<'_>,
-    entry: usize,
+    entry: EntryId,
     all: &mut Vec<SymId>,
 ) -> Result<(), AllocError>
-    ensures { OnOk result (all.new.items ≡ all.old.items ++ held.dependency_names lines.now solved.now entry) }
+    ensures { OnOk result (all.new.items ≡ all.old.items ++ at_entry layout.now (held.dependency_names (lines_of layout.now) solved.now) entry) }
 {
-    let parts = dependency_parts(alloc, lines, entry)?;
-    add_all_part_names(alloc, lines, solved, &parts, all)
+    let parts = dependency_parts(alloc, layout, entry)?;
+    add_all_part_names(alloc, layout, solved, &parts, all)
 }
 
-// Adds what holds the dependencies of these entries down.
+// Appends what holds the dependencies of these entries down.
 fn add_all_dependency_names(
     alloc: Global,
-    lines: &Lines<'_>,
+    layout: &Layout,
     solved: &Solved<'_>,
-    entries: &[usize],
+    entries: &[EntryId],
     all: &mut Vec<SymId>,
 ) -> Result<(), AllocError>
-    ensures { OnOk result (all.new.items ≡ all.old.items ++ flat_map (held.dependency_names lines.now solved.now) entries.now) }
+    ensures { OnOk result (all.new.items ≡ all.old.items
+        ++ flat_map (at_entry layout.now (held.dependency_names (lines_of layout.now) solved.now)) entries.now) }
 {
     for entry in entries {
-        add_dependency_names(alloc, lines, solved, *entry, all)?;
+        add_dependency_names(alloc, layout, solved, *entry, all)?;
     }
     Ok(())
 }
 
-// Adds what holds a prompt down, if there is one.
+// Appends what holds this prompt of an entry down.
 fn add_shown_names(
     alloc: Global,
-    lines: &Lines<'_>,
+    layout: &Layout,
     solved: &Solved<'_>,
-    prompt: Option<Said<'_, Prompt>>,
+    entry: EntryId,
+    prompt: &PromptLine<'_>,
     all: &mut Vec<SymId>,
 ) -> Result<(), AllocError>
-    ensures { OnOk result (all.new.items ≡ all.old.items ++ held.shown_names lines.now solved.now (option_map prompt_said prompt.entry)) }
+    ensures { OnOk result (all.new.items ≡ all.old.items
+        ++ held.all_part_names (lines_of layout.now) solved.now (at_entry layout.now (named.menus_parts (lines_of layout.now)) entry ++ view.worth_parts (prompt_said prompt.now).line ((prompt_said prompt.now).what).when)) }
 {
-    match prompt {
-        Some(prompt) => {
-            let shown = shown_parts(alloc, lines, &prompt)?;
-            add_all_part_names(alloc, lines, solved, &shown, all)
-        }
+    let shown = shown_parts(alloc, layout, entry, prompt)?;
+    add_all_part_names(alloc, layout, solved, &shown, all)
+}
+
+// Appends what holds the prompt of an entry down.
+fn add_prompt_names(
+    alloc: Global,
+    layout: &Layout,
+    solved: &Solved<'_>,
+    entry: EntryId,
+    all: &mut Vec<SymId>,
+) -> Result<(), AllocError>
+    ensures { OnOk result (all.new.items ≡ all.old.items ++ at_entry layout.now (λ i. held.prompt_names (lines_of layout.now) solved.now (i ∷ [])) entry) }
+{
+    match prompt_at(layout, entry) {
+        Some(prompt) => add_shown_names(alloc, layout, solved, entry, &prompt, all),
         None => Ok(()),
     }
 }
 
-// Adds what holds the prompt of an entry down.
-#[tactic(auto, using(crate::proofs::HoldingLemmas::listed_is))]
-fn add_prompt_names(
-    alloc: Global,
-    lines: &Lines<'_>,
-    solved: &Solved<'_>,
-    entry: usize,
-    all: &mut Vec<SymId>,
-) -> Result<(), AllocError>
-    ensures { OnOk result (all.new.items ≡ all.old.items ++ held.prompt_names lines.now solved.now (entry ∷ [])) }
-{
-    let prompt = prompt_at(alloc, lines, entry)?;
-    add_shown_names(alloc, lines, solved, prompt, all)
-}
-
-// Adds what holds the prompts of these entries down.
+// Appends what holds the prompts of these entries down.
 fn add_all_prompt_names(
     alloc: Global,
-    lines: &Lines<'_>,
+    layout: &Layout,
     solved: &Solved<'_>,
-    entries: &[usize],
+    entries: &[EntryId],
     all: &mut Vec<SymId>,
 ) -> Result<(), AllocError>
-    ensures { OnOk result (all.new.items ≡ all.old.items ++ held.prompt_names lines.now solved.now entries.now) }
+    ensures { OnOk result (all.new.items ≡ all.old.items
+        ++ flat_map (at_entry layout.now (λ i. held.prompt_names (lines_of layout.now) solved.now (i ∷ []))) entries.now) }
 {
     for entry in entries {
-        add_prompt_names(alloc, lines, solved, *entry, all)?;
+        add_prompt_names(alloc, layout, solved, *entry, all)?;
     }
     Ok(())
 }
 
 // ---- defaults and ranges
 
-// Adds the symbols of the own condition of a line, if it is below y.
+// Appends the symbols of a line's own condition, if it is below y.
 fn add_when_names(
     solved: &Solved<'_>,
-    at: usize,
     when: Option<&Expr>,
     all: &mut Vec<SymId>,
 ) -> Result<(), AllocError>
-    ensures { OnOk result (all.new.items ≡ all.old.items ++ held.when_names solved.now at (option_map (λ e. form_of e.now) when.entry)) }
+    ensures { OnOk result (all.new.items ≡ all.old.items ++ held.when_names solved.now (option_map (λ e. form_of e.now) when.entry)) }
 {
     match when {
         Some(e) => {
-            let asks = Asked::Worth(e);
-            add_worth_names(solved, &ConditionPart { at, asks }, all)
+            if is_y(expression_value(solved, e)) {
+                Ok(())
+            } else {
+                add_form_names(solved, e, all)
+            }
         }
         None => Ok(()),
     }
 }
 
-// Adds what holds a default down, and the symbols of its value if it applied.
+// Appends what holds a default down, and the symbols of its value if the default applied.
 fn add_default_names(
-    alloc: Global,
-    lines: &Lines<'_>,
     solved: &Solved<'_>,
-    default: &Said<'_, SymbolDefault>,
+    default: &Stated<'_, SymbolDefault>,
     all: &mut Vec<SymId>,
 ) -> Result<(), AllocError>
-    ensures { OnOk result (all.new.items ≡ all.old.items ++ rules.default_names lines.now solved.now (default_said default.now)) }
+    ensures { OnOk result (all.new.items ≡ all.old.items ++ held.default_names solved.now (default_said default.now)) }
 {
-    add_when_names(solved, default.at, condition(&default.what.when), all)?;
-    if is_met_default(alloc, lines, solved, default)? {
+    add_when_names(solved, condition(&default.what.when), all)?;
+    if is_met_default(solved, default) {
         add_form_names(solved, &default.what.value, all)
     } else {
         Ok(())
     }
 }
 
-// Adds those of these defaults.
+// Appends the same for each of these defaults.
 fn add_all_default_names(
-    alloc: Global,
-    lines: &Lines<'_>,
     solved: &Solved<'_>,
-    defaults: &[Said<'_, SymbolDefault>],
+    defaults: &[Stated<'_, SymbolDefault>],
     all: &mut Vec<SymId>,
 ) -> Result<(), AllocError>
-    ensures { OnOk result (all.new.items ≡ all.old.items ++ flat_map (rules.default_names lines.now solved.now) (map default_said defaults.now)) }
+    ensures { OnOk result (all.new.items ≡ all.old.items ++ flat_map (held.default_names solved.now) (map default_said defaults.now)) }
 {
     for default in defaults {
-        add_default_names(alloc, lines, solved, default, all)?;
+        add_default_names(solved, default, all)?;
     }
     Ok(())
 }
 
-// Adds the symbols that are bounds of a range.
-fn add_bound_names(range: &Said<'_, SymbolRange>, all: &mut Vec<SymId>) -> Result<(), AllocError>
+// Appends the bounds of a range that are symbols.
+fn add_bound_names(range: &Stated<'_, SymbolRange>, all: &mut Vec<SymId>) -> Result<(), AllocError>
     ensures { OnOk result (all.new.items ≡ all.old.items ++ held.bound_names (range_said range.now)) }
 {
     symbol_into(&range.what.low, all)?;
     symbol_into(&range.what.high, all)
 }
 
-// Adds those of these ranges.
+// Appends the same for each of these ranges.
 fn add_all_bound_names(
-    ranges: &[Said<'_, SymbolRange>],
+    ranges: &[Stated<'_, SymbolRange>],
     all: &mut Vec<SymId>,
 ) -> Result<(), AllocError>
     ensures { OnOk result (all.new.items ≡ all.old.items ++ flat_map held.bound_names (map range_said ranges.now)) }
@@ -349,19 +346,19 @@ fn add_all_bound_names(
     Ok(())
 }
 
-// Adds those of the defaults of a symbol up to the one that applied, and of its ranges up to the active one.
+// Appends the same for the defaults of a symbol up to the one that applied, and for its ranges up to the active one.
 fn add_stated_names(
     alloc: Global,
-    lines: &Lines<'_>,
+    layout: &Layout,
     solved: &Solved<'_>,
     id: SymId,
     all: &mut Vec<SymId>,
 ) -> Result<(), AllocError>
-    ensures { OnOk result (all.new.items ≡ all.old.items ++ held.stated_names lines.now solved.now id) }
+    ensures { OnOk result (all.new.items ≡ all.old.items ++ held.stated_names (lines_of layout.now) solved.now id) }
 {
-    let defaults = default_lines(alloc, lines, solved, id)?;
-    add_all_default_names(alloc, lines, solved, &defaults, all)?;
-    let ranges = range_lines(alloc, lines, solved, id)?;
+    let defaults = default_lines(alloc, layout, solved, id)?;
+    add_all_default_names(solved, &defaults, all)?;
+    let ranges = range_lines(alloc, layout, solved, id)?;
     add_all_bound_names(&ranges, all)
 }
 
@@ -377,7 +374,7 @@ fn is_by_default(source: Source) -> bool
     )
 }
 
-// Whether the defaults of a symbol decide its value; a symbol that the tree does not have has none.
+// Whether the defaults of a symbol decide its value. Of a symbol that the tree does not have, they do not.
 fn has_default_source(solved: &Solved<'_>, id: SymId) -> bool
     ensures { result ≡ rules.is_by_default (rules.source solved.now id) }
 {
@@ -388,43 +385,57 @@ fn has_default_source(solved: &Solved<'_>, id: SymId) -> bool
     }
 }
 
-// Adds the symbols that hold a symbol down.
-fn add_holders(
+// Adds the symbols that hold a symbol down that these entries define.
+fn add_holders_of(
     alloc: Global,
-    lines: &Lines<'_>,
+    layout: &Layout,
     solved: &Solved<'_>,
+    entries: &[EntryId],
     id: SymId,
     all: &mut Vec<SymId>,
 ) -> Result<(), AllocError>
-    ensures { OnOk result (all.new.items ≡ all.old.items ++ rules.holders lines.now solved.now id) }
+    ensures { OnOk result (all.new.items ≡ all.old.items ++ held.holders_of layout.now solved.now entries.now id) }
 {
-    let entries = lines.definitions_of(alloc, id)?;
-    add_all_dependency_names(alloc, lines, solved, &entries, all)?;
-    add_all_prompt_names(alloc, lines, solved, &entries, all)?;
+    add_all_dependency_names(alloc, layout, solved, entries, all)?;
+    add_all_prompt_names(alloc, layout, solved, entries, all)?;
     if has_default_source(solved, id) {
-        add_stated_names(alloc, lines, solved, id, all)
+        add_stated_names(alloc, layout, solved, id, all)
     } else {
         Ok(())
     }
 }
 
-// Adds the symbols that hold these down.
+// Adds the symbols that hold a symbol down.
+fn add_holders(
+    alloc: Global,
+    layout: &Layout,
+    solved: &Solved<'_>,
+    id: SymId,
+    all: &mut Vec<SymId>,
+) -> Result<(), AllocError>
+    ensures { OnOk result (all.new.items ≡ all.old.items ++ rules.holders (lines_of layout.now) solved.now id) }
+{
+    let entries = definitions_of(alloc, layout, id)?;
+    add_holders_of(alloc, layout, solved, &entries, id, all)
+}
+
+// Appends the symbols that hold these symbols down.
 fn add_all_holders(
     alloc: Global,
-    lines: &Lines<'_>,
+    layout: &Layout,
     solved: &Solved<'_>,
     front: &[SymId],
     all: &mut Vec<SymId>,
 ) -> Result<(), AllocError>
-    ensures { OnOk result (all.new.items ≡ all.old.items ++ flat_map (rules.holders lines.now solved.now) front.now) }
+    ensures { OnOk result (all.new.items ≡ all.old.items ++ flat_map (rules.holders (lines_of layout.now) solved.now) front.now) }
 {
     for id in front {
-        add_holders(alloc, lines, solved, *id, all)?;
+        add_holders(alloc, layout, solved, *id, all)?;
     }
     Ok(())
 }
 
-// ---- what is reached
+// ---- the symbols that are reached
 
 // Whether a text is a number.
 fn is_number(text: &[u8]) -> bool
@@ -437,21 +448,21 @@ fn is_number(text: &[u8]) -> bool
     }
 }
 
-// Whether this is no type.
+// Whether a symbol of this type has no type.
 fn is_untyped(symbol_type: SymbolType) -> bool
     ensures { result ≡ same_type symbol_type SymbolType.Undefined }
 {
     matches!(symbol_type, SymbolType::Undefined)
 }
 
-// Whether a symbol is a word that is a number.
+// Whether the name of a symbol without a type is a number.
 fn is_number_word(solved: &Solved<'_>, id: SymId) -> bool
     ensures { result ≡ held.is_number_word solved.now id }
 {
     is_untyped(solved.symbol_type(id)) && is_number(name(solved.tree(), id))
 }
 
-// Adds a symbol to those that were reached, and to the next ones if it is new.
+// Adds a symbol to those reached, and to the next ones if it is new.
 fn add_new(id: SymId, seen: &mut Seen, next: &mut Vec<SymId>) -> Result<(), AllocError>
     ensures seen { OnOk result (seen.new ≡ added seen.old id) }
     ensures next { (before : List SymId) → seen.old ≡ before ++ next.old.items → OnOk result (seen.new ≡ before ++ next.new.items) }
@@ -462,7 +473,7 @@ fn add_new(id: SymId, seen: &mut Seen, next: &mut Vec<SymId>) -> Result<(), Allo
     Ok(())
 }
 
-// The same, unless it is a word that is a number.
+// The same, unless its name is a number.
 fn add_one(
     solved: &Solved<'_>,
     id: SymId,
@@ -479,7 +490,7 @@ fn add_one(
     }
 }
 
-// Adds these symbols, those that are words of numbers left out, to those that were reached, and to the next ones if they are new.
+// Adds these symbols, except those whose names are numbers, to those reached, and the new ones to the next ones.
 fn add_all(
     solved: &Solved<'_>,
     found: &[SymId],
@@ -495,35 +506,35 @@ fn add_all(
     Ok(())
 }
 
-// The symbols that are reached in one step more.
+// Returns the symbols that one more step reaches.
 fn step(
     alloc: Global,
-    lines: &Lines<'_>,
+    layout: &Layout,
     solved: &Solved<'_>,
     front: &[SymId],
     seen: &mut Seen,
 ) -> Result<Vec<SymId>, AllocError>
-    ensures seen { OnOk result (seen.new ≡ held.wider lines.now solved.now seen.old front.now) }
+    ensures seen { OnOk result (seen.new ≡ held.wider (lines_of layout.now) solved.now seen.old front.now) }
     ensures next { IfOk result (λ next. seen.new ≡ seen.old ++ next.items) }
 {
     let mut found = Vec::new(alloc);
-    add_all_holders(alloc, lines, solved, front, &mut found)?;
+    add_all_holders(alloc, layout, solved, front, &mut found)?;
     let mut next = Vec::new(alloc);
     add_all(solved, &found, seen, &mut next)?;
     Ok(next)
 }
 
-// Adds what is reached in so many steps more.
+// Adds the symbols that `depth` more steps reach.
 #[tactic(auto, using(crate::proofs::HoldingLemmas::reached_next, crate::proofs::HoldingLemmas::reached_stops))]
 fn reach(
     alloc: Global,
-    lines: &Lines<'_>,
+    layout: &Layout,
     solved: &Solved<'_>,
     depth: usize,
     first: Vec<SymId>,
     seen: &mut Seen,
 ) -> Result<(), AllocError>
-    ensures { OnOk result (seen.new ≡ rules.reached lines.now solved.now depth seen.old first.items) }
+    ensures { OnOk result (seen.new ≡ rules.reached (lines_of layout.now) solved.now depth seen.old first.items) }
 {
     let mut front = first;
     let mut left = depth;
@@ -531,27 +542,27 @@ fn reach(
         if front.is_empty() {
             return Ok(());
         }
-        front = step(alloc, lines, solved, &front, seen)?;
+        front = step(alloc, layout, solved, &front, seen)?;
         left -= 1;
     }
     Ok(())
 }
 
-/// The symbol, and then those that hold it down in so many steps, each once, the nearer ones first. Its only error is to be
-/// out of memory.
+/// Returns the symbol, and then those that hold it down in `depth` steps, each once, the nearer ones first. The only error is
+/// that memory runs out.
 pub(crate) fn reached(
     alloc: Global,
-    lines: &Lines<'_>,
+    layout: &Layout,
     solved: &Solved<'_>,
     depth: usize,
     id: SymId,
 ) -> Result<Seen, AllocError>
-    ensures { IfOk result (λ all. all ≡ rules.reached lines.now solved.now depth (id ∷ []) (id ∷ [])) }
+    ensures { IfOk result (λ all. all ≡ rules.reached (lines_of layout.now) solved.now depth (id ∷ []) (id ∷ [])) }
 {
     let mut seen = Seen::new(alloc);
     seen.add(id)?;
     let mut front = Vec::new(alloc);
     front.push(id)?;
-    reach(alloc, lines, solved, depth, front, &mut seen)?;
+    reach(alloc, layout, solved, depth, front, &mut seen)?;
     Ok(seen)
 }

@@ -1,26 +1,21 @@
 #![tactic(auto)]
 //! Why a symbol has its value, and how it is defined.
 //!
-//! - [`Lines`]: the lines of a tree, with what stands where.
-//! - [`add_explanation`]: the lines that explain a symbol.
+//! - [`add_explanation`]: appends the lines that explain a symbol.
 //! - [`new_text_with_help`]: the list of new symbols with their definitions as they are written.
 //! - [`asked_symbol`], [`near_text`]: the symbol of a name, and names that differ from one by one letter ([`differs_by_one`]).
 
-mod attributes;
-mod blocks;
 pub mod excerpt;
 mod holders;
 pub mod laws;
 mod line_text;
-pub mod lines;
+mod lines;
 pub mod names;
 mod parts;
-mod said;
 mod seen;
 mod source_lines;
 pub mod text;
 
 pub use excerpt::new_text_with_help;
-pub use lines::Lines;
 pub use names::{asked_symbol, differs_by_one, near_text};
 pub use text::add_explanation;

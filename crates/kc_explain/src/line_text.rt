@@ -1,6 +1,6 @@
-//! One line of an explanation each.
+//! Each line of an explanation.
 
-ghost use Rattle.std.specs.Prelude.{◌≡◌, ◌++◌, [], ◌∷◌, OnOk, IfOk, codes, decimal, map, option_map};
+ghost use Rattle.std.specs.Prelude.{◌≡◌, ◌++◌, [], ◌∷◌, OnOk, IfOk, Some, codes, decimal, map, option_map};
 ghost use Rattle.std.specs.List.{flat_map};
 ghost use Rattle.kc_expr.specs.Form.{form_of, leaf_of};
 ghost use Rattle.kc_expr.specs.Value.{value_by_type};
@@ -10,42 +10,46 @@ ghost use Rattle.kc_language.specs.Expressions.{lesser, truth_of_value};
 ghost use Rattle.kc_language.specs.Symbols.{holds_text, listed};
 ghost use Rattle.kc_language.specs.Texts.{known};
 ghost use Rattle.kc_language.specs.Values.{given_of};
+ghost use Rattle.kc_tree.specs.LaidTrees.{layout-prop};
+ghost use Rattle.kc_tree.specs.Layouts.{IsLayoutOf};
 ghost use Rattle.kc_values.specs.Small.{HasSmallBounds};
 ghost use Rattle.kc_config_file.specs.ShownView.{given_by};
-ghost use Rattle.kc_explain.specs.LineViews.{line_view, said_by, target_at_view};
+ghost use Rattle.kc_explain.specs.LineViews.{line_view, lines_of, said_by, source_at, target_view};
+ghost use Rattle.kc_explain.specs.PartViews as view;
 ghost use Rattle.kc_explain.specs.PartViews.{asked_view, default_said, part_view, range_said};
 ghost use Rattle.kc_explain.specs.Told as spec;
 ghost use Rattle.kc_explain.specs.Told.{led};
 
-use crate::attributes::condition;
-use crate::lines::{Line, LineStatement, Lines, TargetAt};
-use crate::parts::{Asked, ConditionPart, Said, is_met_default, line_value, part_value};
+use crate::lines::{Line, LineStatement, TargetAt};
+use crate::parts::{Asked, ConditionPart, Stated, dependency_value, is_met_default, part_value, value_under};
 use itoa::Buffer;
 use kc_config_file::shown::{ShownValue, add_value};
 use kc_expr::expression::{Expr, Operand, SymId, SymbolType, Tri};
 use kc_expr::text::{add_expression, add_operand};
 use kc_expr::values::{Values, eval, lesser, tri_text, truth_of};
 use kc_language::values::Interval;
-use kc_read::statement::Attribute;
+use kc_entries::statement::{Attribute, SymbolDefault, SymbolRange};
 use kc_solve::solved::Solved;
-use kc_tree::rows::{SymbolDefault, SymbolRange};
+use kc_tree::attributes::condition;
+use kc_tree::layout::Layout;
 use kc_values::numbers::number_text;
 use kc_values::table::name;
 use kc_values::texts::single_text;
 use std::alloc::{AllocError, Global};
 use std::rc::Rc;
 
-/// What lines are told of: the lines of a tree and its solution; whether strings are told raw, without escapes; and what each
-/// line that is told begins with.
+/// What the lines of an explanation are printed from: the layout of a tree and its solution; whether strings are printed raw,
+/// without escapes; and the lead with which each line begins.
 #[derive(Drop)]
-pub(crate) struct Teller<'t, 'l, 's> {
-    pub lines: &'t Lines<'l>,
+pub(crate) struct Teller<'t, 's> {
+    pub layout: &'t Layout,
     pub solved: &'t Solved<'s>,
     pub is_raw: bool,
     pub lead: &'t [u8],
+    ghost laid: { IsLayoutOf solved.now.tree layout.now } by { layout-prop solved.now.tree layout.now },
 }
 
-// Adds a number.
+// Appends a number.
 fn add_number(number: u64, text: &mut Vec<u8>) -> Result<(), AllocError>
     ensures { OnOk result (text.new.items ≡ text.old.items ++ decimal number) }
 {
@@ -53,7 +57,7 @@ fn add_number(number: u64, text: &mut Vec<u8>) -> Result<(), AllocError>
     text.extend_from_slice(buffer.format(number).as_bytes())
 }
 
-// Adds a stream or file and the number of a line in it.
+// Appends the name of a file or input file, and a line number.
 pub(crate) fn add_place(file: &[u8], number: u64, text: &mut Vec<u8>) -> Result<(), AllocError>
     ensures { OnOk result (text.new.items ≡ text.old.items ++ (file.now ++ codes ":" ++ decimal number ++ codes ": ")) }
 {
@@ -63,21 +67,11 @@ pub(crate) fn add_place(file: &[u8], number: u64, text: &mut Vec<u8>) -> Result<
     text.extend_from_slice(b": ")
 }
 
-// Adds where a line stands.
-fn add_location_of(line: Option<Line<'_>>, text: &mut Vec<u8>) -> Result<(), AllocError>
-    ensures { OnOk result (text.new.items ≡ text.old.items ++ spec.location_of (option_map line_view line.entry)) }
+// Appends the location of a line.
+fn add_location(line: Line<'_>, text: &mut Vec<u8>) -> Result<(), AllocError>
+    ensures { OnOk result (text.new.items ≡ text.old.items ++ spec.location_of (Some (line_view line.entry))) }
 {
-    match line {
-        None => Ok(()),
-        Some(line) => add_place(line.file, line.number as u64, text),
-    }
-}
-
-// Adds where the line with a number stands.
-fn add_location(t: &Teller<'_, '_, '_>, i: usize, text: &mut Vec<u8>) -> Result<(), AllocError>
-    ensures { OnOk result (text.new.items ≡ text.old.items ++ rules.location t.now.lines.now t.now.solved.now i) }
-{
-    add_location_of(t.lines.get(i), text)
+    add_place(line.file, line.number as u64, text)
 }
 
 // ---- values
@@ -102,9 +96,9 @@ fn shown_value<'a>(solved: &'a Solved<'_>, id: SymId) -> ShownValue<'a>
     shown_by(solved.symbol_type(id), solved.tri(id), solved.text(id))
 }
 
-// Adds a symbol's name.
+// Appends a symbol's name.
 pub(crate) fn add_name(
-    t: &Teller<'_, '_, '_>,
+    t: &Teller<'_, '_>,
     id: SymId,
     text: &mut Vec<u8>,
 ) -> Result<(), AllocError>
@@ -113,13 +107,13 @@ pub(crate) fn add_name(
     text.extend_from_slice(name(t.solved.tree(), id))
 }
 
-// Adds a symbol with its value.
+// Appends a symbol with its value.
 pub(crate) fn add_worth(
-    t: &Teller<'_, '_, '_>,
+    t: &Teller<'_, '_>,
     id: SymId,
     text: &mut Vec<u8>,
 ) -> Result<(), AllocError>
-    ensures { OnOk result (text.new.items ≡ text.old.items ++ rules.worth_of t.now.lines.now t.now.solved.now t.now.is_raw id) }
+    ensures { OnOk result (text.new.items ≡ text.old.items ++ spec.worth_of t.now.solved.now t.now.is_raw id) }
 {
     add_name(t, id, text)?;
     text.extend_from_slice(b"=")?;
@@ -131,7 +125,7 @@ pub(crate) fn add_worth(
     )
 }
 
-// Adds a value behind a line, and the end of the line.
+// Appends a value to a line, and ends the line.
 fn add_ending(value: Tri, text: &mut Vec<u8>) -> Result<(), AllocError>
     ensures { OnOk result (text.new.items ≡ text.old.items ++ rules.ending value) }
 {
@@ -141,20 +135,20 @@ fn add_ending(value: Tri, text: &mut Vec<u8>) -> Result<(), AllocError>
 
 // ---- expressions
 
-// Adds the text of an expression.
-fn add_form(t: &Teller<'_, '_, '_>, e: &Expr, text: &mut Vec<u8>) -> Result<(), AllocError>
+// Appends the text of an expression.
+fn add_form(t: &Teller<'_, '_>, e: &Expr, text: &mut Vec<u8>) -> Result<(), AllocError>
     ensures { OnOk result (text.new.items ≡ text.old.items ++ spec.form_text t.now.solved.now (form_of e.now)) }
 {
     add_expression(e, t.solved.tree().names(), text)
 }
 
-// Adds the condition of a line, if it has one.
+// Appends the condition of a line, if it has one.
 fn add_if(
-    t: &Teller<'_, '_, '_>,
+    t: &Teller<'_, '_>,
     when: &Option<Rc<Expr>>,
     text: &mut Vec<u8>,
 ) -> Result<(), AllocError>
-    ensures { OnOk result (text.new.items ≡ text.old.items ++ rules.if_text t.now.lines.now t.now.solved.now (when_view when.now)) }
+    ensures { OnOk result (text.new.items ≡ text.old.items ++ spec.if_text t.now.solved.now (when_view when.now)) }
 {
     match when {
         None => Ok(()),
@@ -167,7 +161,7 @@ fn add_if(
 
 // ---- conditions
 
-// The word of a line that asks for an expression.
+// The keyword before the expression of a line.
 fn word_of(statement: LineStatement<'_>) -> &'static [u8]
     ensures { result.now ≡ spec.word_of (said_by statement.entry) }
 {
@@ -178,57 +172,47 @@ fn word_of(statement: LineStatement<'_>) -> &'static [u8]
     }
 }
 
-// The same of the line with a number.
-fn word_at(t: &Teller<'_, '_, '_>, i: usize) -> &'static [u8]
-    ensures { result.now ≡ rules.word_at t.now.lines.now t.now.solved.now i }
-{
-    match t.lines.get(i) {
-        Some(line) => word_of(line.statement),
-        None => b"if ",
-    }
-}
-
-// Adds what a part of a condition asks.
+// Appends the content of a part of a condition.
 fn add_asked(
-    t: &Teller<'_, '_, '_>,
+    t: &Teller<'_, '_>,
     part: &ConditionPart<'_>,
     text: &mut Vec<u8>,
 ) -> Result<(), AllocError>
-    ensures { OnOk result (text.new.items ≡ text.old.items ++ spec.asked_text t.now.lines.now t.now.solved.now part.now.at (asked_view part.now.asks)) }
+    ensures { OnOk result (text.new.items ≡ text.old.items ++ spec.asked_text t.now.solved.now (Some (line_view part.now.line)) (asked_view part.now.asks)) }
 {
     match part.asks {
         Asked::Worth(e) => {
-            text.extend_from_slice(word_at(t, part.at))?;
+            text.extend_from_slice(word_of(part.line.statement))?;
             add_form(t, e, text)
         }
         Asked::ModeOf(_) => text.extend_from_slice(b"choice"),
     }
 }
 
-// Adds the line of a part of a condition.
+// Appends the line of a part of a condition.
 fn add_part(
-    t: &Teller<'_, '_, '_>,
+    t: &Teller<'_, '_>,
     part: &ConditionPart<'_>,
     text: &mut Vec<u8>,
 ) -> Result<(), AllocError>
-    ensures { OnOk result (text.new.items ≡ text.old.items ++ led t.now.lead.now (rules.part_text t.now.lines.now t.now.solved.now (part_view part.now) ∷ [])) }
+    ensures { OnOk result (text.new.items ≡ text.old.items ++ led t.now.lead.now (spec.part_text t.now.solved.now (part_view part.now) ∷ [])) }
 {
     text.extend_from_slice(t.lead)?;
     text.extend_from_slice(b"    ")?;
-    add_location(t, part.at, text)?;
+    add_location(part.line, text)?;
     add_asked(t, part, text)?;
     add_ending(part_value(t.solved, part), text)?;
     text.extend_from_slice(b"\n")
 }
 
-// Adds the lines of the parts of a condition.
+// Appends the lines of the parts of a condition.
 fn add_parts(
-    t: &Teller<'_, '_, '_>,
+    t: &Teller<'_, '_>,
     parts: &[ConditionPart<'_>],
     text: &mut Vec<u8>,
 ) -> Result<(), AllocError>
     ensures { OnOk result (text.new.items ≡ text.old.items
-        ++ led t.now.lead.now (map (rules.part_text t.now.lines.now t.now.solved.now) (map part_view parts.now))) }
+        ++ led t.now.lead.now (map (spec.part_text t.now.solved.now) (map part_view parts.now))) }
 {
     for part in parts {
         add_part(t, part, text)?;
@@ -236,21 +220,21 @@ fn add_parts(
     Ok(())
 }
 
-/// Adds the line of what has a value, and those of the parts of its condition that are shown.
+/// Appends a line with a value, and the lines of the parts of its condition that are shown.
 pub(crate) fn add_with_parts(
-    t: &Teller<'_, '_, '_>,
-    at: usize,
+    t: &Teller<'_, '_>,
+    line: Line<'_>,
     word: &[u8],
     value: Tri,
     shown: &[ConditionPart<'_>],
     text: &mut Vec<u8>,
 ) -> Result<(), AllocError>
     ensures { OnOk result (text.new.items ≡ text.old.items
-        ++ led t.now.lead.now (rules.with_parts t.now.lines.now t.now.solved.now at word.now value (map part_view shown.now))) }
+        ++ led t.now.lead.now (spec.with_parts t.now.solved.now (Some (line_view line.entry)) word.now value (map part_view shown.now))) }
 {
     text.extend_from_slice(t.lead)?;
     text.extend_from_slice(b"  ")?;
-    add_location(t, at, text)?;
+    add_location(line, text)?;
     text.extend_from_slice(word)?;
     add_ending(value, text)?;
     text.extend_from_slice(b"\n")?;
@@ -259,75 +243,63 @@ pub(crate) fn add_with_parts(
 
 // ---- lines of entries
 
-// Begins a line about the line with a number.
-fn begin_line(t: &Teller<'_, '_, '_>, at: usize, text: &mut Vec<u8>) -> Result<(), AllocError>
-    ensures { OnOk result (text.new.items ≡ text.old.items ++ (codes "  " ++ rules.location t.now.lines.now t.now.solved.now at)) }
+// Begins the explanation's line about a line of the tree.
+fn begin_line(line: Line<'_>, text: &mut Vec<u8>) -> Result<(), AllocError>
+    ensures { OnOk result (text.new.items ≡ text.old.items ++ (codes "  " ++ spec.location_of (Some (line_view line.entry)))) }
 {
     text.extend_from_slice(b"  ")?;
-    add_location(t, at, text)
+    add_location(line, text)
 }
 
-// Ends it with the line's condition and a value.
+// Ends it with the condition of that line and a value.
 fn end_line(
-    t: &Teller<'_, '_, '_>,
+    t: &Teller<'_, '_>,
     when: &Option<Rc<Expr>>,
     value: Tri,
     text: &mut Vec<u8>,
 ) -> Result<(), AllocError>
     ensures { OnOk result (text.new.items ≡ text.old.items
-        ++ (rules.if_text t.now.lines.now t.now.solved.now (when_view when.now) ++ rules.ending value)) }
+        ++ (spec.if_text t.now.solved.now (when_view when.now) ++ rules.ending value)) }
 {
     add_if(t, when, text)?;
     add_ending(value, text)
 }
 
 // The value of a default's line.
-fn default_value(
-    alloc: Global,
-    t: &Teller<'_, '_, '_>,
-    d: &Said<'_, SymbolDefault>,
-) -> Result<Tri, AllocError>
-    ensures { IfOk result (λ v. v ≡ rules.line_value t.now.lines.now t.now.solved.now (λ g. g.when) (default_said d.now)) }
+fn default_value(solved: &Solved<'_>, d: &Stated<'_, SymbolDefault>) -> Tri
+    ensures { result ≡ view.value_under solved.now (default_said d.now).dependency ((default_said d.now).what).when }
 {
-    line_value(
-        alloc,
-        t.lines,
-        t.solved,
-        d.entry,
-        d.at,
-        condition(&d.what.when),
-    )
+    value_under(solved, d.dependency, condition(&d.what.when))
 }
 
-// Adds a default, whose line has this value.
+// Appends a default, given the value of its line.
 fn add_default_of(
-    t: &Teller<'_, '_, '_>,
-    d: &Said<'_, SymbolDefault>,
+    t: &Teller<'_, '_>,
+    d: &Stated<'_, SymbolDefault>,
     value: Tri,
     text: &mut Vec<u8>,
 ) -> Result<(), AllocError>
-    ensures { OnOk result (text.new.items ≡ text.old.items ++ spec.default_of t.now.lines.now t.now.solved.now (default_said d.now) value) }
+    ensures { OnOk result (text.new.items ≡ text.old.items ++ spec.default_of t.now.solved.now (default_said d.now) value) }
 {
-    begin_line(t, d.at, text)?;
+    begin_line(d.line, text)?;
     text.extend_from_slice(b"default ")?;
     add_form(t, &d.what.value, text)?;
     end_line(t, &d.what.when, value, text)
 }
 
-// Adds a default.
+// Appends a default.
 fn add_default(
-    alloc: Global,
-    t: &Teller<'_, '_, '_>,
-    d: &Said<'_, SymbolDefault>,
+    t: &Teller<'_, '_>,
+    d: &Stated<'_, SymbolDefault>,
     text: &mut Vec<u8>,
 ) -> Result<(), AllocError>
-    ensures { OnOk result (text.new.items ≡ text.old.items ++ rules.default_text t.now.lines.now t.now.solved.now (default_said d.now)) }
+    ensures { OnOk result (text.new.items ≡ text.old.items ++ spec.default_text t.now.solved.now (default_said d.now)) }
 {
-    let value = default_value(alloc, t, d)?;
+    let value = default_value(t.solved, d);
     add_default_of(t, d, value, text)
 }
 
-// Whether a symbol of this type is worth a text.
+// Whether the value of a symbol of this type is a text.
 fn holds_text(symbol_type: SymbolType) -> bool
     ensures { result ≡ holds_text symbol_type }
 {
@@ -353,9 +325,9 @@ fn truth_of_form(solved: &Solved<'_>, e: &Expr) -> Tri
     eval(e, solved)
 }
 
-// Adds what a default is worth.
+// Appends the value of a default.
 fn add_default_worth(
-    t: &Teller<'_, '_, '_>,
+    t: &Teller<'_, '_>,
     symbol_type: SymbolType,
     e: &Expr,
     text: &mut Vec<u8>,
@@ -369,17 +341,16 @@ fn add_default_worth(
     }
 }
 
-// Adds what a default that applied is worth.
+// Appends the value of a default, if the default applied.
 fn add_applied(
-    alloc: Global,
-    t: &Teller<'_, '_, '_>,
+    t: &Teller<'_, '_>,
     symbol_type: SymbolType,
-    d: &Said<'_, SymbolDefault>,
+    d: &Stated<'_, SymbolDefault>,
     text: &mut Vec<u8>,
 ) -> Result<(), AllocError>
-    ensures { OnOk result (text.new.items ≡ text.old.items ++ rules.applied_text t.now.lines.now t.now.solved.now symbol_type (default_said d.now)) }
+    ensures { OnOk result (text.new.items ≡ text.old.items ++ spec.applied_text t.now.solved.now symbol_type (default_said d.now)) }
 {
-    if is_met_default(alloc, t.lines, t.solved, d)? {
+    if is_met_default(t.solved, d) {
         text.extend_from_slice(b", value ")?;
         add_default_worth(t, symbol_type, &d.what.value, text)
     } else {
@@ -387,75 +358,74 @@ fn add_applied(
     }
 }
 
-/// Adds the line of a default of a choice.
+/// Appends the line of a default of a choice.
 pub(crate) fn add_choice_default(
-    alloc: Global,
-    t: &Teller<'_, '_, '_>,
-    d: &Said<'_, SymbolDefault>,
+    t: &Teller<'_, '_>,
+    d: &Stated<'_, SymbolDefault>,
     text: &mut Vec<u8>,
 ) -> Result<(), AllocError>
     ensures { OnOk result (text.new.items ≡ text.old.items
-        ++ led t.now.lead.now (rules.default_text t.now.lines.now t.now.solved.now (default_said d.now) ∷ [])) }
+        ++ led t.now.lead.now (spec.default_text t.now.solved.now (default_said d.now) ∷ [])) }
 {
     text.extend_from_slice(t.lead)?;
-    add_default(alloc, t, d, text)?;
+    add_default(t, d, text)?;
     text.extend_from_slice(b"\n")
+}
+
+// Adds a default, with what it is worth if it applied.
+fn add_default_line(
+    t: &Teller<'_, '_>,
+    symbol_type: SymbolType,
+    d: &Stated<'_, SymbolDefault>,
+    text: &mut Vec<u8>,
+) -> Result<(), AllocError>
+    ensures { OnOk result (text.new.items ≡ text.old.items ++ spec.default_line t.now.solved.now symbol_type (default_said d.now)) }
+{
+    add_default(t, d, text)?;
+    add_applied(t, symbol_type, d, text)
 }
 
 /// Adds the line of a default of a symbol of this type.
 pub(crate) fn add_symbol_default(
-    alloc: Global,
-    t: &Teller<'_, '_, '_>,
+    t: &Teller<'_, '_>,
     symbol_type: SymbolType,
-    d: &Said<'_, SymbolDefault>,
+    d: &Stated<'_, SymbolDefault>,
     text: &mut Vec<u8>,
 ) -> Result<(), AllocError>
     ensures { OnOk result (text.new.items ≡ text.old.items
-        ++ led t.now.lead.now (spec.default_line t.now.lines.now t.now.solved.now symbol_type (default_said d.now) ∷ [])) }
+        ++ led t.now.lead.now (spec.default_line t.now.solved.now symbol_type (default_said d.now) ∷ [])) }
 {
     text.extend_from_slice(t.lead)?;
-    add_default(alloc, t, d, text)?;
-    add_applied(alloc, t, symbol_type, d, text)?;
+    add_default_line(t, symbol_type, d, text)?;
     text.extend_from_slice(b"\n")
 }
 
 // ---- ranges
 
-// Adds a bound.
-fn add_bound(t: &Teller<'_, '_, '_>, o: &Operand, text: &mut Vec<u8>) -> Result<(), AllocError>
+// Appends a bound.
+fn add_bound(t: &Teller<'_, '_>, o: &Operand, text: &mut Vec<u8>) -> Result<(), AllocError>
     ensures { OnOk result (text.new.items ≡ text.old.items ++ spec.bound_text t.now.solved.now (leaf_of o.now)) }
 {
     add_operand(o, t.solved.tree().names(), text)
 }
 
 // The value of a range's line.
-fn range_value(
-    alloc: Global,
-    t: &Teller<'_, '_, '_>,
-    r: &Said<'_, SymbolRange>,
-) -> Result<Tri, AllocError>
-    ensures { IfOk result (λ v. v ≡ rules.line_value t.now.lines.now t.now.solved.now (λ x. x.1) (range_said r.now)) }
+fn range_value(solved: &Solved<'_>, r: &Stated<'_, SymbolRange>) -> Tri
+    ensures { result ≡ view.value_under solved.now (range_said r.now).dependency ((range_said r.now).what).1 }
 {
-    line_value(
-        alloc,
-        t.lines,
-        t.solved,
-        r.entry,
-        r.at,
-        condition(&r.what.when),
-    )
+    value_under(solved, r.dependency, condition(&r.what.when))
 }
 
-// Adds a range, whose line has this value.
+// Appends a range, given the value of its line.
 fn add_range_of(
-    t: &Teller<'_, '_, '_>,
-    r: &Said<'_, SymbolRange>,
+    t: &Teller<'_, '_>,
+    r: &Stated<'_, SymbolRange>,
     value: Tri,
     text: &mut Vec<u8>,
 ) -> Result<(), AllocError>
-    ensures { OnOk result (text.new.items ≡ text.old.items ++ spec.range_of t.now.lines.now t.now.solved.now (range_said r.now) value) }
+    ensures { OnOk result (text.new.items ≡ text.old.items ++ spec.range_of t.now.solved.now (range_said r.now) value) }
 {
-    begin_line(t, r.at, text)?;
+    begin_line(r.line, text)?;
     text.extend_from_slice(b"range ")?;
     add_bound(t, &r.what.low, text)?;
     text.extend_from_slice(b" ")?;
@@ -463,23 +433,22 @@ fn add_range_of(
     end_line(t, &r.what.when, value, text)
 }
 
-/// Adds the line of a range.
+/// Appends the line of a range.
 pub(crate) fn add_range(
-    alloc: Global,
-    t: &Teller<'_, '_, '_>,
-    r: &Said<'_, SymbolRange>,
+    t: &Teller<'_, '_>,
+    r: &Stated<'_, SymbolRange>,
     text: &mut Vec<u8>,
 ) -> Result<(), AllocError>
     ensures { OnOk result (text.new.items ≡ text.old.items
-        ++ led t.now.lead.now (rules.range_text t.now.lines.now t.now.solved.now (range_said r.now) ∷ [])) }
+        ++ led t.now.lead.now (spec.range_text t.now.solved.now (range_said r.now) ∷ [])) }
 {
-    let value = range_value(alloc, t, r)?;
+    let value = range_value(t.solved, r);
     text.extend_from_slice(t.lead)?;
     add_range_of(t, r, value, text)?;
     text.extend_from_slice(b"\n")
 }
 
-// The low bound as it is written.
+// The low bound as it is printed.
 fn low_text(alloc: Global, symbol_type: SymbolType, range: Interval) -> Result<Vec<u8>, AllocError>
     requires { HasSmallBounds range }
     ensures { IfOk result (λ v. v.items ≡ spec.number_by symbol_type range.low) }
@@ -488,7 +457,7 @@ fn low_text(alloc: Global, symbol_type: SymbolType, range: Interval) -> Result<V
     Ok(text)
 }
 
-// The high bound as it is written.
+// The high bound as it is printed.
 fn high_text(alloc: Global, symbol_type: SymbolType, range: Interval) -> Result<Vec<u8>, AllocError>
     requires { HasSmallBounds range }
     ensures { IfOk result (λ v. v.items ≡ spec.number_by symbol_type range.high) }
@@ -497,7 +466,7 @@ fn high_text(alloc: Global, symbol_type: SymbolType, range: Interval) -> Result<
     Ok(text)
 }
 
-// Adds two bounds.
+// Appends two bounds.
 fn add_bounds(low: &[u8], high: &[u8], text: &mut Vec<u8>) -> Result<(), AllocError>
     ensures { OnOk result (text.new.items ≡ text.old.items ++ spec.bounds_text low.now high.now) }
 {
@@ -507,9 +476,9 @@ fn add_bounds(low: &[u8], high: &[u8], text: &mut Vec<u8>) -> Result<(), AllocEr
     text.extend_from_slice(high)
 }
 
-// Adds the line of two bounds.
+// Appends the line of two bounds.
 fn add_bounds_line(
-    t: &Teller<'_, '_, '_>,
+    t: &Teller<'_, '_>,
     low: &[u8],
     high: &[u8],
     text: &mut Vec<u8>,
@@ -521,10 +490,10 @@ fn add_bounds_line(
     text.extend_from_slice(b"\n")
 }
 
-/// Adds the line of an active range.
+/// Appends the line of an active range.
 pub(crate) fn add_active(
     alloc: Global,
-    t: &Teller<'_, '_, '_>,
+    t: &Teller<'_, '_>,
     symbol_type: SymbolType,
     range: Interval,
     text: &mut Vec<u8>,
@@ -547,47 +516,41 @@ fn truth(solved: &Solved<'_>, id: SymId) -> Tri
     truth_of(id, solved)
 }
 
-// The value up to which a line of a symbol with this value selects or implies. The line is looked at only if the symbol is not n.
-fn value_under(
+// The value that a line of a symbol with this value selects or implies. The line is evaluated only if the symbol is not n.
+fn target_value(
     alloc: Global,
-    t: &Teller<'_, '_, '_>,
+    t: &Teller<'_, '_>,
     value: Tri,
     target: &TargetAt<'_>,
 ) -> Result<Tri, AllocError>
-    ensures { IfOk result (λ v. v ≡ lesser value (rules.line_value t.now.lines.now t.now.solved.now (λ w. w) (target_at_view target.now))) }
+    ensures { IfOk result (λ v. v ≡ lesser value (view.value_under t.now.solved.now (spec.entry_value t.now.solved.now (lines_of t.now.layout.now) (target_view t.now.layout.now target.now).entry) (target_view t.now.layout.now target.now).when)) }
 {
     match value {
         Tri::N => Ok(Tri::N),
         Tri::M | Tri::Y => {
-            let own = line_value(
-                alloc,
-                t.lines,
-                t.solved,
-                target.entry,
-                target.at,
-                condition(target.when),
-            )?;
+            let dependency = dependency_value(alloc, t.layout, t.solved, target.entry)?;
+            let own = value_under(t.solved, dependency, condition(target.when));
             Ok(lesser(value, own))
         }
     }
 }
 
-// The same of a line in an entry of a symbol, n in any other entry.
+// The same for a line in an entry of a symbol; n in any other entry.
 fn value_from(
     alloc: Global,
-    t: &Teller<'_, '_, '_>,
+    t: &Teller<'_, '_>,
     symbol: Option<SymId>,
     target: &TargetAt<'_>,
 ) -> Result<Tri, AllocError>
-    ensures { IfOk result (λ v. v ≡ spec.value_from t.now.lines.now t.now.solved.now symbol (target_at_view target.now)) }
+    ensures { IfOk result (λ v. v ≡ spec.value_from t.now.solved.now (lines_of t.now.layout.now) symbol (target_view t.now.layout.now target.now)) }
 {
     match symbol {
         None => Ok(Tri::N),
-        Some(id) => value_under(alloc, t, truth(t.solved, id), target),
+        Some(id) => target_value(alloc, t, truth(t.solved, id), target),
     }
 }
 
-// Adds that a line has no effect.
+// Appends that a line has no effect, if its value is n.
 fn add_not(value: Tri, text: &mut Vec<u8>) -> Result<(), AllocError>
     ensures { OnOk result (text.new.items ≡ text.old.items ++ spec.not_text value) }
 {
@@ -597,13 +560,13 @@ fn add_not(value: Tri, text: &mut Vec<u8>) -> Result<(), AllocError>
     }
 }
 
-// Adds a symbol with its value, if there is one.
+// Appends a symbol with its value, if there is one.
 fn add_worth_of(
-    t: &Teller<'_, '_, '_>,
+    t: &Teller<'_, '_>,
     symbol: Option<SymId>,
     text: &mut Vec<u8>,
 ) -> Result<(), AllocError>
-    ensures { OnOk result (text.new.items ≡ text.old.items ++ flat_map (rules.worth_of t.now.lines.now t.now.solved.now t.now.is_raw) (listed symbol)) }
+    ensures { OnOk result (text.new.items ≡ text.old.items ++ flat_map (spec.worth_of t.now.solved.now t.now.is_raw) (listed symbol)) }
 {
     match symbol {
         None => Ok(()),
@@ -611,9 +574,9 @@ fn add_worth_of(
     }
 }
 
-// Adds a line that selects or implies, that stands in an entry of a symbol and has this value.
+// Appends a line that selects or implies, in an entry of a symbol, with this value.
 fn add_target_of(
-    t: &Teller<'_, '_, '_>,
+    t: &Teller<'_, '_>,
     word: &[u8],
     symbol: Option<SymId>,
     target: &TargetAt<'_>,
@@ -621,27 +584,34 @@ fn add_target_of(
     text: &mut Vec<u8>,
 ) -> Result<(), AllocError>
     ensures { OnOk result (text.new.items ≡ text.old.items
-        ++ spec.target_of t.now.lines.now t.now.solved.now t.now.is_raw word.now symbol (target_at_view target.now) value) }
+        ++ spec.target_of t.now.solved.now t.now.is_raw word.now symbol (target_view t.now.layout.now target.now) value) }
 {
-    begin_line(t, target.at, text)?;
+    begin_line(target.line, text)?;
     add_not(value, text)?;
     text.extend_from_slice(word)?;
     add_worth_of(t, symbol, text)?;
     end_line(t, target.when, value, text)
 }
 
+// The symbol that the entry of a line defines.
+fn source_of(t: &Teller<'_, '_>, target: &TargetAt<'_>) -> Option<SymId>
+    ensures { result ≡ source_at t.now.layout.now target.now.entry.0 }
+{
+    t.layout.symbol_of(target.entry)
+}
+
 /// Adds the line of a line that selects or implies the symbol.
 pub(crate) fn add_target(
     alloc: Global,
-    t: &Teller<'_, '_, '_>,
+    t: &Teller<'_, '_>,
     word: &[u8],
     target: &TargetAt<'_>,
     text: &mut Vec<u8>,
 ) -> Result<(), AllocError>
     ensures { OnOk result (text.new.items ≡ text.old.items
-        ++ led t.now.lead.now (rules.target_text t.now.lines.now t.now.solved.now t.now.is_raw word.now (target_at_view target.now) ∷ [])) }
+        ++ led t.now.lead.now (spec.target_text t.now.solved.now (lines_of t.now.layout.now) t.now.is_raw word.now (target_view t.now.layout.now target.now) ∷ [])) }
 {
-    let symbol = t.lines.symbol_at(target.entry);
+    let symbol = source_of(t, target);
     let value = value_from(alloc, t, symbol, target)?;
     text.extend_from_slice(t.lead)?;
     add_target_of(t, word, symbol, target, value, text)?;
@@ -650,14 +620,14 @@ pub(crate) fn add_target(
 
 // ---- other lines
 
-/// Adds the line of a member of a choice.
+/// Appends the line of a member of a choice.
 pub(crate) fn add_member(
-    t: &Teller<'_, '_, '_>,
+    t: &Teller<'_, '_>,
     member: SymId,
     text: &mut Vec<u8>,
 ) -> Result<(), AllocError>
     ensures { OnOk result (text.new.items ≡ text.old.items
-        ++ led t.now.lead.now (rules.member_text t.now.lines.now t.now.solved.now t.now.is_raw member ∷ [])) }
+        ++ led t.now.lead.now (spec.member_text t.now.solved.now t.now.is_raw member ∷ [])) }
 {
     text.extend_from_slice(t.lead)?;
     text.extend_from_slice(b"  member ")?;
@@ -666,14 +636,14 @@ pub(crate) fn add_member(
     text.extend_from_slice(b"\n")
 }
 
-/// Adds the line of the modules symbol.
+/// Appends the line of the modules symbol.
 pub(crate) fn add_modules(
-    t: &Teller<'_, '_, '_>,
+    t: &Teller<'_, '_>,
     modules: SymId,
     text: &mut Vec<u8>,
 ) -> Result<(), AllocError>
     ensures { OnOk result (text.new.items ≡ text.old.items
-        ++ led t.now.lead.now ((codes "  modules " ++ rules.worth_of t.now.lines.now t.now.solved.now t.now.is_raw modules) ∷ [])) }
+        ++ led t.now.lead.now ((codes "  modules " ++ spec.worth_of t.now.solved.now t.now.is_raw modules) ∷ [])) }
 {
     text.extend_from_slice(t.lead)?;
     text.extend_from_slice(b"  modules ")?;

@@ -8,8 +8,8 @@ use kc_expr::expression::SymId;
 use std::alloc::{AllocError, Global};
 use std::marker::Model;
 
-/// Symbols in the order in which they were seen, each once. What it costs depends on how many they are, and not on the tree.
-/// A contract sees the list of the symbols.
+/// Symbols in the order in which they were seen, each once. The cost depends on how many they are, not on the size of the tree.
+/// Contracts see the list of the symbols.
 #[derive(Drop)]
 pub(crate) struct Seen {
     symbols: IndexSet<SymId>,
@@ -25,7 +25,7 @@ impl Model for Seen {
 }
 
 impl Seen {
-    /// No symbols.
+    /// Returns a list without symbols.
     pub(crate) fn new(alloc: Global) -> Self
         ensures { result ≡ [] }
     {
@@ -34,7 +34,7 @@ impl Seen {
         }
     }
 
-    /// Adds the symbol, and tells whether it is a new one. Fails only when it is out of memory.
+    /// Adds the symbol, and returns whether it is new. Fails only if memory runs out.
     pub(crate) fn add(&mut self, id: SymId) -> Result<bool, AllocError>
         ensures seen { IfOk result (λ is_new. self.new ≡ added self.old id) }
         ensures told { IfOk result (λ is_new. is_new ≡ not (stands_in self.old id)) }
@@ -43,7 +43,7 @@ impl Seen {
         Ok(is_new)
     }
 
-    /// The symbols in their order. Takes no memory.
+    /// The symbols in their order. It allocates nothing.
     pub(crate) fn symbols(&self) -> &[SymId]
         ensures { result.now ≡ self.now }
     {

@@ -1,18 +1,21 @@
 //! The lines that explain a symbol.
 
-ghost use Rattle.std.specs.Prelude.{◌≡◌, ◌<◌, ◌++◌, [], ◌∷◌, OnOk, IfSome, codes, drop, map, option_map, slice_get};
+ghost use Rattle.std.specs.Prelude.{◌≡◌, ◌<◌, ◌++◌, [], ◌∷◌, OnOk, IfSome, Some, codes, drop, length, map, option_map};
 ghost use Rattle.std.specs.List.{flat_map};
 ghost use Rattle.kc_language.specs.ConfigFile.{place_at, value_text};
 ghost use Rattle.kc_language.specs.Explanations as rules;
-ghost use Rattle.kc_language.specs.Statements.{statements};
 ghost use Rattle.kc_language.specs.Symbols.{is_selectable, listed};
 ghost use Rattle.kc_language.specs.Values.{SymbolPlace, facts, name_count, type_in};
+ghost use Rattle.kc_entries.specs.Entries.{lines_in};
+ghost use Rattle.kc_tree.specs.Layouts.{IsLayoutOf};
 ghost use Rattle.kc_user.specs.ValueView.{given_of_value};
 ghost use Rattle.kc_values.specs.Small.{HasSmallBounds};
 ghost use Rattle.kc_values.specs.User.{given_in};
 ghost use Rattle.kc_config_file.specs.ShownView.{location_of};
-ghost use Rattle.kc_explain.specs.LineViews.{target_at_view};
+ghost use Rattle.kc_explain.specs.LineViews.{at_entry, line_view, lines_of, target_view};
+ghost use Rattle.kc_explain.specs.PartViews as view;
 ghost use Rattle.kc_explain.specs.PartViews.{default_said, part_view, prompt_said, range_said};
+ghost use Rattle.kc_explain.specs.PartsOfExplanations as named;
 ghost use Rattle.kc_explain.specs.SymbolsTold as spec;
 ghost use Rattle.kc_explain.specs.Told as told;
 ghost use Rattle.kc_explain.specs.Told.{led};
@@ -22,50 +25,56 @@ use crate::line_text::{
     Teller, add_active, add_choice_default, add_member, add_modules, add_name, add_place,
     add_range, add_symbol_default, add_target, add_with_parts, add_worth,
 };
-use crate::lines::{Lines, TargetAt};
+use crate::lines::{Line, TargetAt, choice_entry, choice_row, definitions_of, first_line, targets};
 use crate::parts::{
-    ConditionPart, Said, default_lines, defaults_at, dependency_parts, parts_value, prompt_at,
+    PromptLine, Stated, default_lines, defaults_at, dependency_parts, parts_value, prompt_at,
     range_lines, shown_parts,
 };
 use kc_config_file::shown::{InputLine, add_value, shown_given};
 use kc_config_file::user_input::UserInput;
-use kc_expr::expression::{SymId, SymbolType, Tri};
+use kc_expr::expression::{SymId, SymbolType};
 use kc_expr::values::{Values, lesser};
 use kc_language::explanations::Source;
 use kc_language::symbols::SelectOrImply;
 use kc_language::values::Interval;
-use kc_read::statement::Prompt;
+use kc_entries::statement::{SymbolDefault, SymbolRange};
 use kc_solve::solved::Solved;
-use kc_tree::rows::{Choice, SymbolDefault, SymbolRange};
+use kc_tree::layout::Layout;
+use kc_tree::rows::{Choice, EntryId};
 use kc_user::value::UserValue;
-use kc_values::laws::rows_tell_facts;
 use std::alloc::{AllocError, Global};
 
 // ---- definitions and prompts
 
-// Adds what an entry that defines a symbol depends on.
+// Appends what an entry that defines a symbol depends on.
 fn add_definition(
     alloc: Global,
-    t: &Teller<'_, '_, '_>,
-    entry: usize,
-    text: &mut Vec<u8>,
-) -> Result<(), AllocError>
-    ensures { OnOk result (text.new.items ≡ text.old.items ++ led t.now.lead.now (rules.definition_text t.now.lines.now t.now.solved.now entry)) }
-{
-    let parts = dependency_parts(alloc, t.lines, entry)?;
-    let value = parts_value(t.solved, &parts);
-    add_with_parts(t, entry, b"dependencies", value, &parts, text)
-}
-
-// Adds what these entries depend on.
-fn add_definitions(
-    alloc: Global,
-    t: &Teller<'_, '_, '_>,
-    entries: &[usize],
+    t: &Teller<'_, '_>,
+    entry: EntryId,
     text: &mut Vec<u8>,
 ) -> Result<(), AllocError>
     ensures { OnOk result (text.new.items ≡ text.old.items
-        ++ led t.now.lead.now (flat_map (rules.definition_text t.now.lines.now t.now.solved.now) entries.now)) }
+        ++ led t.now.lead.now (at_entry t.now.layout.now (rules.definition_text (lines_of t.now.layout.now) t.now.solved.now) entry)) }
+{
+    match first_line(t.layout, entry) {
+        Some(line) => {
+            let parts = dependency_parts(alloc, t.layout, entry)?;
+            let value = parts_value(t.solved, &parts);
+            add_with_parts(t, line, b"dependencies", value, &parts, text)
+        }
+        None => Ok(()),
+    }
+}
+
+// Appends what these entries depend on.
+fn add_definitions(
+    alloc: Global,
+    t: &Teller<'_, '_>,
+    entries: &[EntryId],
+    text: &mut Vec<u8>,
+) -> Result<(), AllocError>
+    ensures { OnOk result (text.new.items ≡ text.old.items
+        ++ led t.now.lead.now (flat_map (at_entry t.now.layout.now (rules.definition_text (lines_of t.now.layout.now) t.now.solved.now)) entries.now)) }
 {
     for entry in entries {
         add_definition(alloc, t, *entry, text)?;
@@ -73,73 +82,50 @@ fn add_definitions(
     Ok(())
 }
 
-// The value of these parts of a condition and of more.
-#[tactic(auto, using(crate::proofs::ToldLemmas::parts_value_both))]
-fn value_of_both(
-    solved: &Solved<'_>,
-    first: &[ConditionPart<'_>],
-    more: &[ConditionPart<'_>],
-) -> Tri
-    ensures { result ≡ spec.value_of_both solved.now (map part_view first.now) (map part_view more.now) }
-{
-    lesser(parts_value(solved, first), parts_value(solved, more))
-}
-
-// Adds a prompt, with the parts of its condition that it has beside those that its entry depends on.
+// Appends a prompt of an entry, with the parts of its condition besides those of the entry's dependency.
 fn add_prompt(
     alloc: Global,
-    t: &Teller<'_, '_, '_>,
-    prompt: &Said<'_, Prompt>,
+    t: &Teller<'_, '_>,
+    entry: EntryId,
+    prompt: &PromptLine<'_>,
     text: &mut Vec<u8>,
 ) -> Result<(), AllocError>
-    ensures { OnOk result (text.new.items ≡ text.old.items
-        ++ led t.now.lead.now (rules.prompt_text t.now.lines.now t.now.solved.now (prompt_said prompt.now))) }
+    ensures { OnOk result (text.new.items ≡ text.old.items ++ led t.now.lead.now (spec.prompt_text t.now.solved.now
+        (at_entry t.now.layout.now (named.dependency_parts (lines_of t.now.layout.now)) entry)
+        (at_entry t.now.layout.now (named.menus_parts (lines_of t.now.layout.now)) entry ++ view.worth_parts (prompt_said prompt.now).line ((prompt_said prompt.now).what).when)
+        (prompt_said prompt.now))) }
 {
-    let parts = dependency_parts(alloc, t.lines, prompt.entry)?;
-    let shown = shown_parts(alloc, t.lines, prompt)?;
-    let value = value_of_both(t.solved, &parts, &shown);
-    add_with_parts(t, prompt.at, b"prompt", value, &shown, text)
+    let parts = dependency_parts(alloc, t.layout, entry)?;
+    let shown = shown_parts(alloc, t.layout, entry, prompt)?;
+    let value = lesser(parts_value(t.solved, &parts), parts_value(t.solved, &shown));
+    add_with_parts(t, prompt.line, b"prompt", value, &shown, text)
 }
 
-// Adds a prompt, if there is one.
-fn add_prompt_of(
+// Appends the prompt that counts for an entry.
+fn add_prompt_at(
     alloc: Global,
-    t: &Teller<'_, '_, '_>,
-    prompt: Option<Said<'_, Prompt>>,
+    t: &Teller<'_, '_>,
+    entry: EntryId,
     text: &mut Vec<u8>,
 ) -> Result<(), AllocError>
     ensures { OnOk result (text.new.items ≡ text.old.items
-        ++ led t.now.lead.now (spec.prompt_texts t.now.lines.now t.now.solved.now (option_map prompt_said prompt.entry))) }
+        ++ led t.now.lead.now (at_entry t.now.layout.now (spec.prompts_at t.now.solved.now (lines_of t.now.layout.now)) entry)) }
 {
-    match prompt {
+    match prompt_at(t.layout, entry) {
         None => Ok(()),
-        Some(prompt) => add_prompt(alloc, t, &prompt, text),
+        Some(prompt) => add_prompt(alloc, t, entry, &prompt, text),
     }
 }
 
-// Adds the prompt of an entry that counts.
-fn add_prompt_at(
+// Appends the prompts that count for these entries.
+fn add_prompts(
     alloc: Global,
-    t: &Teller<'_, '_, '_>,
-    entry: usize,
+    t: &Teller<'_, '_>,
+    entries: &[EntryId],
     text: &mut Vec<u8>,
 ) -> Result<(), AllocError>
     ensures { OnOk result (text.new.items ≡ text.old.items
-        ++ led t.now.lead.now (spec.prompts_at t.now.lines.now t.now.solved.now entry)) }
-{
-    let prompt = prompt_at(alloc, t.lines, entry)?;
-    add_prompt_of(alloc, t, prompt, text)
-}
-
-// Adds the prompts of these entries that count, entry by entry.
-fn add_prompts_each(
-    alloc: Global,
-    t: &Teller<'_, '_, '_>,
-    entries: &[usize],
-    text: &mut Vec<u8>,
-) -> Result<(), AllocError>
-    ensures { OnOk result (text.new.items ≡ text.old.items
-        ++ led t.now.lead.now (flat_map (spec.prompts_at t.now.lines.now t.now.solved.now) entries.now)) }
+        ++ led t.now.lead.now (flat_map (at_entry t.now.layout.now (spec.prompts_at t.now.solved.now (lines_of t.now.layout.now))) entries.now)) }
 {
     for entry in entries {
         add_prompt_at(alloc, t, *entry, text)?;
@@ -147,24 +133,11 @@ fn add_prompts_each(
     Ok(())
 }
 
-// Adds the prompts of these entries that count.
-fn add_prompts(
-    alloc: Global,
-    t: &Teller<'_, '_, '_>,
-    entries: &[usize],
-    text: &mut Vec<u8>,
-) -> Result<(), AllocError>
-    ensures { OnOk result (text.new.items ≡ text.old.items
-        ++ led t.now.lead.now (flat_map (rules.prompt_text t.now.lines.now t.now.solved.now) (rules.prompt_lines (statements t.now.lines.now) entries.now))) }
-{
-    add_prompts_each(alloc, t, entries, text)
-}
-
 // ---- what the user gave
 
-// Begins a line about a line of an input file.
+// Begins the explanation's line about a line of an input file.
 fn begin_input_line(
-    t: &Teller<'_, '_, '_>,
+    t: &Teller<'_, '_>,
     at: &InputLine<'_>,
     text: &mut Vec<u8>,
 ) -> Result<(), AllocError>
@@ -175,9 +148,9 @@ fn begin_input_line(
     add_place(at.file, at.number, text)
 }
 
-// Adds the line of a value that the user gave.
+// Appends the line of a user value.
 fn add_given(
-    t: &Teller<'_, '_, '_>,
+    t: &Teller<'_, '_>,
     symbol_type: SymbolType,
     given: &UserValue,
     at: Option<InputLine<'_>>,
@@ -199,7 +172,7 @@ fn add_given(
 
 // The same, if there is one.
 fn add_given_of(
-    t: &Teller<'_, '_, '_>,
+    t: &Teller<'_, '_>,
     symbol_type: SymbolType,
     given: Option<&UserValue>,
     at: Option<InputLine<'_>>,
@@ -214,9 +187,9 @@ fn add_given_of(
     }
 }
 
-// Adds the line of a value that is not allowed.
+// Appends the line of a value that is not allowed.
 fn add_refused(
-    t: &Teller<'_, '_, '_>,
+    t: &Teller<'_, '_>,
     at: Option<InputLine<'_>>,
     text: &mut Vec<u8>,
 ) -> Result<(), AllocError>
@@ -232,16 +205,16 @@ fn add_refused(
     }
 }
 
-// What stands in the symbol's place.
+// The user value of the symbol, if there is one.
 fn given_at<'a>(solved: &'a Solved<'_>, id: SymId) -> Option<&'a UserValue>
     ensures { given_in result ≡ place_at solved.now.places (SymbolPlace id.0) }
 {
     solved.user().symbols().get(id.0)
 }
 
-// Adds the lines of a value that the user gave and of one that is not allowed.
+// Appends the lines of a user value and of a value that is not allowed.
 fn add_user_of(
-    t: &Teller<'_, '_, '_>,
+    t: &Teller<'_, '_>,
     symbol_type: SymbolType,
     given: Option<&UserValue>,
     at: Option<InputLine<'_>>,
@@ -255,14 +228,14 @@ fn add_user_of(
     add_refused(t, refused, text)
 }
 
-// Adds the lines of the user's values.
+// Appends the lines of the user values of a symbol.
 fn add_user(
-    t: &Teller<'_, '_, '_>,
+    t: &Teller<'_, '_>,
     input: &UserInput<'_>,
     id: SymId,
     text: &mut Vec<u8>,
 ) -> Result<(), AllocError>
-    ensures { OnOk result (text.new.items ≡ text.old.items ++ led t.now.lead.now (rules.user_text t.now.lines.now t.now.solved.now input.now t.now.is_raw id)) }
+    ensures { OnOk result (text.new.items ≡ text.old.items ++ led t.now.lead.now (rules.user_text (lines_of t.now.layout.now) t.now.solved.now input.now t.now.is_raw id)) }
 {
     let symbol_type = t.solved.symbol_type(id);
     let given = given_at(t.solved, id);
@@ -273,7 +246,7 @@ fn add_user(
 
 // ---- the symbol
 
-// A type in words.
+// The text of a type.
 fn type_text(symbol_type: SymbolType) -> &'static [u8]
     ensures { result.now ≡ rules.type_text symbol_type }
 {
@@ -287,7 +260,7 @@ fn type_text(symbol_type: SymbolType) -> &'static [u8]
     }
 }
 
-// A source in words.
+// The text of a source.
 fn source_text(from: Source) -> &'static [u8]
     ensures { result.now ≡ rules.source_text from }
 {
@@ -305,9 +278,9 @@ fn source_text(from: Source) -> &'static [u8]
     }
 }
 
-// What is said of a name without a type that these entries define.
-fn untyped_text(entries: &[usize]) -> &'static [u8]
-    ensures { result.now ≡ rules.untyped_text entries.now }
+// The text about a name without a type that these entries define.
+fn untyped_text(entries: &[EntryId]) -> &'static [u8]
+    ensures { result.now ≡ spec.untyped_text entries.now }
 {
     if entries.is_empty() {
         b": not a symbol, only mentioned"
@@ -316,10 +289,10 @@ fn untyped_text(entries: &[usize]) -> &'static [u8]
     }
 }
 
-// Adds the first line of a name without a type that these entries define.
+// Appends the first line of a name without a type that these entries define.
 fn add_untyped_head(
-    t: &Teller<'_, '_, '_>,
-    entries: &[usize],
+    t: &Teller<'_, '_>,
+    entries: &[EntryId],
     id: SymId,
     text: &mut Vec<u8>,
 ) -> Result<(), AllocError>
@@ -331,15 +304,15 @@ fn add_untyped_head(
     text.extend_from_slice(b"\n")
 }
 
-// Adds a symbol of this type, with its value and where that comes from.
+// Appends a symbol of this type, with its value and the source of the value.
 fn add_typed(
-    t: &Teller<'_, '_, '_>,
+    t: &Teller<'_, '_>,
     id: SymId,
     symbol_type: SymbolType,
     text: &mut Vec<u8>,
 ) -> Result<(), AllocError>
     requires { id.0 < name_count t.now.solved.now.tree }
-    ensures { OnOk result (text.new.items ≡ text.old.items ++ spec.typed_head t.now.lines.now t.now.solved.now t.now.is_raw id symbol_type) }
+    ensures { OnOk result (text.new.items ≡ text.old.items ++ spec.typed_head t.now.solved.now t.now.is_raw id symbol_type) }
 {
     add_worth(t, id, text)?;
     text.extend_from_slice(b" (")?;
@@ -348,34 +321,34 @@ fn add_typed(
     text.extend_from_slice(source_text(t.solved.source(id)))
 }
 
-// Adds the first line of a symbol of this type.
+// Appends the first line of a symbol of this type.
 fn add_typed_head(
-    t: &Teller<'_, '_, '_>,
+    t: &Teller<'_, '_>,
     id: SymId,
     symbol_type: SymbolType,
     text: &mut Vec<u8>,
 ) -> Result<(), AllocError>
     requires { id.0 < name_count t.now.solved.now.tree }
     ensures { OnOk result (text.new.items ≡ text.old.items
-        ++ led t.now.lead.now (spec.typed_head t.now.lines.now t.now.solved.now t.now.is_raw id symbol_type ∷ [])) }
+        ++ led t.now.lead.now (spec.typed_head t.now.solved.now t.now.is_raw id symbol_type ∷ [])) }
 {
     text.extend_from_slice(t.lead)?;
     add_typed(t, id, symbol_type, text)?;
     text.extend_from_slice(b"\n")
 }
 
-// Adds the first line of a symbol that has this type and that these entries define.
+// Appends the first line of a symbol that has this type and that these entries define.
 #[tactic(auto, using(crate::proofs::ToldLemmas::typed_within))]
 fn add_head_of(
-    t: &Teller<'_, '_, '_>,
-    entries: &[usize],
+    t: &Teller<'_, '_>,
+    entries: &[EntryId],
     id: SymId,
     symbol_type: SymbolType,
     text: &mut Vec<u8>,
 ) -> Result<(), AllocError>
     requires { symbol_type ≡ type_in (facts t.now.solved.now.tree id) }
     ensures { OnOk result (text.new.items ≡ text.old.items
-        ++ led t.now.lead.now (spec.head_of t.now.lines.now t.now.solved.now t.now.is_raw entries.now id symbol_type ∷ [])) }
+        ++ led t.now.lead.now (spec.head_of t.now.solved.now t.now.is_raw entries.now id symbol_type ∷ [])) }
 {
     match symbol_type {
         SymbolType::Undefined => add_untyped_head(t, entries, id, text),
@@ -383,58 +356,56 @@ fn add_head_of(
     }
 }
 
-// Adds the first line of a symbol that these entries define.
+// Appends the first line of a symbol that these entries define.
 fn add_head(
-    t: &Teller<'_, '_, '_>,
-    entries: &[usize],
+    t: &Teller<'_, '_>,
+    entries: &[EntryId],
     id: SymId,
     text: &mut Vec<u8>,
 ) -> Result<(), AllocError>
     ensures { OnOk result (text.new.items ≡ text.old.items
-        ++ led t.now.lead.now (spec.head_of t.now.lines.now t.now.solved.now t.now.is_raw entries.now id (type_in (facts t.now.solved.now.tree id)) ∷ [])) }
+        ++ led t.now.lead.now (spec.head_of t.now.solved.now t.now.is_raw entries.now id (type_in (facts t.now.solved.now.tree id)) ∷ [])) }
 {
     add_head_of(t, entries, id, t.solved.symbol_type(id), text)
 }
 
 // ---- a symbol outside a choice
 
-// Adds these defaults of a symbol of this type.
+// Appends these defaults of a symbol of this type.
 fn add_defaults(
-    alloc: Global,
-    t: &Teller<'_, '_, '_>,
+    t: &Teller<'_, '_>,
     symbol_type: SymbolType,
-    defaults: &[Said<'_, SymbolDefault>],
+    defaults: &[Stated<'_, SymbolDefault>],
     text: &mut Vec<u8>,
 ) -> Result<(), AllocError>
     ensures { OnOk result (text.new.items ≡ text.old.items
-        ++ led t.now.lead.now (map (told.default_line t.now.lines.now t.now.solved.now symbol_type) (map default_said defaults.now))) }
+        ++ led t.now.lead.now (map (told.default_line t.now.solved.now symbol_type) (map default_said defaults.now))) }
 {
     for default in defaults {
-        add_symbol_default(alloc, t, symbol_type, default, text)?;
+        add_symbol_default(t, symbol_type, default, text)?;
     }
     Ok(())
 }
 
-// Adds these ranges.
+// Appends these ranges.
 fn add_ranges(
-    alloc: Global,
-    t: &Teller<'_, '_, '_>,
-    ranges: &[Said<'_, SymbolRange>],
+    t: &Teller<'_, '_>,
+    ranges: &[Stated<'_, SymbolRange>],
     text: &mut Vec<u8>,
 ) -> Result<(), AllocError>
     ensures { OnOk result (text.new.items ≡ text.old.items
-        ++ led t.now.lead.now (map (rules.range_text t.now.lines.now t.now.solved.now) (map range_said ranges.now))) }
+        ++ led t.now.lead.now (map (told.range_text t.now.solved.now) (map range_said ranges.now))) }
 {
     for range in ranges {
-        add_range(alloc, t, range, text)?;
+        add_range(t, range, text)?;
     }
     Ok(())
 }
 
-// Adds an active range, if there is one.
+// Appends an active range, if there is one.
 fn add_active_of(
     alloc: Global,
-    t: &Teller<'_, '_, '_>,
+    t: &Teller<'_, '_>,
     symbol_type: SymbolType,
     range: Option<Interval>,
     text: &mut Vec<u8>,
@@ -448,16 +419,16 @@ fn add_active_of(
     }
 }
 
-// Adds these lines that select or imply.
+// Appends these lines that select or imply.
 fn add_targets(
     alloc: Global,
-    t: &Teller<'_, '_, '_>,
+    t: &Teller<'_, '_>,
     word: &[u8],
     targets: &[TargetAt<'_>],
     text: &mut Vec<u8>,
 ) -> Result<(), AllocError>
     ensures { OnOk result (text.new.items ≡ text.old.items
-        ++ led t.now.lead.now (map (rules.target_text t.now.lines.now t.now.solved.now t.now.is_raw word.now) (map target_at_view targets.now))) }
+        ++ led t.now.lead.now (map (told.target_text t.now.solved.now (lines_of t.now.layout.now) t.now.is_raw word.now) (map (target_view t.now.layout.now) targets.now))) }
 {
     for target in targets {
         add_target(alloc, t, word, target, text)?;
@@ -475,20 +446,21 @@ fn is_selectable(symbol_type: SymbolType) -> bool
     )
 }
 
-// Adds who selects and implies a symbol of this type.
+// Appends the lines that select and imply a symbol of this type.
 fn add_naming(
     alloc: Global,
-    t: &Teller<'_, '_, '_>,
+    t: &Teller<'_, '_>,
     id: SymId,
     symbol_type: SymbolType,
     text: &mut Vec<u8>,
 ) -> Result<(), AllocError>
+    requires { id.0 < length t.now.layout.now.symbols.items }
     ensures { OnOk result (text.new.items ≡ text.old.items
-        ++ led t.now.lead.now (spec.naming_text t.now.lines.now t.now.solved.now t.now.is_raw id symbol_type)) }
+        ++ led t.now.lead.now (spec.naming_text t.now.solved.now (lines_of t.now.layout.now) t.now.is_raw id symbol_type)) }
 {
     if is_selectable(symbol_type) {
-        let selects = t.lines.targets(alloc, SelectOrImply::Select, id)?;
-        let implies = t.lines.targets(alloc, SelectOrImply::Imply, id)?;
+        let selects = targets(alloc, t.layout, SelectOrImply::Select, id)?;
+        let implies = targets(alloc, t.layout, SelectOrImply::Imply, id)?;
         add_targets(alloc, t, b"selected by ", &selects, text)?;
         add_targets(alloc, t, b"implied by ", &implies, text)
     } else {
@@ -496,13 +468,13 @@ fn add_naming(
     }
 }
 
-// Adds the modules symbol of a tristate.
+// Appends the modules symbol, for a tristate.
 fn add_modules_of(
-    t: &Teller<'_, '_, '_>,
+    t: &Teller<'_, '_>,
     symbol_type: SymbolType,
     text: &mut Vec<u8>,
 ) -> Result<(), AllocError>
-    ensures { OnOk result (text.new.items ≡ text.old.items ++ led t.now.lead.now (spec.modules_text t.now.lines.now t.now.solved.now t.now.is_raw symbol_type)) }
+    ensures { OnOk result (text.new.items ≡ text.old.items ++ led t.now.lead.now (spec.modules_text t.now.solved.now t.now.is_raw symbol_type)) }
 {
     match symbol_type {
         SymbolType::Tristate => match t.solved.modules() {
@@ -513,23 +485,24 @@ fn add_modules_of(
     }
 }
 
-// Adds what gives a symbol of this type its value.
+// Appends what gives a symbol of this type and this active range its value.
 fn add_plain(
     alloc: Global,
-    t: &Teller<'_, '_, '_>,
+    t: &Teller<'_, '_>,
     id: SymId,
     symbol_type: SymbolType,
     active: Option<Interval>,
     text: &mut Vec<u8>,
 ) -> Result<(), AllocError>
-    requires { IfSome active HasSmallBounds }
+    requires there { id.0 < length t.now.layout.now.symbols.items }
+    requires small { IfSome active HasSmallBounds }
     ensures { OnOk result (text.new.items ≡ text.old.items
-        ++ led t.now.lead.now (spec.plain_of t.now.lines.now t.now.solved.now t.now.is_raw id symbol_type active)) }
+        ++ led t.now.lead.now (spec.plain_of t.now.solved.now (lines_of t.now.layout.now) t.now.is_raw id symbol_type active)) }
 {
-    let defaults = default_lines(alloc, t.lines, t.solved, id)?;
-    let ranges = range_lines(alloc, t.lines, t.solved, id)?;
-    add_defaults(alloc, t, symbol_type, &defaults, text)?;
-    add_ranges(alloc, t, &ranges, text)?;
+    let defaults = default_lines(alloc, t.layout, t.solved, id)?;
+    let ranges = range_lines(alloc, t.layout, t.solved, id)?;
+    add_defaults(t, symbol_type, &defaults, text)?;
+    add_ranges(t, &ranges, text)?;
     add_active_of(alloc, t, symbol_type, active, text)?;
     add_naming(alloc, t, id, symbol_type, text)?;
     add_modules_of(t, symbol_type, text)
@@ -537,30 +510,29 @@ fn add_plain(
 
 // ---- a member of a choice
 
-// Adds these defaults of a choice.
+// Appends these defaults of a choice.
 fn add_choice_defaults(
-    alloc: Global,
-    t: &Teller<'_, '_, '_>,
-    defaults: &[Said<'_, SymbolDefault>],
+    t: &Teller<'_, '_>,
+    defaults: &[Stated<'_, SymbolDefault>],
     text: &mut Vec<u8>,
 ) -> Result<(), AllocError>
     ensures { OnOk result (text.new.items ≡ text.old.items
-        ++ led t.now.lead.now (map (rules.default_text t.now.lines.now t.now.solved.now) (map default_said defaults.now))) }
+        ++ led t.now.lead.now (map (told.default_text t.now.solved.now) (map default_said defaults.now))) }
 {
     for default in defaults {
-        add_choice_default(alloc, t, default, text)?;
+        add_choice_default(t, default, text)?;
     }
     Ok(())
 }
 
-// Adds these members.
+// Appends these members.
 fn add_members(
-    t: &Teller<'_, '_, '_>,
+    t: &Teller<'_, '_>,
     members: &[SymId],
     text: &mut Vec<u8>,
 ) -> Result<(), AllocError>
     ensures { OnOk result (text.new.items ≡ text.old.items
-        ++ led t.now.lead.now (map (rules.member_text t.now.lines.now t.now.solved.now t.now.is_raw) members.now)) }
+        ++ led t.now.lead.now (map (told.member_text t.now.solved.now t.now.is_raw) members.now)) }
 {
     for member in members {
         add_member(t, *member, text)?;
@@ -568,14 +540,7 @@ fn add_members(
     Ok(())
 }
 
-// The choice with a number.
-fn choice_row(choices: &[Choice], choice: usize) -> Option<&Choice>
-    ensures { option_map (λ c. c.now) result ≡ slice_get choices.now choice }
-{
-    choices.get(choice)
-}
-
-// The members of a choice, none of no choice.
+// The members of a choice; no members if there is no choice.
 fn members_in(row: Option<&Choice>) -> &[SymId]
     ensures { result.now ≡ spec.row_members (option_map (λ c. c.now) row.entry) }
 {
@@ -592,81 +557,89 @@ fn members_of<'a>(solved: &'a Solved<'_>, choice: usize) -> &'a [SymId]
     members_in(choice_row(solved.tree().choices(), choice))
 }
 
-// Adds the mode of a choice, which the entry begins, and what it depends on.
+// Appends the mode of the choice that the entry begins with this line, and what the choice depends on.
 fn add_mode(
     alloc: Global,
-    t: &Teller<'_, '_, '_>,
+    t: &Teller<'_, '_>,
     choice: usize,
-    entry: usize,
+    entry: EntryId,
+    line: Line<'_>,
     text: &mut Vec<u8>,
 ) -> Result<(), AllocError>
-    ensures { OnOk result (text.new.items ≡ text.old.items ++ led t.now.lead.now (spec.mode_lines t.now.lines.now t.now.solved.now choice entry)) }
+    ensures { OnOk result (text.new.items ≡ text.old.items ++ led t.now.lead.now (spec.mode_text t.now.solved.now choice
+        (Some (line_view line.entry)) (at_entry t.now.layout.now (named.dependency_parts (lines_of t.now.layout.now)) entry))) }
 {
-    let parts = dependency_parts(alloc, t.lines, entry)?;
+    let parts = dependency_parts(alloc, t.layout, entry)?;
     let mode = t.solved.mode(choice);
-    add_with_parts(t, entry, b"choice", mode, &parts, text)
+    add_with_parts(t, line, b"choice", mode, &parts, text)
 }
 
-// Adds a choice, which the entry begins.
-fn add_choice_at(
+// Appends the choice that the entry begins with this line.
+fn add_choice_lines(
     alloc: Global,
-    t: &Teller<'_, '_, '_>,
+    t: &Teller<'_, '_>,
     choice: usize,
-    entry: usize,
+    entry: EntryId,
+    line: Line<'_>,
     text: &mut Vec<u8>,
 ) -> Result<(), AllocError>
-    ensures { OnOk result (text.new.items ≡ text.old.items ++ led t.now.lead.now (spec.choice_lines t.now.lines.now t.now.solved.now t.now.is_raw choice entry)) }
+    ensures { OnOk result (text.new.items ≡ text.old.items ++ led t.now.lead.now (
+        spec.mode_text t.now.solved.now choice (Some (line_view line.entry)) (at_entry t.now.layout.now (named.dependency_parts (lines_of t.now.layout.now)) entry)
+        ++ at_entry t.now.layout.now (spec.prompts_at t.now.solved.now (lines_of t.now.layout.now)) entry
+        ++ map (told.default_text t.now.solved.now) (at_entry t.now.layout.now (named.defaults_at (lines_of t.now.layout.now) t.now.solved.now) entry)
+        ++ map (told.member_text t.now.solved.now t.now.is_raw) (spec.members_at t.now.solved.now choice))) }
 {
-    let defaults = defaults_at(alloc, t.lines, entry)?;
-    add_mode(alloc, t, choice, entry, text)?;
+    let defaults = defaults_at(alloc, t.layout, t.solved, entry)?;
+    add_mode(alloc, t, choice, entry, line, text)?;
     add_prompt_at(alloc, t, entry, text)?;
-    add_choice_defaults(alloc, t, &defaults, text)?;
+    add_choice_defaults(t, &defaults, text)?;
     add_members(t, members_of(t.solved, choice), text)
 }
 
-// Adds a choice, if an entry begins it.
-fn add_choice_of(
+// Appends the choice that the entry begins.
+fn add_choice_at(
     alloc: Global,
-    t: &Teller<'_, '_, '_>,
+    t: &Teller<'_, '_>,
     choice: usize,
-    entry: Option<usize>,
+    entry: EntryId,
     text: &mut Vec<u8>,
 ) -> Result<(), AllocError>
     ensures { OnOk result (text.new.items ≡ text.old.items
-        ++ led t.now.lead.now (flat_map (spec.choice_lines t.now.lines.now t.now.solved.now t.now.is_raw choice) (listed entry))) }
+        ++ led t.now.lead.now (at_entry t.now.layout.now (spec.choice_lines t.now.solved.now (lines_of t.now.layout.now) t.now.is_raw choice) entry)) }
 {
-    match entry {
+    match first_line(t.layout, entry) {
+        Some(line) => add_choice_lines(alloc, t, choice, entry, line, text),
+        None => Ok(()),
+    }
+}
+
+// Appends a choice.
+fn add_choice(
+    alloc: Global,
+    t: &Teller<'_, '_>,
+    choice: usize,
+    text: &mut Vec<u8>,
+) -> Result<(), AllocError>
+    ensures { OnOk result (text.new.items ≡ text.old.items ++ led t.now.lead.now (rules.choice_text (lines_of t.now.layout.now) t.now.solved.now t.now.is_raw choice)) }
+{
+    match choice_entry(t.layout, choice) {
         None => Ok(()),
         Some(entry) => add_choice_at(alloc, t, choice, entry, text),
     }
 }
 
-// Adds a choice.
-fn add_choice(
-    alloc: Global,
-    t: &Teller<'_, '_, '_>,
-    choice: usize,
-    text: &mut Vec<u8>,
-) -> Result<(), AllocError>
-    ensures { OnOk result (text.new.items ≡ text.old.items ++ led t.now.lead.now (rules.choice_text t.now.lines.now t.now.solved.now t.now.is_raw choice)) }
-{
-    add_choice_of(alloc, t, choice, t.lines.choice_entry(choice), text)
-}
-
 // ---- the whole
 
-// Adds what gives a symbol its value.
+// Appends what gives a symbol its value.
 fn add_body(
     alloc: Global,
-    t: &Teller<'_, '_, '_>,
+    t: &Teller<'_, '_>,
     id: SymId,
     text: &mut Vec<u8>,
 ) -> Result<(), AllocError>
-    ensures { OnOk result (text.new.items ≡ text.old.items ++ led t.now.lead.now (spec.body_lines t.now.lines.now t.now.solved.now t.now.is_raw id)) }
+    ensures { OnOk result (text.new.items ≡ text.old.items ++ led t.now.lead.now (spec.body_lines t.now.solved.now (lines_of t.now.layout.now) t.now.is_raw id)) }
 {
-    rows_tell_facts();
-    let layout = t.solved.tree().layout();
-    match layout.symbol(id) {
+    match t.layout.symbol(id) {
         None => Ok(()),
         Some(symbol) => match symbol.choice.get() {
             Some(choice) => add_choice(alloc, t, choice.0 as usize, text),
@@ -678,34 +651,49 @@ fn add_body(
     }
 }
 
-// Adds the lines of a symbol.
-fn add_symbol(
+// Adds the lines of a symbol that these entries define.
+fn add_symbol_of(
     alloc: Global,
-    t: &Teller<'_, '_, '_>,
+    t: &Teller<'_, '_>,
     input: &UserInput<'_>,
+    entries: &[EntryId],
     id: SymId,
     text: &mut Vec<u8>,
 ) -> Result<(), AllocError>
-    ensures { OnOk result (text.new.items ≡ text.old.items ++ led t.now.lead.now (rules.symbol_lines t.now.lines.now t.now.solved.now input.now t.now.is_raw id)) }
+    ensures { OnOk result (text.new.items ≡ text.old.items
+        ++ led t.now.lead.now (spec.symbol_of t.now.layout.now t.now.solved.now input.now t.now.is_raw entries.now id)) }
 {
-    let entries = t.lines.definitions_of(alloc, id)?;
-    add_head(t, &entries, id, text)?;
-    add_definitions(alloc, t, &entries, text)?;
-    add_prompts(alloc, t, &entries, text)?;
+    add_head(t, entries, id, text)?;
+    add_definitions(alloc, t, entries, text)?;
+    add_prompts(alloc, t, entries, text)?;
     add_user(t, input, id, text)?;
     add_body(alloc, t, id, text)
 }
 
-// Adds the lines of these symbols.
+// Adds the lines of a symbol.
+fn add_symbol(
+    alloc: Global,
+    t: &Teller<'_, '_>,
+    input: &UserInput<'_>,
+    id: SymId,
+    text: &mut Vec<u8>,
+) -> Result<(), AllocError>
+    ensures { OnOk result (text.new.items ≡ text.old.items ++ led t.now.lead.now (rules.symbol_lines (lines_of t.now.layout.now) t.now.solved.now input.now t.now.is_raw id)) }
+{
+    let entries = definitions_of(alloc, t.layout, id)?;
+    add_symbol_of(alloc, t, input, &entries, id, text)
+}
+
+// Appends the lines of these symbols.
 fn add_symbols(
     alloc: Global,
-    t: &Teller<'_, '_, '_>,
+    t: &Teller<'_, '_>,
     input: &UserInput<'_>,
     symbols: &[SymId],
     text: &mut Vec<u8>,
 ) -> Result<(), AllocError>
     ensures { OnOk result (text.new.items ≡ text.old.items
-        ++ flat_map (λ s. led t.now.lead.now (rules.symbol_lines t.now.lines.now t.now.solved.now input.now t.now.is_raw s)) symbols.now) }
+        ++ flat_map (λ s. led t.now.lead.now (rules.symbol_lines (lines_of t.now.layout.now) t.now.solved.now input.now t.now.is_raw s)) symbols.now) }
 {
     for symbol in symbols {
         add_symbol(alloc, t, input, *symbol, text)?;
@@ -713,7 +701,7 @@ fn add_symbols(
     Ok(())
 }
 
-// All but the first.
+// All symbols except the first.
 fn behind_first(symbols: &[SymId]) -> &[SymId]
     ensures { result.now ≡ drop 1 symbols.now }
 {
@@ -724,22 +712,22 @@ fn behind_first(symbols: &[SymId]) -> &[SymId]
     }
 }
 
-// Adds the lines of these symbols, two spaces further in.
+// Appends the lines of these symbols, indented by two more spaces.
 fn add_further_in(
     alloc: Global,
-    t: &Teller<'_, '_, '_>,
+    t: &Teller<'_, '_>,
     input: &UserInput<'_>,
     symbols: &[SymId],
     text: &mut Vec<u8>,
 ) -> Result<(), AllocError>
     ensures { OnOk result (text.new.items ≡ text.old.items
-        ++ flat_map (λ s. led (t.now.lead.now ++ codes "  ") (rules.symbol_lines t.now.lines.now t.now.solved.now input.now t.now.is_raw s)) symbols.now) }
+        ++ flat_map (λ s. led (t.now.lead.now ++ codes "  ") (rules.symbol_lines (lines_of t.now.layout.now) t.now.solved.now input.now t.now.is_raw s)) symbols.now) }
 {
     let mut lead = Vec::new(alloc);
     lead.extend_from_slice(t.lead)?;
     lead.extend_from_slice(b"  ")?;
     let further = Teller {
-        lines: t.lines,
+        layout: t.layout,
         solved: t.solved,
         is_raw: t.is_raw,
         lead: &lead,
@@ -747,11 +735,11 @@ fn add_further_in(
     add_symbols(alloc, &further, input, symbols, text)
 }
 
-/// Adds the lines that explain a symbol, and those of the symbols that hold it down in so many steps, which stand two spaces
-/// further in. Each line begins with the lead. A string's value is written as a `.config` has it, raw or with escapes. Fails only when it is out of memory, and then a part of the text may be there.
+/// Appends the lines that explain a symbol and, indented by two more spaces, those of the symbols that hold it down in `depth` steps.
+/// Each line begins with the lead. Strings are written as in a `.config`, raw or with escapes. Fails only if memory runs out. Then a part may have been added.
 pub fn add_explanation(
     alloc: Global,
-    lines: &Lines<'_>,
+    layout: &Layout,
     solved: &Solved<'_>,
     input: &UserInput<'_>,
     is_raw: bool,
@@ -760,15 +748,16 @@ pub fn add_explanation(
     id: SymId,
     text: &mut Vec<u8>,
 ) -> Result<(), AllocError>
-    ensures { OnOk result (text.new.items ≡ text.old.items ++ rules.explanation_text lines.now solved.now input.now is_raw lead.now depth id) }
+    requires { IsLayoutOf solved.now.tree layout.now }
+    ensures { OnOk result (text.new.items ≡ text.old.items ++ rules.explanation_text (lines_in layout.now.entries) solved.now input.now is_raw lead.now depth id) }
 {
     let teller = Teller {
-        lines,
+        layout,
         solved,
         is_raw,
         lead,
     };
-    let all = reached(alloc, lines, solved, depth, id)?;
+    let all = reached(alloc, layout, solved, depth, id)?;
     add_symbol(alloc, &teller, input, id, text)?;
     add_further_in(alloc, &teller, input, behind_first(all.symbols()), text)
 }

@@ -4,7 +4,7 @@ use Rattle.std.specs.Prelude.{ℕ, ◌≡◌, List, ◌++◌}
 use Rattle.kc_language.specs.Expressions.{symbol, same_name, number_of}
 use Rattle.kc_language.specs.declared.expressions.SymId.{SymId}
 
--- the names so far, and perhaps more
+-- the old names, possibly followed by more
 abbrev pub Extends : List (List ℕ) → List (List ℕ) → Type 0
 Extends old new = (others : List (List ℕ)) × (new ≡ old ++ others)
 
@@ -12,6 +12,6 @@ Extends old new = (others : List (List ℕ)) × (new ≡ old ++ others)
 abbrev pub IsNumber : List (List ℕ) → List ℕ → SymId → Type 0
 IsNumber names name id = (later : List (List ℕ)) → Extends names later → id ≡ symbol (number_of later name)
 
--- no name stands twice
+-- no two numbers have the same name
 abbrev pub AreDistinct : List (List ℕ) → Type 0
 AreDistinct = IsDistinct same_name

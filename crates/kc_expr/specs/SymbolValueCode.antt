@@ -1,4 +1,4 @@
--- For proofs: How the logic stores the value of a symbol, by which a model may have it in its own value.
+-- For proofs: How the logic encodes the value of a symbol, so that a model's value may hold it.
 use Rattle.std.specs.Prelude.{◌≡◌}
 use Rattle.std.proofs.Common.{ap}
 use Rattle.std.specs.Coded.{Coded}

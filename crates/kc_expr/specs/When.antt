@@ -1,4 +1,4 @@
--- Trusted: The condition of a line, if it has one, without where it lies in memory.
+-- Trusted: The condition of a line, if it has one, without its layout in memory.
 use Rattle.std.specs.Prelude.{Option, option_map}
 use Rattle.std.specs.declared.alloc.Global.{Global}
 use Rattle.std.specs.declared.rc.Rc.{Rc}

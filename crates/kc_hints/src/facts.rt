@@ -11,7 +11,7 @@ use crate::value::{is_marked, line_form, part_at, value_at, value_text};
 use kc_display::Code;
 use kc_expr::expression::{SymId, SymbolType};
 use kc_expr::names::Names;
-use kc_read::entries::Entries;
+use kc_entries::entries::Entries;
 use kc_tree::tree::Tree;
 use std::alloc::{AllocError, Global};
 

@@ -1,4 +1,4 @@
--- For proofs: Parts of the definitions of Log, by names of their own.
+-- For proofs: Parts of the definitions of Log, with names of their own.
 use Rattle.kc_io.specs.Log.{Log, held}
 use Rattle.kc_language.specs.Lines.{is_line_feed}
 use Rattle.std.specs.Prelude.{ℕ, List, [], unwrap_or, Option, option_map, Bool, true, Some, None}

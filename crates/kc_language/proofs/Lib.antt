@@ -14,6 +14,7 @@ mod LinesExamples
 mod NeedsExamples
 mod OpenedTools
 mod OutcomeExamples
+pub mod OutputLemmas
 mod StatementsExamples
 mod SymbolsExamples
 mod TextExamples

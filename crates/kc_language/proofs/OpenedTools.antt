@@ -5,7 +5,7 @@ use Rattle.std.proofs.lemmas.Slice.Eq.{bytes_eq-Decides}
 use Rattle.std.specs.List.{list_all, list_any}
 use Rattle.std.specs.Map.{lookup}
 use Rattle.std.specs.Prelude.{Bool, Err, List, None, Ok, Option, Result, Some, [], bytes_eq, codes, drop, false, if◌then◌else◌, is_some, length, not, suc, slice_index, take, true, zero, ℕ, ◌&&◌, ◌++◌, ◌-◌, ◌==◌, ◌||◌, ◌∷◌}
-use Rattle.kc_language.specs.Expansion.{FileContext, Files, ReadSoFar, NextLine, NextStatement, Refused, Rest, at_end, blank, moved, renumbered, source, statement, without_help}
+use Rattle.kc_language.specs.Expansion.{Files, NextLine, NextStatement, ReadSoFar, Reading, Refused, Rest, at_end, blank, goes_on, moved, renumbered, source, statement, without_help}
 use Rattle.kc_language.specs.Expressions.{Disjunction, if_word}
 use Rattle.kc_language.specs.Lines.{AreJoined, Physical, UnreadLines, after_help, after_text, column, continues, from_other, is_help_line, joined_text}
 use Rattle.kc_language.specs.Statements.{After, Cause, ChoiceLine, CommentLine, ConfigLine, DefLine, DefaultLine, DependsLine, IfLine, IgnoredLine, ImplyLine, InputPrompt, LineContext, Located, MainMenuLine, MenuLine, ModulesLine, Named, PromptLine, RangeLine, ReadsLine, ReadsCondition, ReadsPrompt, ReadsRest, ReadsWhole, ReadsTextLine, SelectLine, SourceLine, TypeLine, VisibleLine, begins_with, finish, is_good_name, keyword_of, keyword_words, named_target, operand_of, option_line, placement_cause, text_of, word_of}
@@ -268,19 +268,19 @@ opened_in : List (List ℕ) → Result ReadSoFar Refused → List (List ℕ)
 opened_in names (Ok log) = log.opened
 opened_in names (Err r) = names
 
-opened_stay : {files : Files} {a : FileContext} {l : UnreadLines} {own : List (Located Named)} {log : ReadSoFar} {r : Result ReadSoFar Refused} →
-    files.flat ≡ false → Rest files a l own log r → list_all opens_none l.lines ≡ true → opened_in log.opened r ≡ log.opened
+opened_stay : {files : Files} {at : Reading} {r : Result ReadSoFar Refused} →
+    files.flat ≡ false → Rest files at r → list_all opens_none at.unread.lines ≡ true → opened_in at.log.opened r ≡ at.log.opened
 unfolding opened_in
-opened_stay f (at_end _ _ _ _ _ _) e = refl
-opened_stay f (blank _ _ _ _ _ _ next rest) e = opened_stay f rest (line_keeps next.0 e)
-opened_stay f (renumbered _ _ _ _ _ _ _ marks _) e = absurd (true≢false (sym marks.1 ∙ f))
-opened_stay f (moved _ _ _ _ _ _ _ _ marks _ _) e = absurd (true≢false (sym marks.1 ∙ f))
-opened_stay f (statement _ _ _ _ _ _ _ next _ _ rest) e = opened_stay f rest (line_keeps next.next e)
-opened_stay f (source _ _ _ _ _ _ _ _ _ next _ _ _ _) e = absurd (no_source next e)
+opened_stay f (at_end _ _ _) e = refl
+opened_stay f (goes_on _ _ _ (blank _ next) rest) e = opened_stay f rest (line_keeps next.0 e)
+opened_stay f (goes_on _ _ _ (renumbered _ _ marks) rest) e = absurd (true≢false (sym marks.1 ∙ f))
+opened_stay f (goes_on _ _ _ (moved _ _ _ marks _) rest) e = absurd (true≢false (sym marks.1 ∙ f))
+opened_stay f (goes_on _ _ _ (statement _ _ next _ _) rest) e = opened_stay f rest (line_keeps next.next e)
+opened_stay f (source _ opens _ _ _ _) e = absurd (no_source opens.next e)
 opened_stay f _ e = refl
 
 -- A file with only such lines that is not flat opens no other file.
-pub opens_no_other : {files : Files} {a : FileContext} {l : UnreadLines} {own : List (Located Named)} {log result : ReadSoFar} →
-    files.flat ≡ false → Rest files a l own log (Ok result) → list_all opens_none l.lines ≡ true → log.opened ≡ result.opened
+pub opens_no_other : {files : Files} {at : Reading} {result : ReadSoFar} →
+    files.flat ≡ false → Rest files at (Ok result) → list_all opens_none at.unread.lines ≡ true → at.log.opened ≡ result.opened
 unfolding opened_in
 opens_no_other f rest e = sym (opened_stay f rest e)

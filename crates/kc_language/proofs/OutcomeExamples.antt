@@ -2,15 +2,16 @@
 use Rattle.std.proofs.Common.{◌≡◌, refl, sym, ◌∙◌, ap, subst, arith, inl, inr, ◌≤◌, ◌+◌, suc, zero}
 use Rattle.std.proofs.lemmas.List.{append-nil}
 use Rattle.std.specs.List.{list_all, list_any}
-use Rattle.std.specs.Prelude.{List, None, Ok, Option, Some, [], codes, false, find, if◌then◌else◌, is_some, not, String, length, map, min, string_bytes, take, true, ℕ, ◌++◌, ◌-◌, ◌^◌, ◌||◌, ◌∷◌}
+use Rattle.std.specs.Prelude.{Bool, List, None, Ok, Option, Some, [], codes, false, find, if◌then◌else◌, is_some, not, option_map, String, length, map, min, string_bytes, take, true, ℕ, ◌++◌, ◌-◌, ◌^◌, ◌||◌, ◌∷◌}
 use Rattle.std.specs.Fmt.{digits}
 use Rattle.std.specs.declared.alloc.Global.{Global}
-use Rattle.kc_language.specs.{ConfigFile.{Notation, ReadResult, effect, gone_after, lines_after, lines_from, no_input, place_at, places_given, reading, reading_of, refused_after, untaken, untaken_line, warning, warnings}, Expansion.{AreOpened, Expands, FileContext, Files, ReadSoFar, NextStatement, Rest, at_end, bytes_in, first_log, numbered_lines, statement, without_help}}
+use Rattle.kc_language.specs.{ConfigFile.{Notation, ReadResult, UserInput, effect, gone_after, lines_after, lines_from, no_input, place_at, places_given, reading, reading_of, refused_after, untaken, untaken_line, warning, warnings}, Expansion.{AreOpened, Expands, Files, NextStatement, ReadSoFar, Reading, Rest, at_end, at_root, bytes_in, goes_on, numbered_lines, statement, without_help}}
 use Rattle.kc_language.specs.Expressions.{Atom, Disjunction, OperandToken, QuotedAtom, Single, Symbol, Text, TextValue, Truth, WordAtom, conjunction, lone, negation, only, symbol, terminal_of}
 use Rattle.kc_language.specs.Explanations.{asked_symbol}
 use Rattle.kc_language.specs.Lines.{Physical, UnreadLines, continues, joined_text, physical_lines, unread_lines}
 use Rattle.kc_language.specs.Needs.{IsAccepted}
-use Rattle.kc_language.specs.Outcome.{IsAcceptedTree, IsOutcome, IsOutcomeOfReading, Options, Outcome, accepted_tree, first_line, is_read_by_make, read_of, root_file, rule_text, run_error_text, streams, unknown_name, whole}
+use Rattle.kc_language.proofs.OutputLemmas.{has_kind}
+use Rattle.kc_language.specs.Outcome.{IsAcceptedTree, IsOutcome, IsOutcomeOfReading, Options, Outcome, accepted_tree, first_line, input_names, is_read_by_make, names_listed, read_of, root_file, rule_text, run_error_text, streams, target, text_of, unknown_name, unreadable_name, whole}
 use Rattle.kc_language.specs.Statements.{ConfigLine, DefaultLine, LineContext, Located, Named, ReadsLine, ReadsRest, ReadsValue, TypeLine, begins_with, error_line}
 use Rattle.kc_language.specs.Symbols.{IsTreeOf, SymbolShown, TreeFacts}
 use Rattle.kc_language.specs.Text.{longest_line, natural_of, unescape}
@@ -22,7 +23,10 @@ use Rattle.kc_language.specs.declared.expressions.SymbolType.{SymbolType}
 use Rattle.kc_language.specs.declared.statements.Keyword.TheVariants as key
 use Rattle.kc_language.specs.declared.expressions.SymbolType.TheVariants.{Bool as IsBool, Int}
 use Rattle.kc_language.specs.declared.expressions.Tri.TheVariants.{Y}
+use Rattle.kc_language.specs.declared.outcome.Output.{Output}
+use Rattle.kc_language.specs.declared.outcome.Output.TheVariants.{Config, DependencyFile, Explanation, GoneLines, Header, Minimal}
 use Rattle.kc_language.specs.declared.outcome.Status.TheVariants.{Done}
+use Rattle.kc_language.specs.declared.outcome.WantedOutput.{WantedOutput}
 use Rattle.kc_language.specs.declared.tokens.TextFault.TheVariants.{Macro}
 use Rattle.kc_language.proofs.ExampleTools.{one_line, quoted, word}
 use Rattle.kc_language.proofs.OpenedTools.{opens_no_other}
@@ -160,22 +164,22 @@ rows = row (codes "config A") ∷ row (codes "\tbool \"a\"") ∷ row (codes "con
     row (codes "config C") ∷ row (codes "\tint \"c\"") ∷ row (codes "\tdefault \"7\"") ∷ []
 
 -- No other file is open, and no block.
-abbrev at_root : FileContext
-at_root = record { open_files = codes "Kconfig" ∷ []; file = codes "Kconfig"; blocks = [] }
+abbrev at_first : Reading
+at_first = record { context = record { open_files = codes "Kconfig" ∷ []; file = codes "Kconfig"; blocks = [] }; unread = unread 1 rows; own = []; log = log_of [] }
 
-rest_is_read : Rest files at_root (unread 1 rows) [] (log_of []) (Ok (log_of read_statements))
+rest_is_read : Rest files at_first (Ok (log_of read_statements))
 rest_is_read =
-    statement _ _ _ _ _ _ _ (next_line (codes "config A") _ _ _ _ _ _ refl (omega arith) (cut_config 65 refl) refl refl refl) refl refl (
-    statement _ _ _ _ _ _ _ (next_line (codes "\tbool \"a\"") _ _ _ _ _ _ refl (omega arith) cut_bool_prompt refl refl (reads_prompt _ _)) refl refl (
-    statement _ _ _ _ _ _ _ (next_line (codes "config B") _ _ _ _ _ _ refl (omega arith) (cut_config 66 refl) refl refl refl) refl refl (
-    statement _ _ _ _ _ _ _ (next_line (codes "\tbool") _ _ _ _ _ _ refl (omega arith) cut_bool refl refl (inl (refl, refl))) refl refl (
-    statement _ _ _ _ _ _ _ (next_line (codes "\tdefault A") _ _ _ _ _ _ refl (omega arith) cut_default_word refl refl
-    (reads_operand _ _ refl)) refl refl (
-    statement _ _ _ _ _ _ _ (next_line (codes "config C") _ _ _ _ _ _ refl (omega arith) (cut_config 67 refl) refl refl refl) refl refl (
-    statement _ _ _ _ _ _ _ (next_line (codes "\tint \"c\"") _ _ _ _ _ _ refl (omega arith) cut_int_prompt refl refl (reads_prompt _ _)) refl refl (
-    statement _ _ _ _ _ _ _ (next_line (codes "\tdefault \"7\"") _ _ _ _ _ _ refl (omega arith) cut_default_text refl refl
-    (reads_operand _ _ refl)) refl refl (
-    at_end _ _ _ _ refl refl))))))))
+    goes_on _ _ _ (statement _ _ (next_line (codes "config A") _ _ _ _ _ _ refl (omega arith) (cut_config 65 refl) refl refl refl) refl refl) (
+    goes_on _ _ _ (statement _ _ (next_line (codes "\tbool \"a\"") _ _ _ _ _ _ refl (omega arith) cut_bool_prompt refl refl (reads_prompt _ _)) refl refl) (
+    goes_on _ _ _ (statement _ _ (next_line (codes "config B") _ _ _ _ _ _ refl (omega arith) (cut_config 66 refl) refl refl refl) refl refl) (
+    goes_on _ _ _ (statement _ _ (next_line (codes "\tbool") _ _ _ _ _ _ refl (omega arith) cut_bool refl refl (inl (refl, refl))) refl refl) (
+    goes_on _ _ _ (statement _ _ (next_line (codes "\tdefault A") _ _ _ _ _ _ refl (omega arith) cut_default_word refl refl
+    (reads_operand _ _ refl)) refl refl) (
+    goes_on _ _ _ (statement _ _ (next_line (codes "config C") _ _ _ _ _ _ refl (omega arith) (cut_config 67 refl) refl refl refl) refl refl) (
+    goes_on _ _ _ (statement _ _ (next_line (codes "\tint \"c\"") _ _ _ _ _ _ refl (omega arith) cut_int_prompt refl refl (reads_prompt _ _)) refl refl) (
+    goes_on _ _ _ (statement _ _ (next_line (codes "\tdefault \"7\"") _ _ _ _ _ _ refl (omega arith) cut_default_text refl refl
+    (reads_operand _ _ refl)) refl refl) (
+    at_end _ refl refl))))))))
 
 -- The root file expands to these statements.
 root_expands : Expands files (codes "Kconfig") (Ok (log_of read_statements))
@@ -188,7 +192,7 @@ unfolding physical_lines
 only_root_opened log expands = opens_no_other refl (subst (λ text. rest_of text) (same_text expands.1) expands.2) refl
   where
     rest_of : List ℕ → Type 0
-    rest_of text = Rest files at_root (unread_lines text 1) [] (first_log files (codes "Kconfig") text) (Ok log)
+    rest_of text = Rest files (at_root files (codes "Kconfig") text) (Ok log)
 
     text_of : Option (List ℕ) → List ℕ
     text_of None = []
@@ -213,6 +217,7 @@ tree = record {
   warnings = [];
   main_menu = codes "Main menu";
   modules = None;
+  lines = numbered_lines (log_of read_statements).lines;
 }
 
 tree_is_built : IsTreeOf files (codes "Kconfig") (Ok tree)
@@ -269,17 +274,11 @@ is_solution = record { places = record { symbols = refl; choices = refl }; count
 
 -- The run writes a `.config`, a header and a minimal file. Warnings are not refused. The other options may be anything.
 module _ (any : Options) (out header minimal : String Global) (root_is : string_bytes any.kconfig ≡ codes "Kconfig")
-    (config_is : string_bytes any.config ≡ codes ".config") (no_fragments : any.fragments.items ≡ []) (no_names : any.explain.items ≡ []) where
+    (config_is : string_bytes any.config ≡ codes ".config") (no_fragments : any.fragments.items ≡ []) (no_names : any.explain.items ≡ [])
+    (outputs_are : any.outputs.items ≡ record { kind = Config; file = out } ∷ record { kind = Header; file = header } ∷ record { kind = Minimal; file = minimal } ∷ []) where
   abbrev options : Options
   options = record any {
     prefix = plain_notation;
-    out = Some out;
-    header = Some header;
-    minimal = Some minimal;
-    list_new = None;
-    list_gone = None;
-    depfile = None;
-    explanation = None;
     strict = false;
     strict_tree = false;
     warn_lost = false;
@@ -291,47 +290,52 @@ module _ (any : Options) (out header minimal : String Global) (root_is : string_
   -- The texts, the diagnostics and the status that the run is to leave. Only A differs from its default, so only A is in the minimal file.
   abbrev outcome : Outcome
   outcome = record {
-    config = Some (codes "#\n# Automatically generated file; DO NOT EDIT.\n# Main menu\n#\nCONFIG_A=y\nCONFIG_B=y\nCONFIG_C=7\n");
-    header =
-        Some (codes "/*\n * Automatically generated file; DO NOT EDIT.\n * Main menu\n */\n#define CONFIG_A 1\n#define CONFIG_B 1\n#define CONFIG_C 7\n");
-    minimal = Some (codes "CONFIG_A=y\n");
-    list_new = None;
-    list_gone = None;
-    depfile = None;
-    explanation = None;
+    texts =
+        codes "#\n# Automatically generated file; DO NOT EDIT.\n# Main menu\n#\nCONFIG_A=y\nCONFIG_B=y\nCONFIG_C=7\n" ∷
+        codes "/*\n * Automatically generated file; DO NOT EDIT.\n * Main menu\n */\n#define CONFIG_A 1\n#define CONFIG_B 1\n#define CONFIG_C 7\n" ∷
+        codes "CONFIG_A=y\n" ∷ [];
     warned = codes ".config:2: warning K7: unknown symbol D\n";
     refusal = [];
     status = Done;
   }
 
+  -- What stands before the first line, with these outputs.
+  abbrev input_for : List WantedOutput → UserInput
+  input_for outputs = record (no_input (has_kind outputs Explanation) tree) { gone = if has_kind outputs GoneLines then Some ([], []) else None }
+
   -- The `.config` is the only input file.
   input_is_read : read_of options tree (old_config ∷ []) ≡ read
   input_is_read =
-      ap (λ items. reading_of tree plain_notation (no_input false tree)
+      ap (λ outputs. reading_of tree plain_notation (input_for outputs) (streams (input_names options) (old_config ∷ []))) outputs_are
+      ∙ ap (λ items. reading_of tree plain_notation (no_input false tree)
       (streams (string_bytes any.config ∷ map (λ name. [] ++ string_bytes name) items) (old_config ∷ []))) no_fragments
       ∙ ap (λ name. reading_of tree plain_notation (no_input false tree) (record { name = name; bytes = old_config } ∷ [])) config_is
       ∙ config_is_read
 
   -- From the reading to the outcome.
-  reading_has_outcome : IsOutcomeOfReading files options tree (numbered_lines (log_of read_statements).lines) read outcome
+  reading_has_outcome : (opened : List (List ℕ)) → IsOutcomeOfReading files options opened tree read outcome
   unfolding config_text header_text minimal_text natural_of digits
-  reading_has_outcome = whole solution refl (record { tree_is = refl; places_are = refl; solves = is_solution }) refl
+  reading_has_outcome opened = whole solution refl (record { tree_is = refl; places_are = refl; solves = is_solution })
+      (ap (λ (outputs : List WantedOutput). let o : Outcome = record outcome {
+        texts = map (λ wanted. text_of files options opened read.input solution wanted.kind) outputs;
+      } in o) (sym outputs_are))
 
   -- The whole run: from the bytes of `Kconfig` and of `.config` to the outcome.
   run_has_outcome : IsOutcome files options (old_config ∷ []) outcome
-  run_has_outcome = (outcome, codes "Kconfig" ∷ [], accepted_tree tree (log_of read_statements) accepted expands refl none_unknown (outcome, read_outcome, refl), opened, refl)
+  run_has_outcome = (outcome, codes "Kconfig" ∷ [], accepted_tree tree accepted none_unread none_unknown (outcome, read_outcome, refl), opened, refl)
     where
       accepted : IsAcceptedTree files (root_file options) tree
       accepted = subst (λ root. IsAcceptedTree files root tree) (sym root_is) (record { built = tree_is_built; accepted = tree_is_accepted })
 
-      read_outcome : IsOutcomeOfReading files options tree (numbered_lines (log_of read_statements).lines) (read_of options tree (old_config ∷ [])) outcome
-      read_outcome = subst (λ r. IsOutcomeOfReading files options tree (numbered_lines (log_of read_statements).lines) r outcome) (sym input_is_read) reading_has_outcome
+      read_outcome : IsOutcomeOfReading files options (codes "Kconfig" ∷ []) tree (read_of options tree (old_config ∷ [])) outcome
+      read_outcome = subst (λ r. IsOutcomeOfReading files options (codes "Kconfig" ∷ []) tree r outcome) (sym input_is_read) (reading_has_outcome (codes "Kconfig" ∷ []))
+
+      none_unread : unreadable_name options (codes "Kconfig" ∷ []) ≡ None
+      none_unread = ap (λ outputs. if has_kind outputs DependencyFile
+          then find (λ name. not (is_read_by_make name)) (target options ∷ names_listed options (codes "Kconfig" ∷ [])) else None) outputs_are
 
       none_unknown : unknown_name options tree ≡ None
       none_unknown = ap (λ names. find (λ asked. not (is_some (asked_symbol tree (codes "CONFIG_") asked))) (map string_bytes names)) no_names
-
-      expands : Expands files (root_file options) (Ok (log_of read_statements))
-      expands = subst (λ root. Expands files root (Ok (log_of read_statements))) (sym root_is) root_expands
 
       opened : AreOpened files (root_file options) (codes "Kconfig" ∷ [])
       opened = subst (λ root. AreOpened files root (codes "Kconfig" ∷ [])) (sym root_is) only_root_opened

@@ -83,19 +83,7 @@ buffers = record plain {
 abbrev ids : List SymId
 ids = symbol 0 ∷ symbol 1 ∷ symbol 2 ∷ symbol 3 ∷ symbol 4 ∷ []
 
-abbrev pub tree : TreeFacts
-tree = record {
-  names = codes "SMALL" ∷ codes "FAST" ∷ codes "CRC" ∷ codes "LOG" ∷ codes "BUFFERS" ∷ [];
-  symbols = small ∷ fast ∷ crc ∷ log ∷ buffers ∷ [];
-  defined = ids;
-  choices = record { prompt = Some always; defaults = []; members = symbol 0 ∷ symbol 1 ∷ [] } ∷ [];
-  entries = map SymbolShown ids;
-  warnings = [];
-  main_menu = codes "Main menu";
-  modules = None;
-}
-
--- The statements of that file. The tree is what they say. Only warnings would use a line's number.
+-- The statements of that file. Only warnings would use a line's number.
 abbrev prompt : String → Option Form → InputPrompt Form
 prompt text when = record { text = codes text; when = when }
 
@@ -111,7 +99,21 @@ lines =
     ∷ DefaultLine (Single (Text (codes "500"))) None
     ∷ []
 
-tree_of_the_lines : facts_with tree.names (map (λ s. record { file = codes "Kconfig"; line = 1; statement = s }) lines) ≡ tree
+-- The tree is what they say.
+abbrev pub tree : TreeFacts
+tree = record {
+  names = codes "SMALL" ∷ codes "FAST" ∷ codes "CRC" ∷ codes "LOG" ∷ codes "BUFFERS" ∷ [];
+  symbols = small ∷ fast ∷ crc ∷ log ∷ buffers ∷ [];
+  defined = ids;
+  choices = record { prompt = Some always; defaults = []; members = symbol 0 ∷ symbol 1 ∷ [] } ∷ [];
+  entries = map SymbolShown ids;
+  warnings = [];
+  main_menu = codes "Main menu";
+  modules = None;
+  lines = map (λ s. record { file = codes "Kconfig"; line = 1; statement = s }) lines;
+}
+
+tree_of_the_lines : facts_with tree.names tree.lines ≡ tree
 tree_of_the_lines = refl
 
 -- The user selects FAST, and gives nothing else.

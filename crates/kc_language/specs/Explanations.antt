@@ -1,5 +1,5 @@
 -- Trusted: 12. Explanations: the text of an expression, and why a symbol has its value.
--- Our own. The first part prints an expression so that the grammar reads it back. The parentheses are as few as the grammar allows.
+-- Our own. The first part prints an expression so that the grammar reads it back, with as few parentheses as the grammar allows.
 use Rattle.std.specs.{List.{enumerate_from, filter_map, flat_map, list_all, list_any, slice_split, suffix_len}, Option.option_or, Prelude.{All, Bool, IsTrue, List, None, Option, Some, [], codes, decimal, drop, false, filter, if◌then◌else◌, is_some, length, map, not, option_and_then, option_map, slice_get, slice_index_or, suc, take, take_while, true, zero, ℕ, ◌&&◌, ◌++◌, ◌+◌, ◌-◌, ◌<◌, ◌==◌, ◌||◌, ◌∷◌, ◌≡◌, ◌≢◌, ◌≤◌}}
 use Rattle.kc_language.specs.{ConfigFile.{Notation, StreamLocation, UserInput, place_at, plain_line, symbol_named, value_text, without_prefix}, Expansion.{Files, attributes, enclosing, last_of}, Expressions.{Chain, Compares, Disjunction, Every, Form, Forms, Leaf, LoneM, MoreForms, Negated, Negation, NoForms, OperandToken, Part, QuotedAtom, Related, Single, Some_of, Symbol, SymbolValue, Terminal, Text, WordAtom, bang, compare, conjunction, group, if_word, joined, leaf_symbols, least, lesser, levels, lone, meaning, negation, number_of, number_of_text, only, same_name, same_symbol, spell, symbols, terminal_of, text, tri_text, tristate_constant, truth_of_value, value}, Lines.{is_line_feed}, Statements.{DependsLine, IfLine, ImplyLine, InputPrompt, Located, MenuLine, Numbered, RangeLine, SelectLine, VisibleLine, statements}, Symbols.{Bounds, ChoiceFacts, StatedDefault, SymbolFacts, TreeFacts, all_added, can_be_target, choice_number, choice_of, definitions_of, facts_with, holds_text, indices, is_selectable, is_symbol_of, listed, members_of, name_by, of_block, prompt_of, same_type, stated_default, symbol_at, type_of}, Text.{byte, escape}, Texts.{IsSolution, Solution, SolutionView, known, symbol_new, value_of}, Tokens.{IsCut, Lexeme, is_blank, is_word_byte, relation_text}, Values.{GivenTruth, GivenValue, Member, SymbolPlace, above, active_range, choice_at, conditions, default_text as value_default, default_value, equations, facts, first_met, given_of, if_within_range, implied_value, is_n, is_visible, is_within_range, known_from, mode_of, name, number_or_zero, number_text, selected, selected_to, single_text, type_in, upgraded, user_or, user_place, visibility, visible_text}, declared.{explanations.{Source.{Source}}, expressions.{Connective.{Connective, TheVariants.{And, Or}}, SymId.{SymId}, SymbolType.{SymbolType, TheVariants.{Bool as IsBool, Hex, Int, Str, Tristate, Undefined}}, Tri.{TheVariants.{M, N, Y}, Tri}}, statements.{Block.{Block}}, symbols.{SelectOrImply.{SelectOrImply}}, tokens.{Op.{Op}}}}
 use Rattle.kc_language.specs.declared.tokens.Op.TheVariants as op
@@ -15,7 +15,7 @@ parenthesized needed text = if needed then codes "(" ++ text ++ codes ")" else t
 abbrev pub joint : Connective → List ℕ
 joint c = elim c [ And ↦ codes " && " | Or ↦ codes " || " ]
 
--- An expression stands alone (None), is a part of a `||`, or of a `&&` or `!`, where an `&&` needs parentheses. An `||` needs them unless it is alone.
+-- An expression is alone (None), or a part of a `||` or of a `&&` or `!`. A `&&` needs parentheses in the last case. A `||` needs them unless it is alone.
 abbrev pub is_and : Option Connective → Bool
 is_and place = elim place [ Some c ↦ elim c [ And ↦ true | Or ↦ false ] | None ↦ false ]
 
@@ -77,7 +77,7 @@ abbrev pub IsOperand : List (List ℕ) → Leaf → Type 0
 IsOperand names a = elim a [ Text t ↦ All (λ b. b ≢ byte "$") t | Symbol s ↦ HasName names s ]
 
 module _ (condition : Bool) (names : List (List ℕ)) where
-  -- A chain has two parts or more. Only in a condition there is a lone `m`, and only elsewhere a constant m stands alone.
+  -- A chain has two parts or more. A lone `m` occurs only in a condition, and a constant m that is alone occurs only elsewhere.
   abbrev mutual
     pub IsReadable : Form → Type 0
     IsReadable (Single a) = IsOperand names a × ((condition && elim a [ Text t ↦ same_name t (tri_text M) | Symbol s ↦ false ]) ≡ false)
@@ -103,7 +103,7 @@ module _ (condition : Bool) (names : List (List ℕ)) where
 abbrev pub ReadsBack : Type 0
 ReadsBack = (condition : Bool) (names : List (List ℕ)) (f : Form) → IsReadable condition names f → IsReadBack condition names f
 
--- A token of a line: a word is no `if` and a constant or a name of the list, a quoted text holds no `$`, and what compares is a relation.
+-- A token of a line: a word is not `if`, and it is a constant or a name of the list; a quoted text holds no `$`; a comparison is a relation.
 abbrev pub IsNumberedWord : List (List ℕ) → List ℕ → Type 0
 IsNumberedWord names w = (0 < length w) × All (λ b. IsTrue (is_word_byte b)) w × (same_name w if_word ≡ false)
     × (is_some (tristate_constant w) ≡ false → list_any (same_name w) names ≡ true)
@@ -115,19 +115,19 @@ IsNumberedToken names t = elim t [
   | _ ↦ Unit {0}
 ]
 
--- So what expressions of lines mean is readable. By `ReadsBack` nothing else is.
+-- So the meaning of each expression of a line is readable. By `ReadsBack`, only such meanings are readable.
 abbrev pub MeaningsAreReadable : Type 0
 MeaningsAreReadable = (condition : Bool) (names : List (List ℕ)) (d : Disjunction) → All (IsNumberedToken names) (spell d) →
     IsReadable condition names (meaning condition (number_of names) d)
 
--- ---- What the tree says of a symbol, and where
+-- ---- What the tree says about a symbol, and in which lines
 -- A line of the entry at `entry`: its number among all statements, and what it says.
 pub record Said (X : Type 0) : Type 0 where
   pub entry : ℕ
   pub at : ℕ
   pub what : X
 
--- What a part of a condition asks: an expression, or the mode of a choice. The part, with the number of the statement that asks it.
+-- A part of a condition: an expression or the mode of a choice, with the number of the statement that adds it.
 pub data Asked : Type 0 where
   Worth : Form → Asked
   ModeOf : ℕ → Asked
@@ -161,7 +161,7 @@ through p [] = []
 through p (x ∷ xs) = if p x then x ∷ [] else x ∷ through p xs
 
 module _ (ss : List Numbered) where
-  -- What the attributes of the entry at i say that `read` takes, with their numbers: they follow it. Those of all definitions of a symbol.
+  -- The attributes of the entry at i that `read` accepts, with their statement numbers: they follow i. Those of all definitions of a symbol.
   abbrev pub said_at : {X : Type 0} → (Numbered → Option X) → ℕ → List (Said X)
   said_at read i =
       filter_map (λ (k, l). option_map (λ x. record { entry = i; at = k; what = x }) (read l)) (enumerate_from (suc i) (attributes ss i))
@@ -172,21 +172,21 @@ module _ (ss : List Numbered) where
   abbrev pub parts_at : (Numbered → Option Form) → ℕ → List ConditionPart
   parts_at read i = map (λ l. worth l.at l.what) (said_at read i)
 
-  -- What a block asks: an `if` its condition, a menu its `depends on` lines. The mode of the innermost choice around an entry.
+  -- The parts that a block adds: an `if` its condition, a menu its `depends on` lines. The mode of the innermost choice around an entry.
   abbrev pub block_parts : ℕ → List ConditionPart
   block_parts j = elim (slice_get ss j) [ Some (IfLine e) ↦ worth j e ∷ [] | Some (MenuLine t) ↦ parts_at dependency_in j | _ ↦ [] ]
 
   abbrev pub mode_parts : ℕ → List ConditionPart
   mode_parts i = map (λ j. record { at = j; asks = ModeOf (choice_number ss j) }) (listed (last_of (filter (of_block ss Block.Choice) (enclosing ss i))))
 
-  -- What an entry depends on. A line of it depends on the same and on its own `if`.
+  -- What an entry depends on. A line of the entry depends on the same, and on its own `if`.
   abbrev pub dependency_parts : ℕ → List ConditionPart
   dependency_parts i = flat_map block_parts (enclosing ss i) ++ parts_at dependency_in i ++ mode_parts i
 
   abbrev pub line_parts : {X : Type 0} → (X → Option Form) → Said X → List ConditionPart
   line_parts own l = dependency_parts l.entry ++ map (worth l.at) (listed (own l.what))
 
-  -- The prompt that counts in each definition of a symbol, and in the entry at j. What it is shown under, besides its entry's dependency; and all.
+  -- The prompt that counts in each of these entries. `shown_parts`: its conditions besides its entry's dependency. `prompt_parts`: all its conditions.
   abbrev pub prompt_lines : List ℕ → List (Said (InputPrompt Form))
   prompt_lines entries = filter_map (λ i. last_of (said_at prompt_of i)) entries
 
@@ -196,7 +196,7 @@ module _ (ss : List Numbered) where
   abbrev pub prompt_parts : Said (InputPrompt Form) → List ConditionPart
   prompt_parts p = dependency_parts p.entry ++ shown_parts p
 
-  -- The lines of symbols that select or imply a symbol; those that have an effect. The statement that begins choice k.
+  -- The lines that select or imply a symbol; those that have an effect. The statement that begins choice k.
   abbrev pub naming_lines : SelectOrImply → SymId → List (Said (Option Form))
   naming_lines word s = flat_map (said_at (targets word s)) (filter (λ i. is_some (symbol_at ss i)) (indices ss))
 
@@ -206,7 +206,7 @@ module _ (ss : List Numbered) where
   abbrev pub choice_entry : ℕ → List ℕ
   choice_entry k = listed (slice_get (filter (of_block ss Block.Choice) (indices ss)) k)
 
--- What is said of a name without a type that these entries define: it is a symbol only if one does.
+-- The text about a name without a type that these entries define. The name is a symbol only if an entry defines it.
 abbrev pub untyped_text : List ℕ → List ℕ
 untyped_text entries = elim entries [ [] ↦ codes ": not a symbol, only mentioned" | _ ↦ codes ": a symbol without a type" ]
 
@@ -252,7 +252,7 @@ module _ (lines : List (Located Numbered)) (solution : Solution) where
   abbrev pub range_lines : SymId → List (Said (Bounds × Option Form))
   range_lines s = through (is_met (λ r. r.1)) (said_of (statements lines) range_in s)
 
-  -- What is cited of a line, of the prompts of a symbol, and of its defaults and ranges.
+  -- What is cited for a line, for the prompts of a symbol, and for its defaults and ranges.
   abbrev pub cited_line : {X : Type 0} → (X → Option Form) → Said X → List Cited
   cited_line own l = ConditionIs (line_parts (statements lines) own l) ∷ []
 
@@ -276,7 +276,7 @@ module _ (lines : List (Located Numbered)) (solution : Solution) where
       cited_of_all s ++ flat_map (λ r. cited_line (λ x. x.1) r
       ++ (if is_met (λ x. x.1) r then BoundIs kind (r.what).0.low ∷ BoundIs kind (r.what).0.high ∷ [] else [])) (range_lines s)
 
-  -- Of a member: the mode of its choice, the conditions of the choice's defaults, and those of the prompts of all members.
+  -- For a member: the mode of its choice, the conditions of the choice's defaults, and those of the prompts of all members.
   abbrev pub cited_at : ℕ → List Cited
   cited_at j = flat_map (λ m. cited_prompts (definitions_of (statements lines) m)) (members_of (statements lines) (choice_number (statements lines) j))
       ++ flat_map (cited_line (λ d. d.when)) (said_at (statements lines) stated_default j)
@@ -337,7 +337,7 @@ is_by_default from =
     elim from [ Source.Implied ↦ true | Source.Default ↦ true | Source.MovedDefault ↦ true | Source.NoDefault ↦ true | _ ↦ false ]
 
 module _ (tree : TreeFacts) (known : SymId → SymbolValue) where
-  -- The default that applied, or none. It may be moved into the range. A bool or tristate may be selected above the user's value, implied above it.
+  -- The default that applied, or none. It may be moved into the range. A bool or tristate may be selected above the user's value or implied above its default.
   abbrev pub default_source : SymbolFacts → Source
   default_source f = let default = first_met tree known f.defaults in
       if is_some default then (if is_within_range f.symbol_type (active_range tree known f) (value_default known default)
@@ -394,7 +394,7 @@ module _ (lines : List (Located Numbered)) (solution : Solution) where
   abbrev pub word_at : ℕ → List ℕ
   word_at i = elim (slice_get (statements lines) i) [ Some (DependsLine e) ↦ codes "depends on " | Some (VisibleLine e) ↦ codes "visible if " | _ ↦ codes "if " ]
 
-  -- A part of a condition; what has such parts.
+  -- The text of a part of a condition; a first line with such parts after it.
   abbrev pub part_text : ConditionPart → List ℕ
   part_text p = codes "    " ++ location p.at
       ++ elim p.asks [ Worth e ↦ word_at p.at ++ expression_text solution.tree.names e | ModeOf k ↦ codes "choice" ]
@@ -421,7 +421,7 @@ module _ (lines : List (Located Numbered)) (solution : Solution) where
   abbrev pub default_text : Said StatedDefault → List ℕ
   default_text d = line_text (codes "default " ++ expression_text solution.tree.names (d.what).value) d.at (d.what).when (line_value (λ g. g.when) d)
 
-  -- The value of the default that applied: as a text of a string, int or hex, else as a truth value.
+  -- The value of the default that applied: a text for a string, int or hex, otherwise a truth value.
   abbrev pub applied_text : SymbolType → Said StatedDefault → List ℕ
   applied_text kind d = if is_met lines solution (λ g. g.when) d then codes ", value " ++
       (if holds_text kind then single_text (known solution) (d.what).value
@@ -435,7 +435,7 @@ module _ (lines : List (Located Numbered)) (solution : Solution) where
   active_text f = map (λ r. codes "  active range " ++ number_text f.symbol_type r.low ++ codes " to " ++ number_text f.symbol_type r.high)
       (listed (active_range solution.tree (known solution) f))
 
-  -- A line that selects or implies the symbol, with the symbol that does, and the value up to which it does.
+  -- A line that selects or implies the symbol, with the symbol that the line belongs to, and the value that it selects or implies.
   abbrev pub target_value : Said (Option Form) → Tri
   target_value l = elim (symbol_at (statements lines) l.entry) [ None ↦ N | Some t ↦ lesser (truth_of_value (known solution t)) (line_value (λ w. w) l) ]
 
@@ -466,12 +466,12 @@ module _ (lines : List (Located Numbered)) (solution : Solution) where
   abbrev pub body_text : Bool → SymId → Option SymbolFacts → List (List ℕ)
   body_text is_raw s o = elim o [ None ↦ [] | Some f ↦ elim f.choice [ Some k ↦ choice_text is_raw k | None ↦ plain_text is_raw s f ] ]
 
-  -- ---- What holds a symbol down: the symbols of the parts below y of what it depends on and of its prompts; if its defaults decide, also those of
-  -- their conditions and of the default that applied, and the bounds of the active range.
+  -- ---- What holds a symbol down: the symbols of the parts below y of its dependencies and its prompts. If its defaults decide, also those of
+  -- their conditions, of the default that applied, and of the ranges up to the active one.
   abbrev pub worth_names : ConditionPart → List SymId
   worth_names p = if is_y (part_value solution.tree (known solution) p) then [] else elim p.asks [ Worth e ↦ symbols solution.tree.modules e | ModeOf k ↦ [] ]
 
-  -- Of the mode of a choice: those of what the choice depends on and of its prompt.
+  -- For the mode of a choice: those of the choice's dependencies and of its prompt.
   abbrev pub choice_names : ℕ → List SymId
   choice_names j = flat_map worth_names (dependency_parts (statements lines) j)
       ++ flat_map (λ p. flat_map worth_names (shown_parts (statements lines) p)) (prompt_lines (statements lines) (j ∷ []))
@@ -494,7 +494,7 @@ module _ (lines : List (Located Numbered)) (solution : Solution) where
       ++ (if is_by_default (source solution s)
       then flat_map default_names (default_lines lines solution s) ++ flat_map range_names (range_lines lines solution s) else [])
 
-  -- A word that is a number is no symbol that a reader asks for.
+  -- Whether a symbol is a word that is a number. Such words are not explained.
   abbrev pub is_number_word : SymId → Bool
   is_number_word s = same_type (type_in (facts solution.tree s)) Undefined && is_some (number_of_text (name solution.tree s))
 
@@ -531,7 +531,7 @@ module _ (lines : List (Located Numbered)) (solution : Solution) where
         ++ flat_map (λ t. flat_map (λ l. lead ++ codes "  " ++ l ++ codes "\n") (symbol_lines is_raw t)) (drop 1 (reached n (s ∷ []) (s ∷ [])))
 
 -- ---- The definitions of a symbol as they are written, as comments
--- Line n of these bytes, and the lines after it that are empty or begin with a blank, but none without text at the end.
+-- Line n of these bytes, and the lines after it that are empty or begin with a blank. Lines without text at the end are left out.
 abbrev pub begins_blank : List ℕ → Bool
 begins_blank line = elim line [ [] ↦ true | b ∷ rest ↦ is_blank b || b == byte "\r" ]
 
@@ -549,17 +549,17 @@ definition_comments files lines s = flat_map (λ i. flat_map (λ (l : Located Nu
     ++ flat_map (λ line. codes "# " ++ line ++ codes "\n") (flat_map (λ bytes. excerpt bytes l.line) (listed (files.bytes l.file)))) (listed (slice_get lines i)))
     (definitions_of (statements lines) s)
 
--- The list of new symbols with them, and an empty line behind each symbol.
+-- The list of new symbols with these comments, and an empty line after each symbol.
 abbrev pub new_text_with_help : Files → List (Located Numbered) → TreeFacts → Notation → SolutionView → List ℕ
 new_text_with_help files lines tree notation view =
     flat_map (λ s. if view.is_new s then definition_comments files lines s ++ symbol_new tree notation view s ++ codes "\n" else []) tree.defined
 
--- ---- The names that are asked for
--- The number of a name that the tree mentions, which may have the prefix in front.
+-- ---- The requested names
+-- The number of a name that the tree mentions. The name may begin with the prefix.
 abbrev pub asked_symbol : TreeFacts → List ℕ → List ℕ → Option SymId
 asked_symbol tree prefix asked = option_or (symbol_named tree asked) (option_and_then (symbol_named tree) (without_prefix prefix asked))
 
--- Two names differ by one letter: it is another one, or only one of them has it. The names of defined symbols that do.
+-- Two names differ by one letter if one letter is different, or if only one name has it. The names of defined symbols that differ so from this one.
 abbrev pub differs_by_one : List ℕ → List ℕ → Bool
 differs_by_one [] name = length name == 1
 differs_by_one (a ∷ xs) [] = length xs == 0

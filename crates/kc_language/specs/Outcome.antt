@@ -1,17 +1,15 @@
--- Trusted: 13. Outcome: the texts, the diagnostics and the status that a run is to leave.
+-- Trusted: 13. Outcome: the texts, the diagnostics and the status of a run.
 -- Our own, except for the syntax of a dependency file, which is GNU make's. `IsOutcome` at the end is the rule.
-use Rattle.std.specs.{List.list_any, Option.option_map_or, Prelude.{Bool, Err, List, None, Ok, Option, Some, [], codes, decimal, false, find, flat_map, if◌then◌else◌, is_some, length, map, nat_le, not, option_map, slice_get, string_bytes, true, ℕ, ◌&&◌, ◌++◌, ◌-◌, ◌==◌, ◌||◌, ◌∷◌, ◌≡◌}}
-use Rattle.kc_language.specs.{ConfigFile.{Notation, Places, ReadResult, Stream, StreamLocation, UserInput, no_input, reading_of}, Expansion.{AreOpened, Expands, Files, ReadSoFar, Refused, numbered_lines}, Explanations.{asked_symbol, explanation_text, near_names, new_text_with_help}, Expressions.{all_mentioned, same_name}, Needs.{IsAccepted, IsLoopText, loop_refused}, Statements.{Located, Numbered, cause_text, error_at, error_line}, Symbols.{IsTreeOf, TreeFacts, Warning, listed}, Text.{byte, longest_input_line}, Texts.{IsSolution, Solution, config_text, header_text, lost_at, lost_lines, minimal_text, new_text, solution_view, value_warnings, warnings}, declared.{diagnostics.{RunError.RunError, Warning.TheVariants.UserOutside}, outcome.{Options.Options as AnyOptions, Position.Position, Status.Status}}}
+use Rattle.std.specs.{List.list_any, Option.option_map_or, Prelude.{Bool, Err, List, None, Ok, Option, Some, [], codes, decimal, false, find, flat_map, if◌then◌else◌, is_some, length, map, nat_le, not, option_map, slice_get, string_bytes, true, unwrap_or, ℕ, ◌&&◌, ◌++◌, ◌-◌, ◌==◌, ◌||◌, ◌∷◌, ◌≡◌}}
+use denote.Enum.Bare.{sameb}
+use Rattle.kc_language.specs.{ConfigFile.{Notation, Places, ReadResult, Stream, StreamLocation, UserInput, no_input, reading_of}, Expansion.{AreOpened, Files, Refused}, Explanations.{asked_symbol, explanation_text, near_names, new_text_with_help}, Expressions.{all_mentioned, same_name}, Needs.{IsAccepted, IsLoopText, loop_refused}, Statements.{cause_text, error_at, error_line}, Symbols.{IsTreeOf, TreeFacts, Warning, listed}, Text.{byte, longest_input_line}, contracts.outcome.Output.the_type, Texts.{IsSolution, Solution, config_text, header_text, lost_at, lost_lines, minimal_text, new_text, solution_view, value_warnings, warnings}, declared.{diagnostics.{RunError.RunError, Warning.TheVariants.UserOutside}, outcome.{Options.Options as AnyOptions, Output.Output, Position.Position, Status.Status}}}
 
--- The options, the root file, the file of --out (the target in a dependency file), and the name that some diagnostics begin with under --each.
+-- The options, the root file, and the name that some diagnostics begin with under --each.
 abbrev pub Options : Type 0
 Options = AnyOptions Notation
 
 abbrev pub root_file : Options → List ℕ
 root_file options = string_bytes options.kconfig
-
-abbrev pub target : Options → List ℕ
-target options = option_map_or string_bytes options.out []
 
 abbrev pub lead : Options → List ℕ
 lead options = if options.names_config then string_bytes options.config ++ codes ": " else []
@@ -22,6 +20,16 @@ input_files options = string_bytes options.config ∷ map string_bytes options.f
 
 abbrev pub input_names : Options → List (List ℕ)
 input_names options = string_bytes options.config ∷ map (λ name. lead options ++ string_bytes name) options.fragments.items
+
+-- The file of the first output of this kind; whether there is one; and the file of the `.config`, which is the target in a dependency file.
+abbrev pub file_for : Options → Output → Option (List ℕ)
+file_for options kind = option_map (λ wanted. string_bytes wanted.file) (find (λ wanted. sameb the_type kind wanted.kind) options.outputs.items)
+
+abbrev pub wants : Options → Output → Bool
+wants options kind = is_some (file_for options kind)
+
+abbrev pub target : Options → List ℕ
+target options = unwrap_or (file_for options Output.Config) []
 
 -- The text of each error of a run, and two error lines. A name that make cannot read is reported up to its first line feed.
 abbrev pub run_error_text : RunError (List ℕ) → List ℕ
@@ -46,8 +54,7 @@ first_line (b ∷ rest) = if b == byte "\n" then [] else b ∷ first_line rest
 
 -- the one error line of a refused tree, at its location if it has one
 abbrev pub refusal_line : Refused → List ℕ
-refusal_line r =
-    let text = cause_text r.cause in elim r.location [ None ↦ error_line text | Some place ↦ error_at place.0 place.1 text ]
+refusal_line r = elim r.location [ None ↦ error_line (cause_text r.cause) | Some place ↦ error_at place.0 place.1 (cause_text r.cause) ]
 
 -- ---- The dependency file
 -- the path of a file: DIR/NAME, or the name itself if it begins with `/`
@@ -57,7 +64,7 @@ begins_with_slash name = elim name [ [] ↦ false | b ∷ rest ↦ b == byte "/"
 abbrev pub path_of : List ℕ → List ℕ → List ℕ
 path_of dir name = if begins_with_slash name then name else dir ++ byte "/" ∷ name
 
--- Make gives these bytes a meaning at this position, unless a `\` stands before them.
+-- Make gives these bytes a meaning at this position, unless a `\` precedes them.
 abbrev pub is_special : Position → ℕ → Bool
 is_special at b = b == byte " " || b == byte "\t" || b == byte "#" || b == byte ":"
     || elim at [ Position.Target ↦ b == byte "%" | Position.Prerequisite ↦ b == byte "|" ]
@@ -105,18 +112,18 @@ abbrev pub is_read_by_make : List ℕ → Bool
 is_read_by_make name = not (list_any (λ b. b == 0 || nat_le 9 b && nat_le b 13 || list_any (λ c. c == b) (codes "=;*?[")) name)
     && not (ends_in (codes " &)") name) && is_plain (without_dots false name)
 
--- Each prerequisite once (the files that the tree opens, and the input files but a `.config` that --out is); the first name that make cannot read.
-abbrev pub names_listed : Options → List (List ℕ) → Option (List (List ℕ))
+-- Each prerequisite once (the files that the tree opens, and the input files, except a `.config` that is the target); the first that make cannot read.
+abbrev pub names_listed : Options → List (List ℕ) → List (List ℕ)
 names_listed options opened =
     let inputs = if same_name (string_bytes options.config) (target options) then map string_bytes options.fragments.items else input_files options in
-    option_map (λ name. all_mentioned [] (map (path_of (string_bytes options.root)) opened ++ inputs)) options.depfile
+    all_mentioned [] (map (path_of (string_bytes options.root)) opened ++ inputs)
 
 abbrev pub unreadable_name : Options → List (List ℕ) → Option (List ℕ)
 unreadable_name options opened =
-    option_map_or (λ names. find (λ name. not (is_read_by_make name)) (target options ∷ names)) (names_listed options opened) None
+    if wants options Output.DependencyFile then find (λ name. not (is_read_by_make name)) (target options ∷ names_listed options opened) else None
 
 -- ---- The tree, the input files and the solution
--- Why no tree is accepted: it is refused, or its symbols need one another in a loop.
+-- Why the tree is not accepted: it is refused, or its symbols depend on one another in a loop.
 pub data IsRefusedTree (files : Files) (root : List ℕ) (r : Refused) : Type 0 where
   no_tree : IsTreeOf files root (Err r) → IsRefusedTree files root r
   looped : (tree : TreeFacts) (text : List ℕ) → IsTreeOf files root (Ok tree) → IsLoopText tree text → r ≡ loop_refused text → IsRefusedTree files root r
@@ -132,8 +139,8 @@ streams (name ∷ names) (bytes ∷ all) = record { name = name; bytes = bytes }
 streams _ _ = []
 
 abbrev pub fresh_input : Options → TreeFacts → UserInput
-fresh_input options tree = record (no_input (options.warn_lost || is_some options.explanation) tree) {
-  gone = option_map (λ name. ([], [])) options.list_gone;
+fresh_input options tree = record (no_input (options.warn_lost || wants options Output.Explanation) tree) {
+  gone = if wants options Output.GoneLines then Some ([], []) else None;
   asks_unset = options.warn_lost;
   lead = lead options;
 }
@@ -147,7 +154,7 @@ pub record IsSolutionFor (tree : TreeFacts) (places : Places) (solution : Soluti
   pub places_are : solution.places ≡ places
   pub solves : IsSolution solution
 
--- the warnings of values that were given and did not take effect (K14), if they are asked for, and of those outside their range (K12)
+-- the warnings about lost values (K14), if they are requested; whether a warning is about a user value outside its range (K12)
 abbrev pub lost_warnings : Options → UserInput → Solution → List (List ℕ)
 lost_warnings options input solution = if options.warn_lost then lost_lines options.prefix.is_raw input.lines solution else []
 
@@ -160,15 +167,9 @@ refuses_input options input solution = options.strict
     && not (input.all_taken && (not (list_any is_outside (value_warnings solution)) && (length (lost_warnings options input solution) == 0)))
 
 -- ---- The outcome
--- The texts that a run is to leave (none for an output that it does not write), its warnings, the error line of a refusal, and the status.
+-- The texts that a run must leave (one for each output, in this order, or none), its warnings, the error line of a refusal, and the status.
 pub record Outcome : Type 0 where
-  pub config : Option (List ℕ)
-  pub header : Option (List ℕ)
-  pub minimal : Option (List ℕ)
-  pub list_new : Option (List ℕ)
-  pub list_gone : Option (List ℕ)
-  pub depfile : Option (List ℕ)
-  pub explanation : Option (List ℕ)
+  pub texts : List (List ℕ)
   pub warned : List ℕ
   pub refusal : List ℕ
   pub status : Status
@@ -178,7 +179,7 @@ abbrev pub reported : List ℕ → Outcome → Outcome
 reported text outcome = record outcome { warned = text ++ outcome.warned }
 
 abbrev pub refused_outcome : List ℕ → Outcome
-refused_outcome line = record { config = None; header = None; minimal = None; list_new = None; list_gone = None; depfile = None; explanation = None; warned = []; refusal = line; status = Status.Refused }
+refused_outcome line = record { texts = []; warned = []; refusal = line; status = Status.Refused }
 
 abbrev pub refused_if : Options → Bool → Outcome → Outcome
 refused_if options refuses outcome =
@@ -191,51 +192,54 @@ lines_text lines = flat_map (λ line. line ++ codes "\n") lines
 abbrev pub is_not_empty : List ℕ → Bool
 is_not_empty text = elim text [ [] ↦ false | _ ↦ true ]
 
--- What is asked to be explained: the first name that the tree does not mention, and those that differ from it by one letter; the explanations.
+-- The symbols to explain: the first name that the tree does not mention; the names that differ from it by one letter; the explanations.
 abbrev pub unknown_name : Options → TreeFacts → Option (List ℕ)
 unknown_name options tree = find (λ asked. not (is_some (asked_symbol tree options.prefix.prefix asked))) (map string_bytes options.explain.items)
 
 abbrev pub near_text : TreeFacts → List ℕ → List ℕ
 near_text tree asked = elim (near_names tree asked) [ [] ↦ [] | called ∷ more ↦ codes "; one letter differs: " ++ called ++ flat_map (λ name. codes ", " ++ name) more ]
 
-abbrev pub explained_text : Options → List (Located Numbered) → UserInput → Solution → List ℕ
-explained_text options lines input solution = flat_map (λ asked. flat_map (explanation_text lines solution input options.prefix.is_raw [] options.explain_depth)
+abbrev pub explained_text : Options → UserInput → Solution → List ℕ
+explained_text options input solution = flat_map (λ asked. flat_map (explanation_text solution.tree.lines solution input options.prefix.is_raw [] options.explain_depth)
     (listed (asked_symbol solution.tree options.prefix.prefix asked))) (map string_bytes options.explain.items)
 
--- The lines of lost values. With --explain-lost, after each the explanation of its symbol, whose lines begin like the warnings of values.
-abbrev pub lost_text : Options → List (Located Numbered) → UserInput → Solution → List ℕ
-lost_text options lines input solution = if options.explain_lost && options.warn_lost
-    then flat_map (λ s. flat_map (λ line. line ++ codes "\n" ++ explanation_text lines solution input options.prefix.is_raw (lead options ++ codes "  ") 1 s)
+-- The lines of lost values. With --explain-lost, each is followed by the explanation of its symbol, whose lines begin like the warnings about values.
+abbrev pub lost_text : Options → UserInput → Solution → List ℕ
+lost_text options input solution = if options.explain_lost && options.warn_lost
+    then flat_map (λ s. flat_map (λ line. line ++ codes "\n" ++ explanation_text solution.tree.lines solution input options.prefix.is_raw (lead options ++ codes "  ") 1 s)
     (lost_at options.prefix.is_raw input.lines solution s)) solution.tree.defined
     else lines_text (lost_warnings options input solution)
 
--- The files of a solution, where they are wanted. Before them the warnings of values and then the lost values. `files` and `lines` are the tree's.
-abbrev pub warned_files : Files → Options → TreeFacts → List (Located Numbered) → UserInput → Solution → Outcome
-warned_files files options tree lines input solution = record {
-  config = option_map (λ file. config_text tree options.prefix (solution_view solution)) options.out;
-  header = option_map (λ file. header_text tree options.prefix (solution_view solution)) options.header;
-  minimal = option_map (λ file. minimal_text tree options.prefix (solution_view solution)) options.minimal;
-  list_new = option_map (λ file. let view = solution_view solution in if options.with_help then new_text_with_help files lines tree options.prefix view
-      else new_text tree options.prefix view) options.list_new;
-  list_gone = option_map (λ file. option_map_or (λ told. told.0 ++ told.1) input.gone []) options.list_gone;
-  depfile = None;
-  explanation = option_map (λ file. explained_text options lines input solution) options.explanation;
-  warned = lines_text (map (λ line. lead options ++ line) (warnings solution)) ++ lost_text options lines input solution;
-  refusal = [];
-  status = Status.Done;
-}
+-- What a run leaves if nothing is refused: the text of each output, and the warnings and the lost values. The tree opens the files `opened`.
+module _ (files : Files) (options : Options) (opened : List (List ℕ)) (input : UserInput) (solution : Solution) where
+  abbrev pub text_of : Output → List ℕ
+  text_of Output.Config = config_text solution.tree options.prefix (solution_view solution)
+  text_of Output.Header = header_text solution.tree options.prefix (solution_view solution)
+  text_of Output.Minimal = minimal_text solution.tree options.prefix (solution_view solution)
+  text_of Output.NewSymbols = if options.with_help then new_text_with_help files solution.tree.lines solution.tree options.prefix (solution_view solution)
+      else new_text solution.tree options.prefix (solution_view solution)
+  text_of Output.GoneLines = option_map_or (λ told. told.0 ++ told.1) input.gone []
+  text_of Output.DependencyFile = rule_text (target options) (names_listed options opened)
+  text_of Output.Explanation = explained_text options input solution
 
--- What follows the tree's warnings: a line that is too long is refused; else it is the files of the one solution, unless --strict refuses them.
-pub data IsOutcomeOfReading (files : Files) (options : Options) (tree : TreeFacts) (lines : List (Located Numbered)) (read : ReadResult)
-    (outcome : Outcome) : Type 0 where
+  abbrev pub done_outcome : Outcome
+  done_outcome = record {
+    texts = map (λ wanted. text_of wanted.kind) options.outputs.items;
+    warned = lines_text (map (λ line. lead options ++ line) (warnings solution)) ++ lost_text options input solution;
+    refusal = [];
+    status = Status.Done;
+  }
+
+-- The outcome after the tree's warnings: a line that is too long is refused; otherwise it is that of the one solution, unless --strict refuses it.
+pub data IsOutcomeOfReading (files : Files) (options : Options) (opened : List (List ℕ)) (tree : TreeFacts) (read : ReadResult) (outcome : Outcome) : Type 0 where
   long_line : (stop : StreamLocation) → read.stopped ≡ Some stop →
       outcome ≡ reported read.warned (refused_outcome (error_at stop.stream stop.number (run_error_text RunError.LineTooLong))) →
-      IsOutcomeOfReading files options tree lines read outcome
+      IsOutcomeOfReading files options opened tree read outcome
   whole : (solution : Solution) → read.stopped ≡ None → IsSolutionFor tree read.input.places solution →
-      outcome ≡ reported read.warned (refused_if options (refuses_input options read.input solution) (warned_files files options tree lines read.input solution))
-      → IsOutcomeOfReading files options tree lines read outcome
+      outcome ≡ reported read.warned (refused_if options (refuses_input options read.input solution) (done_outcome files options opened read.input solution)) →
+      IsOutcomeOfReading files options opened tree read outcome
 
--- What a run leaves if --strict-tree is left aside and no dependency file is added. The tree opens these files, and the input files hold these bytes.
+-- What a run leaves without --strict-tree. The tree opens the files `opened`, and the input files hold the bytes `all`.
 pub data IsLenientOutcome (files : Files) (options : Options) (opened all : List (List ℕ)) (outcome : Outcome) : Type 0 where
   refused_tree : (r : Refused) → IsRefusedTree files (root_file options) r → outcome ≡ refused_outcome (refusal_line r) → IsLenientOutcome files options opened all outcome
   refused_name : (tree : TreeFacts) (name : List ℕ) → IsAcceptedTree files (root_file options) tree → unreadable_name options opened ≡ Some name →
@@ -245,24 +249,18 @@ pub data IsLenientOutcome (files : Files) (options : Options) (opened all : List
       unknown_name options tree ≡ Some asked →
       outcome ≡ refused_outcome (lead options ++ error_line (run_error_text (RunError.UnknownName (first_line asked) (near_text tree asked)))) →
       IsLenientOutcome files options opened all outcome
-  accepted_tree : (tree : TreeFacts) (log : ReadSoFar) → IsAcceptedTree files (root_file options) tree → Expands files (root_file options) (Ok log) →
-      unreadable_name options opened ≡ None → unknown_name options tree ≡ None →
-      (rest : Outcome) × IsOutcomeOfReading files options tree (numbered_lines log.lines) (read_of options tree all) rest
-      × (outcome ≡ reported (lines_text tree.warnings) rest) →
-      IsLenientOutcome files options opened all outcome
+  accepted_tree : (tree : TreeFacts) → IsAcceptedTree files (root_file options) tree → unreadable_name options opened ≡ None →
+      unknown_name options tree ≡ None → (rest : Outcome) × IsOutcomeOfReading files options opened tree (read_of options tree all) rest
+      × (outcome ≡ reported (lines_text tree.warnings) rest) → IsLenientOutcome files options opened all outcome
 
--- With --strict-tree, what would write files and warns of anything is refused. What then writes files also writes the dependency file, if wanted.
+-- With --strict-tree, a run that would be done is refused if it has any warning.
 abbrev pub is_done : Status → Bool
 is_done status = elim status [ Status.Done ↦ true | _ ↦ false ]
 
 abbrev pub strictly : Options → Outcome → Outcome
 strictly options outcome = refused_if options (is_done outcome.status && (options.strict_tree && is_not_empty outcome.warned)) outcome
 
-abbrev pub with_rule : Options → List (List ℕ) → Outcome → Outcome
-with_rule options opened outcome =
-    if is_done outcome.status then record outcome { depfile = option_map (rule_text (target options)) (names_listed options opened) } else outcome
-
--- What a run is to leave, for the tree's files, the options and the bytes of the input files.
+-- What a run must leave, given the tree's files, the options and the bytes of the input files.
 abbrev pub IsOutcome : Files → Options → List (List ℕ) → Outcome → Type 0
 IsOutcome files options all outcome = (lenient : Outcome) × (opened : List (List ℕ)) × IsLenientOutcome files options opened all lenient
-    × AreOpened files (root_file options) opened × (outcome ≡ with_rule options opened (strictly options lenient))
+    × AreOpened files (root_file options) opened × (outcome ≡ strictly options lenient)

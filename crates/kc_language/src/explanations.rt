@@ -3,9 +3,9 @@
 /// Where the value of a symbol comes from (our own).
 #[derive(Clone, Copy, Debug, PartialEq, Eq)]
 pub enum Source {
-    /// It has no type: it is not defined, or no line says its type.
+    /// It has no type: it is not defined, or no line gives its type.
     Untyped,
-    /// A `select` raises it above the rest.
+    /// A `select` raises it above the user's value or the default.
     Selected,
     /// The user gave it.
     User,

@@ -1,6 +1,6 @@
-//! The Kconfig language: all definitions that must be believed, and the enums that they speak of. It has no functions.
+//! The Kconfig language: all definitions that must be trusted, and the enums that they use. The crate has no functions.
 //!
-//! The chapters are the files of `specs/`, to be read in this order: `Text`, `Lines`, `Tokens`, `Expressions`, `Statements`,
+//! The chapters are the files of `specs/`. Read them in this order: `Text`, `Lines`, `Tokens`, `Expressions`, `Statements`,
 //! `Expansion`, `Symbols`, `Values`, `Needs`, `ConfigFile`, `Texts`, `Explanations`, `Outcome`.
 #![tactic(auto)]
 

@@ -1,73 +1,89 @@
-//! What is asked of a run, and how it ends.
+//! The options of a run, and how it ends.
 
-/// What is done with the texts of a run.
+/// How the texts of a run are delivered.
 #[derive(Clone, Copy, Debug, PartialEq, Eq)]
 pub enum Delivery {
-    /// Each is written to its file.
+    /// Each text is written to its file.
     Write,
-    /// Those that differ from their files take their places at the end, each in one step.
+    /// Each text that differs from its file replaces the file at the end of the run, in one step.
     Replace,
-    /// Each is compared with its file, and none is written.
+    /// Each text is compared with its file. No file is written.
     Check,
 }
 
-/// What is asked of a run. The names of files are as they were given. `P` keeps the prefix.
+/// The kinds of texts that a run can write.
+#[derive(Clone, Copy, Debug, PartialEq, Eq)]
+pub enum Output {
+    /// The full `.config`. A dependency file needs it, since it is the target of the rule.
+    Config,
+    /// The header.
+    Header,
+    /// The minimal `.config`.
+    Minimal,
+    /// The list of new symbols.
+    NewSymbols,
+    /// The list of the input lines that name no symbol.
+    GoneLines,
+    /// The dependency file.
+    DependencyFile,
+    /// The explanations of the requested symbols.
+    Explanation,
+}
+
+/// A wanted output. The file name `/dev/stdout` means standard output.
+#[derive(Drop)]
+pub struct WantedOutput {
+    /// Which text it is.
+    pub kind: Output,
+    /// The file that it is written to.
+    pub file: String,
+}
+
+/// The options of a run. The names of files are as they were given. `P` is the type of the prefix.
 #[derive(Drop)]
 pub struct Options<P> {
     /// The folder of the Kconfig files, for names that do not begin with `/`.
     pub root: String,
     /// The `.config` to read.
     pub config: String,
-    /// The full `.config` to write. A dependency file needs one: its rule makes this file.
-    pub out: Option<String>,
+    /// The outputs to write, in this order.
+    pub outputs: Vec<WantedOutput>,
     /// The Kconfig file to begin with.
     pub kconfig: String,
-    /// Whether that is a flat file: line markers give its lines their locations, and a `$` in quotes is a byte.
+    /// Whether that is a flat file: line markers give the locations of its lines, and a `$` in quotes is a plain byte.
     pub is_flat: bool,
-    /// The header to write.
-    pub header: Option<String>,
-    /// The minimal `.config` to write.
-    pub minimal: Option<String>,
-    /// The list of new symbols to write.
-    pub list_new: Option<String>,
-    /// Whether that list shows the definitions of each symbol, with prompt and help, as comments.
+    /// Whether the list of new symbols shows the definitions of each symbol, with prompt and help, as comments.
     pub with_help: bool,
-    /// The list of the input lines that named no symbol to write.
-    pub list_gone: Option<String>,
-    /// The dependency file to write.
-    pub depfile: Option<String>,
-    /// The file to write explanations to.
-    pub explanation: Option<String>,
     /// The names of the symbols to explain, with or without the prefix.
     pub explain: Vec<String>,
-    /// In how many steps the symbols that hold such a symbol down are explained too.
+    /// The number of steps in which the symbols that hold an explained symbol down are explained too.
     pub explain_depth: usize,
-    /// Whether each lost value that is warned of (K14) is explained, with what holds it down in one step.
+    /// Whether each reported lost value (K14) is explained, with the symbols that hold it down in one step.
     pub explain_lost: bool,
     /// The files to read after the `.config`, in this order.
     pub fragments: Vec<String>,
-    /// The folder of the files that `#include` lines of input files name, if such lines stand for these files.
+    /// The folder of the files that `#include` lines of input files name. Without it such lines are comments.
     pub include: Option<String>,
-    /// What stands before each symbol's name.
+    /// The prefix of the symbols' names.
     pub prefix: P,
-    /// Whether the `.config` to read has to exist, as a fragment has to.
+    /// Whether the `.config` to read must exist. A fragment always must.
     pub must_exist: bool,
-    /// Whether the run is refused if a line of the `.config` or of a fragment is not taken as written: any K7, K8, K9, K12
-    /// or K14, or a K10 between different values.
+    /// Whether the run is refused if a line of the `.config` or of a fragment is not taken as written: any reported K7, K8, K9,
+    /// K12, K14 or K16, or a K10 between different values.
     pub strict: bool,
-    /// Whether the run is refused on any warning, also about the tree.
+    /// Whether the run is refused on any warning, also on warnings about the tree.
     pub strict_tree: bool,
-    /// Whether a value that was given and is not the symbol's is warned of (K14), and a line that changes a value (K15).
+    /// Whether lost values (K14), changed values (K15) and unset lines without effect (K16) are reported.
     pub warn_lost: bool,
     /// Whether the warnings about the tree (K1 to K6) are left out.
     pub quiet_tree: bool,
     /// Whether each warning and error is followed by a line that says what to do.
     pub hints: bool,
-    /// What is done with the texts.
+    /// How the texts are delivered.
     pub delivery: Delivery,
-    /// Whether the difference of each file that is not up to date is reported, with `Delivery::Check`.
+    /// With `Delivery::Check`, whether the difference of each file that is not up to date is printed.
     pub shows_difference: bool,
-    /// Whether each diagnostic that is not about a line of the `.config` begins with the name of the `.config`, as where many are run.
+    /// Whether each diagnostic that is not about a line of the `.config` begins with the name of the `.config` (`--each`).
     pub names_config: bool,
 }
 
@@ -76,19 +92,19 @@ pub struct Options<P> {
 pub enum Status {
     /// The files are written, or up to date.
     Done,
-    /// The tree, a name for make, a line of a stream or a warning is refused, and nothing was begun; or a file is not up to date.
+    /// The tree, a name, an input line or a warning is refused, and no file was created; or a file is not up to date.
     Refused,
-    /// The command line is bad. `run` never answers it.
+    /// The command line is wrong. `run` never returns this status.
     Usage,
-    /// A device failed, or there was no memory.
+    /// A device failed, or memory ran out.
     Faulted,
 }
 
-/// Where a name stands in the rule of a dependency file.
+/// The position of a name in the rule of a dependency file.
 #[derive(Clone, Copy)]
 pub enum Position {
     /// Before the colon.
     Target,
-    /// After it.
+    /// After the colon.
     Prerequisite,
 }

@@ -11,7 +11,7 @@ use Rattle.kc_language.specs.Outcome.{path_of}
 use Rattle.kc_load.specs.Asking.{AreSourcesOf, AskedAlong, ended, asked}
 use Rattle.kc_language.specs.Text.{most_lines}
 use Rattle.kc_text.specs.PartsOfText.{last_count}
-use Rattle.kc_read.specs.PartsOfExpansion.{lines_of}
+use Rattle.kc_entries.specs.PartsOfExpansion.{lines_of}
 use Rattle.kc_load.specs.Loading.{Loads}
 use Rattle.kc_load.specs.Steps.{FailsAt, IsDue, State, Visits, no_text, not_new, no_file, file, initial_state, was_requested}
 use Rattle.kc_load.specs.declared.fault.LoadFault.{LoadFault}

@@ -9,7 +9,7 @@ use Rattle.kc_language.specs.Text.{most_lines}
 use Rattle.kc_language.specs.Expressions.{same_name, mention}
 use Rattle.kc_read.proofs.OpenedFileLemmas.{has_one_list_of_names}
 use Rattle.kc_load.specs.Asking.{FileBytes}
-use Rattle.kc_read.specs.PartsOfExpansion.{lines_of}
+use Rattle.kc_entries.specs.PartsOfExpansion.{lines_of}
 use Rattle.kc_language.specs.Outcome.{path_of}
 use Rattle.kc_load.specs.Asking.{AreSources}
 use Rattle.kc_load.specs.Loading.{Loads, MapExists}

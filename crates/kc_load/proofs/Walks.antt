@@ -9,7 +9,7 @@ use Rattle.kc_language.specs.Outcome.{path_of}
 use Rattle.kc_load.specs.Asking.{AreSources}
 use Rattle.kc_language.specs.Text.{most_lines}
 use Rattle.kc_text.specs.PartsOfText.{last_count}
-use Rattle.kc_read.specs.PartsOfExpansion.{lines_of}
+use Rattle.kc_entries.specs.PartsOfExpansion.{lines_of}
 use Rattle.kc_load.specs.Steps.{State, Visits, no_text, not_new, no_file, file, initial_state, was_requested}
 use Rattle.kc_load.proofs.RequestedLemmas.{requested_still, requested_itself, only_element}
 

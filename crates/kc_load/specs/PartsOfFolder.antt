@@ -1,6 +1,6 @@
 -- For proofs: Names for parts of the definitions of Folder.
 use Rattle.kc_load.specs.Asking.{FileBytes}
-use Rattle.kc_read.specs.PartsOfExpansion.{lines_of}
+use Rattle.kc_entries.specs.PartsOfExpansion.{lines_of}
 use Rattle.kc_language.specs.Outcome.{path_of}
 use Rattle.std.specs.Prelude.{ℕ, List, Option, None, if◌then◌else◌, Some}
 use Rattle.std.specs.Str.{is_utf8}

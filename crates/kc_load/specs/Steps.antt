@@ -5,7 +5,7 @@ use Rattle.std.specs.Str.{IsUtf8}
 use Rattle.kc_text.specs.PartsOfText.{last_count}
 use Rattle.kc_language.specs.Expansion.{bytes_in}
 use Rattle.kc_language.specs.Expressions.{same_name, mention}
-use Rattle.kc_read.specs.PartsOfExpansion.{lines_of}
+use Rattle.kc_entries.specs.PartsOfExpansion.{lines_of}
 use Rattle.kc_load.specs.Folder.{FolderFiles, AnswersAs}
 use Rattle.kc_language.specs.Outcome.{path_of}
 use Rattle.kc_load.specs.Asking.{AreSources, FileBytes}

@@ -5,11 +5,11 @@ use Rattle.std.proofs.lemmas.Bool.Decides.{nat_tests}
 use Rattle.std.proofs.lemmas.List.Elements.{filter_map-append}
 use Rattle.kc_language.specs.declared.statements.Block.{Block}
 use Rattle.kc_language.specs.Expansion.{Bracket, Opens, Closes, NoBracket, bracket, bracket_at, opened, stays_open, open_block_indices, open_blocks, last_of, numbers, IsUnclosed}
-use Rattle.kc_read.specs.PartsOfExpansion.{is_open}
-use Rattle.kc_read.specs.PartsOfExpansion.{stays_after}
+use Rattle.kc_entries.specs.PartsOfExpansion.{is_open}
+use Rattle.kc_entries.specs.PartsOfExpansion.{stays_after}
 use Rattle.kc_read.specs.Progress.{Opener, open_block_of, located_blocks, open_blocks_after}
 use Rattle.kc_language.specs.Statements.{Named, Located, statements}
-use Rattle.kc_read.proofs.ListLemmas.{last_of-append, last_of-map, but_last, but_last-take, but_last-append, filter-map, filter_map-map, map-filter_map, numbers_front}
+use Rattle.kc_entries.proofs.ListLemmas.{last_of-append, last_of-map, but_last, but_last-take, but_last-append, filter-map, filter_map-map, map-filter_map, numbers_front}
 
 -- how many closers close what was opened before
 abbrev unmatched_with : Bracket → ℕ → ℕ

@@ -5,11 +5,11 @@ use Rattle.std.specs.Prelude.{option_map}
 use Rattle.kc_language.specs.declared.expressions.SymId.{SymId}
 use Rattle.kc_language.specs.Statements.{Numbered, Located, ConfigLine, MenuLine, EndMenuLine, CommentLine}
 use Rattle.kc_language.specs.Symbols.{Condition, Shown, SymbolShown, MenuShown, EndShown, CommentShown, TreeFacts, dependency, shown_at, is_first_definition, indices, symbol_at}
-use Rattle.kc_read.specs.PartsOfSymbols.{shown_number}
-use Rattle.kc_read.specs.PartsOfSymbols.{enclosing_block, shown_when, symbol_of}
-use Rattle.kc_tree.specs.TreeFacts.{IsModeBelow, IsEntrySound}
-use Rattle.kc_read.proofs.ElementLemmas.{filter_map-from}
-use Rattle.kc_read.proofs.SymbolListLemmas.{line_defined}
+use Rattle.kc_entries.specs.PartsOfSymbols.{shown_number}
+use Rattle.kc_entries.specs.PartsOfSymbols.{enclosing_block, shown_when, symbol_of}
+use Rattle.kc_entries.specs.WellFormed.{IsModeBelow, IsEntrySound}
+use Rattle.kc_entries.proofs.ElementLemmas.{filter_map-from}
+use Rattle.kc_entries.proofs.SymbolListLemmas.{line_defined}
 use Rattle.kc_read.proofs.FormedLemmas.{line_statements, sound_at, tree}
 
 module _ (names : List (List ℕ)) (ls : List (Located Numbered)) where

@@ -8,12 +8,12 @@ use Rattle.kc_language.specs.Expressions.{Form, symbol}
 use Rattle.kc_language.specs.Expansion.{numbers, attributes, last_of}
 use Rattle.kc_language.specs.Statements.{InputPrompt, Numbered, Located, RangeLine}
 use Rattle.kc_language.specs.Symbols.{Condition, Guarded, Bounds, TreeFacts, listed, prompt_of, can_be_target, enclosing_choice, definitions_of, dependency, naming_at, indices, prompt_at, stated_default, symbol_at, symbol_facts, facts_with}
-use Rattle.kc_read.specs.PartsOfSymbols.{choices}
-use Rattle.kc_read.specs.PartsOfSymbols.{prompt_condition, defaults_at, guarded_default, imply_of, guarded_symbol, guarded_range, select_of}
-use Rattle.kc_tree.specs.TreeFacts.{AreLinesSound, IsModeBelow, IsMentioned}
-use Rattle.kc_read.specs.ListFacts.{AreBelow}
-use Rattle.kc_read.proofs.ElementLemmas.{All-if, All-filter_map, All-flat_map, All-map_each}
-use Rattle.kc_read.proofs.PlaceLemmas.{get-map_numbers, length-map_numbers}
+use Rattle.kc_entries.specs.PartsOfSymbols.{choices}
+use Rattle.kc_entries.specs.PartsOfSymbols.{prompt_condition, defaults_at, guarded_default, imply_of, guarded_symbol, guarded_range, select_of}
+use Rattle.kc_entries.specs.WellFormed.{AreLinesSound, IsModeBelow, IsMentioned}
+use Rattle.kc_entries.specs.ListFacts.{AreBelow}
+use Rattle.kc_entries.proofs.ElementLemmas.{All-if, All-filter_map, All-flat_map, All-map_each}
+use Rattle.kc_entries.proofs.PlaceLemmas.{get-map_numbers, length-map_numbers}
 use Rattle.kc_read.proofs.SoundLemmas.{mode_below}
 
 -- Conditions: the choice whose mode they name is there.

@@ -15,7 +15,7 @@ use Rattle.kc_language.specs.Tokens.{Lexeme, AWord, AQuoted, AnOp, Spells, IsCut
 use Rattle.kc_language.specs.Expressions.{Atom, WordAtom, QuotedAtom, Terminal, OperandToken, Compares, Bang, Joins, Open, Close, Keyword, Chain, Part, Negation, only, joined, negation, conjunction, bang, group, lone, compare, names_in_atom, if_word, leaf, meaning, meaning_not, meaning_part, spell, spell_not, spell_part, terminal_of, same_name}
 use Rattle.kc_expr.specs.PartsOfExpressions.{is_tristate_constant, lone_form, terminals}
 use Rattle.kc_expr.specs.PartsOfExpressions.{op_terminal, names_in_terminal, names_in_terminals}
-use Rattle.kc_tree.specs.TreeFacts.{IsLineText, IsLineForm}
+use Rattle.kc_entries.specs.WellFormed.{IsLineText, IsLineForm}
 
 -- The parts of what holds of each element.
 module _ {X : Type 0} (P : X → Type 0) where

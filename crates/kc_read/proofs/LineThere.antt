@@ -11,9 +11,9 @@ use Rattle.kc_language.specs.declared.diagnostics.Cause.TheVariants as cause
 use Rattle.kc_language.specs.declared.statements.Keyword.{Keyword}
 use Rattle.kc_language.specs.declared.statements.Keyword.TheVariants as key
 use Rattle.kc_language.specs.Statements.{Named, InputPrompt, IfLine, EndIfLine, CommentLine, SourceLine, MenuLine, EndMenuLine, EndChoiceLine, MainMenuLine, TypeLine, PromptLine, DefaultLine, DefLine, DependsLine, VisibleLine, SelectLine, ImplyLine, RangeLine, HelpLine, ModulesLine, Cause, LineContext, StartsExpression, ExpressionFault, WholeFault, ReadsWhole, begins_with, IsCondition, ConditionFault, ReadsCondition, After, text_of, word_of, named_target, operand_of, finish, ReadsTextLine, plain_text, ReadsSource, ReadsPrompt, ReadsValue, option_line, ReadsRest, placement_cause, keyword_of, ReadsLine}
-use Rattle.kc_read.specs.PartsOfStatements.{IsWhole, ReadsConfig, choice_line, ReadsType, expected, ReadsTarget}
+use Rattle.kc_entries.specs.PartsOfStatements.{IsWhole, ReadsConfig, choice_line, ReadsType, expected, ReadsTarget}
 use Rattle.kc_language.specs.Statements.{in_place, keyword_or_refusal}
-use Rattle.kc_read.specs.PartsOfStatements.{front, good_name, ReadsRange, ReadsPlaced}
+use Rattle.kc_entries.specs.PartsOfStatements.{front, good_name, ReadsRange, ReadsPlaced}
 use Rattle.kc_read.specs.Lines.{OneStatement}
 use Rattle.kc_read.proofs.OneLine.{one_line}
 

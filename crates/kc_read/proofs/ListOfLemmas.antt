@@ -4,7 +4,7 @@ use Rattle.std.proofs.lemmas.Bool.{both_ways}
 use Rattle.kc_language.specs.Lines.{UnreadLines, unread_lines}
 use Rattle.kc_language.specs.Tokens.{Lexeme}
 use Rattle.kc_language.specs.Expansion.{NextLine, NextStatement, Files, sourced}
-use Rattle.kc_read.specs.PartsOfExpansion.{is_source}
+use Rattle.kc_entries.specs.PartsOfExpansion.{is_source}
 use Rattle.kc_language.specs.Statements.{LineContext, ReadsLine, Located, Named, SourceLine}
 use Rattle.kc_read.specs.Replaced.{Owns, Replaces, OneListOf, located, no_line, no_tokens, same_file, other_file, one_more, nothing, kept, replaced}
 use Rattle.kc_read.proofs.OneExpansion.{IsMark, Mark, NoMark, Number, Place, Turn, Ends, Long, Line, IsTurn, one_mark, one_turn, one_some, same_source}

@@ -6,7 +6,7 @@ use Rattle.kc_language.specs.declared.statements.Block.TheVariants as block
 use Rattle.kc_language.specs.Expansion.{Files, ReadSoFar, Expands, mentioned_names, numbered_lines}
 use Rattle.kc_language.specs.Statements.{Numbered, statements}
 use Rattle.kc_language.specs.Symbols.{Condition, MenuShown, EndShown, enclosing_choice, of_block}
-use Rattle.kc_read.specs.PartsOfSymbols.{entries}
+use Rattle.kc_entries.specs.PartsOfSymbols.{entries}
 use Rattle.kc_read.proofs.ExpansionLemmas.{AreNested}
 use Rattle.kc_read.proofs.MenuEndLemmas.{end_names_menu}
 use Rattle.kc_read.proofs.NestLemmas.{expanded_nested, opener_alone}

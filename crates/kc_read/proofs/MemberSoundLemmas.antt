@@ -14,14 +14,14 @@ use Rattle.kc_language.specs.declared.statements.Block.TheVariants as block
 use Rattle.kc_language.specs.Expansion.{numbers, attributes}
 use Rattle.kc_language.specs.Statements.{Numbered, Located}
 use Rattle.kc_language.specs.Symbols.{Guarded, SymbolFacts, ChoiceFacts, TreeFacts, listed, StatedDefault, choice_facts, choice_number, choice_of, enclosing_choice, definitions_of, stated_default, type_of, members_of, of_block, indices, same_type, single_symbol, symbol_at, symbol_facts, is_first_definition_at, bad_members}
-use Rattle.kc_read.specs.PartsOfSymbols.{choices, is_member}
-use Rattle.kc_read.specs.PartsOfSymbols.{choice_lines, first_of, is_member_index, member_default, guarded_symbol, symbol_of, is_bad_member}
-use Rattle.kc_tree.specs.TreeFacts.{IsMemberOf, IsChoiceSound, IsListed}
-use Rattle.kc_read.specs.ListFacts.{AreBelow}
-use Rattle.kc_read.proofs.ElementLemmas.{All-filter_map, All-kept, IsKept, kept_at, filter_map-from, found_is}
+use Rattle.kc_entries.specs.PartsOfSymbols.{choices, is_member}
+use Rattle.kc_entries.specs.PartsOfSymbols.{choice_lines, first_of, is_member_index, member_default, guarded_symbol, symbol_of, is_bad_member}
+use Rattle.kc_entries.specs.WellFormed.{IsMemberOf, IsChoiceSound, IsListed}
+use Rattle.kc_entries.specs.ListFacts.{AreBelow}
+use Rattle.kc_entries.proofs.ElementLemmas.{All-filter_map, All-kept, IsKept, kept_at, filter_map-from, found_is}
 use Rattle.kc_read.proofs.FormedLemmas.{facts_at, few_taken, prompt_mode, tree}
-use Rattle.kc_read.proofs.MemberLemmas.{any_kept, bad_at, below_or_past, member_is}
-use Rattle.kc_read.proofs.PlaceLemmas.{length-map_numbers}
+use Rattle.kc_entries.proofs.MemberLemmas.{any_kept, bad_at, below_or_past, member_is}
+use Rattle.kc_entries.proofs.PlaceLemmas.{length-map_numbers}
 use Rattle.kc_read.proofs.SoundLemmas.{mode_below}
 
 -- a number below another one that passes a test is found

@@ -7,13 +7,13 @@ use Rattle.kc_language.specs.declared.expressions.SymId.{SymId}
 use Rattle.kc_language.specs.Statements.{Numbered, ConfigLine, MenuLine, EndMenuLine}
 use Rattle.kc_language.specs.Expansion.{numbers}
 use Rattle.kc_language.specs.Symbols.{Condition, Shown, SymbolShown, MenuShown, EndShown, is_first_definition, shows_entry, shown_at}
-use Rattle.kc_read.specs.PartsOfSymbols.{shown_number, entries}
-use Rattle.kc_read.specs.PartsOfSymbols.{enclosing_block, shown_when}
-use Rattle.kc_read.proofs.EnclosingLemmas.{there, last_is_nested}
-use Rattle.kc_read.proofs.ChoiceLemmas.{fewer_before}
+use Rattle.kc_entries.specs.PartsOfSymbols.{shown_number, entries}
+use Rattle.kc_entries.specs.PartsOfSymbols.{enclosing_block, shown_when}
+use Rattle.kc_entries.proofs.EnclosingLemmas.{there, last_is_nested}
+use Rattle.kc_entries.proofs.ChoiceLemmas.{fewer_before}
 use Rattle.kc_read.proofs.ExpansionLemmas.{AreNested}
-use Rattle.kc_read.proofs.PlaceLemmas.{count_next, end_get, front_get}
-use Rattle.kc_read.proofs.MemberLemmas.{below_or_past}
+use Rattle.kc_entries.proofs.PlaceLemmas.{count_next, end_get, front_get}
+use Rattle.kc_entries.proofs.MemberLemmas.{below_or_past}
 use Rattle.kc_read.proofs.NestLemmas.{menu_closed}
 
 get_snoc : {X : Type 0} (xs : List X) (o : Option X) (i : ℕ) (x : X) → slice_get (xs ++ cons_option o []) i ≡ Some x → (slice_get xs i ≡ Some x) ⊎ ((i ≡ length xs) × (o ≡ Some x))

@@ -8,10 +8,10 @@ use Rattle.kc_language.specs.Statements.{Numbered}
 use Rattle.kc_language.specs.Expansion.{numbers, last_of, is_attribute}
 use Rattle.kc_language.specs.declared.symbols.MenuEntry.TheVariants as menu_entry
 use Rattle.kc_language.specs.Symbols.{choice_number, prompt_of, begun, menu_entry_at}
-use Rattle.kc_read.specs.PartsOfSymbols.{begun_at}
-use Rattle.kc_read.specs.PartsOfSymbols.{is_some_other, entry_before, menu_entry_before, prompt_before}
-use Rattle.kc_read.proofs.EnclosingLemmas.{take-next, last-snoc}
-use Rattle.kc_read.proofs.PlaceLemmas.{filter-next}
+use Rattle.kc_entries.specs.PartsOfSymbols.{begun_at}
+use Rattle.kc_entries.specs.PartsOfSymbols.{is_some_other, entry_before, menu_entry_before, prompt_before}
+use Rattle.kc_entries.proofs.EnclosingLemmas.{take-next, last-snoc}
+use Rattle.kc_entries.proofs.PlaceLemmas.{filter-next}
 
 module _ (ss : List Numbered) where
   abbrev is_head : ℕ → Bool

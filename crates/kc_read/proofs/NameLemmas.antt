@@ -11,7 +11,7 @@ use Rattle.kc_language.specs.Expressions.{same_name, number_of, symbol, mention}
 use Rattle.kc_language.specs.declared.diagnostics.Cause.TheVariants as cause
 use Rattle.kc_expr.specs.PartsOfSymbols.{added, stands_in}
 use Rattle.kc_expr.proofs.NamesLemmas.{extends_on, same_name-refl}
-use Rattle.kc_read.specs.PartsOfExpansion.{names_match}
+use Rattle.kc_entries.specs.PartsOfExpansion.{names_match}
 use Rattle.kc_read.specs.Progress.{defined_after, defining_cause, ids_match, naming_cause, order_after}
 use Rattle.kc_read.specs.Expanded.{AreNumbers, IsNamed}
 use Rattle.kc_read.proofs.FileLemmas.{same_name_eq}

@@ -8,10 +8,10 @@ use Rattle.kc_language.specs.declared.statements.Block.{Block}
 use Rattle.kc_language.specs.declared.statements.Block.TheVariants as block
 use Rattle.kc_language.specs.Statements.{Named, Numbered, Located, numbered, ConfigLine, IfLine, MenuLine, EndMenuLine, ChoiceLine, statements}
 use Rattle.kc_language.specs.Expansion.{Bracket, Closes, NoBracket, Opens, bracket, bracket_at, opened, stays_open, open_block_indices, open_blocks, enclosing, numbers, last_of, ReadSoFar, Expands, is_choice_block, Files}
-use Rattle.kc_read.specs.PartsOfExpansion.{is_open}
-use Rattle.kc_read.specs.PartsOfExpansion.{bracket_of, located_numbered, stays_after}
+use Rattle.kc_entries.specs.PartsOfExpansion.{is_open}
+use Rattle.kc_entries.specs.PartsOfExpansion.{bracket_of, located_numbered, stays_after}
 use Rattle.kc_language.specs.Symbols.{is_block, of_block, enclosing_choice, choice_number}
-use Rattle.kc_read.specs.PartsOfSymbols.{block_at, enclosing_block}
+use Rattle.kc_entries.specs.PartsOfSymbols.{block_at, enclosing_block}
 use Rattle.kc_read.proofs.TurnLemmas.{Leaves, turn}
 use Rattle.kc_read.proofs.ExpansionLemmas.{Suits, AreNested, expansion_is_nested}
 

@@ -12,16 +12,16 @@ use Rattle.kc_expr.specs.Names.{AreDistinct, IsNumber, Extends}
 use Rattle.kc_language.specs.Expressions.{same_name, number_of, symbol, mention, all_mentioned}
 use Rattle.kc_expr.specs.PartsOfSymbols.{added}
 use Rattle.kc_language.specs.Symbols.{all_added, defined_symbols}
-use Rattle.kc_read.specs.PartsOfSymbols.{symbol_of}
+use Rattle.kc_entries.specs.PartsOfSymbols.{symbol_of}
 use Rattle.kc_expr.proofs.NamesLemmas.{all_mentioned_extends, number_later, same_name-refl}
 use Rattle.kc_language.specs.Expansion.{definitions, defined_name, is_modules, last_of, modules_of, mentioned_names, numbered_lines}
-use Rattle.kc_read.specs.PartsOfExpansion.{defined, located_numbered}
+use Rattle.kc_entries.specs.PartsOfExpansion.{defined, located_numbered}
 use Rattle.kc_read.specs.Expanded.{AreNumbers, IsNamed}
 use Rattle.kc_language.specs.Statements.{Named, Located, ConfigLine, ModulesLine, numbered, names_in_statement, statements}
 use Rattle.kc_read.proofs.FileLemmas.{same_name_eq}
-use Rattle.kc_read.proofs.ListLemmas.{last_of-map}
+use Rattle.kc_entries.proofs.ListLemmas.{last_of-map}
 use Rattle.kc_read.proofs.NameLemmas.{extends_none, known_at, numbers_placed}
-use Rattle.kc_read.specs.ListFacts.{AreBelow}
+use Rattle.kc_entries.specs.ListFacts.{AreBelow}
 
 -- Names that are mentioned are known.
 known_in : (names others : List (List ℕ)) (w : List ℕ) → list_any (same_name w) names ≡ true → list_any (same_name w) (names ++ others) ≡ true

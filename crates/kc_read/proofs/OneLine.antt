@@ -12,9 +12,9 @@ use Rattle.kc_expr.proofs.LongestLemmas.{one_longest, is_expression, not_too_dee
 use Rattle.kc_language.specs.declared.statements.Keyword.{Keyword}
 use Rattle.kc_language.specs.declared.statements.Keyword.TheVariants as key
 use Rattle.kc_language.specs.Statements.{Named, InputPrompt, IfLine, EndIfLine, CommentLine, SourceLine, MenuLine, EndMenuLine, EndChoiceLine, MainMenuLine, TypeLine, PromptLine, DefaultLine, DefLine, DependsLine, VisibleLine, SelectLine, ImplyLine, RangeLine, HelpLine, ModulesLine, Cause, LineContext, Front, StartsExpression, ExpressionFault, IsMore, WholeFault, ReadsWhole, IsCondition, ConditionFault, ReadsCondition, After, finish, text_of, word_of, named_target, operand_of, plain_text, option_line, keyword_of, placement_cause, ReadsTextLine, ReadsSource, ReadsPrompt, ReadsValue, ReadsRest, ReadsLine, begins_with}
-use Rattle.kc_read.specs.PartsOfStatements.{IsWhole, choice_line, expected, ReadsConfig, ReadsType, ReadsTarget}
+use Rattle.kc_entries.specs.PartsOfStatements.{IsWhole, choice_line, expected, ReadsConfig, ReadsType, ReadsTarget}
 use Rattle.kc_language.specs.Statements.{keyword_or_refusal, in_place}
-use Rattle.kc_read.specs.PartsOfStatements.{front, good_name, ReadsRange, ReadsPlaced}
+use Rattle.kc_entries.specs.PartsOfStatements.{front, good_name, ReadsRange, ReadsPlaced}
 
 -- ---- Expressions
 

@@ -12,11 +12,11 @@ use Rattle.kc_expr.proofs.ConstantLemmas.{constant_text}
 use Rattle.kc_expr.specs.Names.{IsNumber}
 use Rattle.kc_language.specs.declared.diagnostics.Cause.TheVariants as cause
 use Rattle.kc_language.specs.Statements.{Cause, LineContext, ReadsValue, begins_with, operand_of, IsCondition, WholeFault, ConditionFault, ExpressionFault, text_of, word_of, named_target, is_good_name, ReadsTextLine, ReadsSource, ReadsPrompt, ReadsRest, ReadsLine, IsMore, keyword_of, placement_cause, option_line, Named, InputPrompt, SourceLine, ConfigLine, DependsLine, VisibleLine, ModulesLine, IgnoredLine, TypeLine, RangeLine}
-use Rattle.kc_read.specs.PartsOfStatements.{IsWhole, ReadsConfig, ReadsTarget, ReadsType}
-use Rattle.kc_read.specs.PartsOfStatements.{front, is_pattern, ReadsDepends, ReadsVisible, ReadsRange}
+use Rattle.kc_entries.specs.PartsOfStatements.{IsWhole, ReadsConfig, ReadsTarget, ReadsType}
+use Rattle.kc_entries.specs.PartsOfStatements.{front, is_pattern, ReadsDepends, ReadsVisible, ReadsRange}
 use Rattle.kc_language.specs.declared.expressions.SymbolType.{SymbolType}
 use Rattle.kc_language.specs.declared.statements.Keyword.{Keyword}
-use Rattle.kc_read.specs.declared.statement.Statement.{Statement}
+use Rattle.kc_entries.specs.declared.statement.Statement.{Statement}
 use Rattle.kc_read.specs.LineReads.{LineFault, cause_of, IsFront, IsRead, IsFault, IsOperand, IsWholeForm, IsConditionForm}
 
 pub fault_passed : {A : Type 0} (r : Result A LineFault) (P : LineFault → Type 0) (e : LineFault) → IsErrAnd r (λ y. y ≡ e) → P e → IfErr r P

@@ -14,7 +14,7 @@ use Rattle.kc_language.specs.Tokens.{Lexeme, AWord, AQuoted, AnOp, Spells, IsCut
 use Rattle.kc_text.specs.PartsOfTokens.{IsAtBlank}
 use Rattle.kc_text.proofs.Physicals.{lf}
 use Rattle.kc_language.specs.Expansion.{NextLine, without_help, IsSource, SourceNames, none, here, past}
-use Rattle.kc_read.specs.PartsOfExpansion.{is_help}
+use Rattle.kc_entries.specs.PartsOfExpansion.{is_help}
 use Rattle.kc_language.specs.Statements.{begins_with}
 use Rattle.kc_read.specs.QuietFiles.{AreAllBlank, BeginsLine, EndsLine, EndsLineBefore, HasNoJoin, HasNoSource, IsQuiet}
 use Rattle.kc_language.specs.Expansion as spec

@@ -13,13 +13,13 @@ use Rattle.kc_expr.specs.PartsOfExpressions.{is_tristate_constant, terminals}
 use Rattle.kc_language.specs.declared.diagnostics.Cause.TheVariants as cause
 use Rattle.kc_language.specs.declared.statements.Keyword.{Keyword}
 use Rattle.kc_language.specs.declared.statements.Keyword.TheVariants as key
-use Rattle.kc_language.specs.Expansion.{FileContext, ReadSoFar, Refused, Rest, Expands, NextLine, bytes_cause, context_of, first_log, refusal_at, with_line, without_help, at_end, unclosed, too_long, no_tokens, blank, renumbered, moved, bad_line, over_limit, statement, bad_source, refused_inside, source, Files}
-use Rattle.kc_read.specs.PartsOfExpansion.{root_context, is_help}
+use Rattle.kc_language.specs.Expansion.{FileContext, ReadSoFar, Refused, Rest, Expands, NextLine, bytes_cause, context_of, refusal_at, with_line, without_help, at_end, unclosed, blank, renumbered, moved, statement, refused_inside, source, Files, Reading, at_root, refused, goes_on}
+use Rattle.kc_entries.specs.PartsOfExpansion.{is_help}
 use Rattle.kc_language.specs.Statements.{Cause, LineContext, After, Front, IsCondition, ReadsLine, ReadsRest, ReadsWhole, ReadsCondition, ReadsTextLine, ReadsValue, ReadsPrompt, StartsExpression, begins_with, finish, is_good_name, keyword_of, operand_of, option_line, placement_cause, plain_text, named_target, text_of, word_of, Statement, InputPrompt, Named, Located, ConfigLine, IfLine, EndIfLine, CommentLine, SourceLine, MenuLine, EndMenuLine, ChoiceLine, EndChoiceLine, MainMenuLine, TypeLine, PromptLine, DefaultLine, DefLine, DependsLine, VisibleLine, SelectLine, ImplyLine, RangeLine, HelpLine, ModulesLine, IgnoredLine, names_in_condition, names_in_statement, statements}
-use Rattle.kc_read.specs.PartsOfStatements.{IsWhole, ReadsTarget, ReadsType, choice_line, expected}
+use Rattle.kc_entries.specs.PartsOfStatements.{IsWhole, ReadsTarget, ReadsType, choice_line, expected}
 use Rattle.kc_language.specs.Statements.{in_place, keyword_or_refusal}
-use Rattle.kc_read.specs.PartsOfStatements.{ReadsPlaced, front, good_name, value_form}
-use Rattle.kc_tree.specs.TreeFacts.{IsLineText, IsLineForm}
+use Rattle.kc_entries.specs.PartsOfStatements.{ReadsPlaced, front, good_name, value_form}
+use Rattle.kc_entries.specs.WellFormed.{IsLineText, IsLineForm}
 use Rattle.kc_read.proofs.LineTextLemmas.{AreOneLine, IsLineAtom, IsLineLexeme, IsLineTerminal, all_front, atom_lines, cut_line, file_lines, helped, taken_line, terminal_lines, value_line, word_lines}
 use Rattle.kc_read.proofs.TurnLemmas.{after}
 
@@ -243,27 +243,23 @@ module _ (files : Files) where
   Outcome (Ok log) = AreInLines log.lines
   Outcome (Err r) = Unit {0}
 
-  rest_lines : {a : FileContext} {l : UnreadLines} {own : List (Located Named)} {log : ReadSoFar} {r : Result ReadSoFar Refused} → Rest files a l own log r → AreOneLine l.lines → AreInLines log.lines → Outcome r
-  rest_lines (at_end a l own log e o) h k = k
-  rest_lines (unclosed a l own log line e u) h k = tt
-  rest_lines (too_long a l own log t) h k = tt
-  rest_lines (no_tokens a l m own log ts why n) h k = tt
-  rest_lines (blank a l m own log r n rest) h k = rest_lines rest (next_line l m [] None n.0 h).1 k
-  rest_lines (renumbered a l m own log n r marks rest) h k = rest_lines rest (next_line l m [] None marks.0 h).1 k
-  rest_lines (moved a l m own log n name r marks differs rest) h k = rest_lines rest (next_line l m [] None marks.0 h).1 k
-  rest_lines (bad_line a l m own log c n) h k = tt
-  rest_lines (over_limit a l m own log s c n e) h k = tt
-  rest_lines (statement a l m own log s r n modeless effect rest) h k =
-      let next = next_line l m n.tokens None n.next h in
-      rest_lines rest next.1 (with_next log.lines a l.number s (line_of (context_of a own log) n.tokens s next.0 n.reads) k)
-  rest_lines (bad_source a l m own log name c n e) h k = tt
-  rest_lines (refused_inside a l m own log name bytes e n allowed found inner) h k = tt
-  rest_lines (source a l m own log more name bytes r n allowed found inner rest) h k =
-      rest_lines rest (next_line l m n.tokens None n.next h).1 (rest_lines inner (file_lines bytes) k)
+  rest_lines : {at : Reading} {r : Result ReadSoFar Refused} → Rest files at r → AreOneLine at.unread.lines → AreInLines at.log.lines → Outcome r
+  rest_lines (at_end at e o) h k = k
+  rest_lines (unclosed at line e u) h k = tt
+  rest_lines (refused at c here) h k = tt
+  rest_lines (goes_on at next r (blank m n) rest) h k = rest_lines rest (next_line at.unread m [] None n.0 h).1 k
+  rest_lines (goes_on at next r (renumbered m n marks) rest) h k = rest_lines rest (next_line at.unread m [] None marks.0 h).1 k
+  rest_lines (goes_on at next r (moved m n name marks differs) rest) h k = rest_lines rest (next_line at.unread m [] None marks.0 h).1 k
+  rest_lines (goes_on at next r (statement m s n modeless effect) rest) h k =
+      let found = next_line at.unread m n.tokens None n.next h in
+      rest_lines rest found.1 (with_next at.log.lines at.context at.unread.number s (line_of (context_of at.context at.own at.log) n.tokens s found.0 n.reads) k)
+  rest_lines (refused_inside at f e inner) h k = tt
+  rest_lines (source at f more r inner rest) h k =
+      rest_lines rest (next_line at.unread f.after f.next.tokens None f.next.next h).1 (rest_lines inner (file_lines f.bytes) k)
 
   by_bytes : (root : List ℕ) (log : ReadSoFar) (o : Option Cause) →
       MatchOption o ((bytes : List ℕ) × (files.bytes root ≡ Some bytes)
-      × Rest files (root_context root) (unread_lines bytes 1) [] (first_log files root bytes) (Ok log)) (λ c. Ok log ≡ Err (refusal_at c root 0)) →
+      × Rest files (at_root files root bytes) (Ok log)) (λ c. Ok log ≡ Err (refusal_at c root 0)) →
       AreInLines log.lines
   by_bytes root log None h = rest_lines h.2 (file_lines h.0) (All-nil IsInLines)
   by_bytes root log (Some c) h = absurd (let e : ◌≡◌ {A = Result ReadSoFar Refused} (Ok log) (Err (refusal_at c root 0)) = h in cc)

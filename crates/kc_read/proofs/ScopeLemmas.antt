@@ -11,7 +11,7 @@ use Rattle.kc_language.specs.Statements.{Numbered}
 use Rattle.kc_language.specs.Expansion.{last_of}
 use Rattle.kc_language.specs.Symbols.{of_block, block_conjuncts, own_visible, choice_number}
 use Rattle.kc_read.specs.Scopes.{Scope, block_visible, scope_of_block}
-use Rattle.kc_read.proofs.EnclosingLemmas.{last-snoc}
+use Rattle.kc_entries.proofs.EnclosingLemmas.{last-snoc}
 
 module _ (ss : List Numbered) where
   abbrev pub scope_by : List ℕ → Scope

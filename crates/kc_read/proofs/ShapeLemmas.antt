@@ -3,13 +3,13 @@ use Rattle.std.proofs.Common.{◌≡◌, ℕ, ◌+◌, Bool, List, length, Optio
 use Rattle.std.specs.Option.{option_or}
 use Rattle.kc_language.specs.Expressions.{symbol, number_of}
 use Rattle.kc_language.specs.declared.statements.EntryKind.{EntryKind}
-use Rattle.kc_read.specs.declared.statement.Statement.{Statement}
+use Rattle.kc_entries.specs.declared.statement.Statement.{Statement}
 use Rattle.kc_language.specs.Expansion.{Bracket, bracket, is_attribute, is_modules, entry_of, defined_name, open_blocks, FileContext, ReadSoFar, limit_cause}
-use Rattle.kc_read.specs.PartsOfExpansion.{is_source}
-use Rattle.kc_read.specs.PartsOfExpansion.{defined, nesting_cause, symbol_cause}
+use Rattle.kc_entries.specs.PartsOfExpansion.{is_source}
+use Rattle.kc_entries.specs.PartsOfExpansion.{defined, nesting_cause, symbol_cause}
 use Rattle.kc_read.specs.Progress.{naming_cause}
 use Rattle.kc_read.specs.Expanded.{IsNamed}
-use Rattle.kc_read.specs.StatementViews.{statement_view}
+use Rattle.kc_entries.specs.StatementViews.{statement_view}
 use Rattle.kc_read.specs.LineReads.{IsMade}
 use Rattle.kc_language.specs.Statements as s
 use Rattle.kc_language.specs.Statements.{Named, Located, numbered, ConfigLine, IfLine, EndIfLine, CommentLine, SourceLine, MenuLine, EndMenuLine, ChoiceLine, EndChoiceLine, MainMenuLine, TypeLine, PromptLine, DefaultLine, DefLine, DependsLine, VisibleLine, SelectLine, ImplyLine, RangeLine, HelpLine, ModulesLine, IgnoredLine, statements}

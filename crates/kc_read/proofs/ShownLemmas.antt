@@ -7,16 +7,16 @@ use Rattle.std.proofs.lemmas.List.Sums.{length-filter}
 use Rattle.kc_language.specs.declared.expressions.SymId.{SymId}
 use Rattle.kc_language.specs.Expansion.{numbers}
 use Rattle.kc_language.specs.Statements.{Numbered, Located, ConfigLine, statements}
-use Rattle.kc_tree.specs.TreeFacts.{ShowsEach}
+use Rattle.kc_entries.specs.WellFormed.{ShowsEach}
 use Rattle.kc_language.specs.Symbols.{SymbolShown, is_symbol_of, shown_at, is_first_definition, indices, symbol_at, facts_with}
-use Rattle.kc_read.specs.PartsOfSymbols.{entries}
-use Rattle.kc_read.specs.PartsOfSymbols.{symbol_of}
-use Rattle.kc_read.proofs.ElementLemmas.{kept_at, same_is}
-use Rattle.kc_read.specs.ListFacts.{defined_before}
-use Rattle.kc_read.proofs.FirstLemmas.{first-is, some_places}
-use Rattle.kc_read.proofs.PlaceLemmas.{front_get}
-use Rattle.kc_read.proofs.PlaceLemmas.{filter-next, get-map_numbers}
-use Rattle.kc_read.proofs.SymbolListLemmas.{defined_line}
+use Rattle.kc_entries.specs.PartsOfSymbols.{entries}
+use Rattle.kc_entries.specs.PartsOfSymbols.{symbol_of}
+use Rattle.kc_entries.proofs.ElementLemmas.{kept_at, same_is}
+use Rattle.kc_entries.specs.ListFacts.{defined_before}
+use Rattle.kc_entries.proofs.FirstLemmas.{first-is, some_places}
+use Rattle.kc_entries.proofs.PlaceLemmas.{front_get}
+use Rattle.kc_entries.proofs.PlaceLemmas.{filter-next, get-map_numbers}
+use Rattle.kc_entries.proofs.SymbolListLemmas.{defined_line}
 
 -- what is given for one element is among what is given for all
 module _ {X Y : Type 0} (f : X → Option Y) where

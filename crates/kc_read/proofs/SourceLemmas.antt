@@ -10,12 +10,12 @@ use Rattle.kc_text.specs.Lexemes.{lexemes}
 use Rattle.kc_text.specs.Tokens.{IsCutting, IsRefused}
 use Rattle.kc_read.specs.LineReads.{lexemes_from}
 use Rattle.kc_language.specs.Expansion.{NextLine, without_help, SourceNames}
-use Rattle.kc_read.specs.PartsOfExpansion.{is_help}
+use Rattle.kc_entries.specs.PartsOfExpansion.{is_help}
 use Rattle.kc_language.specs.Statements.{Cause, ReadsSource, begins_with, SourceLine}
 use Rattle.kc_read.specs.SourceSteps.{HasMoreLines, IsFound}
 use Rattle.kc_read.proofs.FrontLemmas.{after_one}
 use Rattle.std.specs.declared.alloc.AllocError.{AllocError}
-use Rattle.kc_read.proofs.ListLemmas.{map-push}
+use Rattle.kc_entries.proofs.ListLemmas.{map-push}
 use Rattle.kc_read.proofs.RestLemmas.{next_clear, next_less}
 use Rattle.kc_read.proofs.SourceLines.{bad_source, before_other, before_source, no_tokens, too_long}
 use Rattle.kc_read.specs.declared.sources.NextSource.{NextSource}

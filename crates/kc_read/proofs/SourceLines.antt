@@ -6,7 +6,7 @@ use Rattle.kc_language.specs.Lines.{UnreadLines, IsTooLong}
 use Rattle.kc_language.specs.Tokens.{Lexeme}
 use Rattle.kc_text.proofs.Joins.{takes_less, taken_is_short}
 use Rattle.kc_language.specs.Expansion.{NextLine, IsSource, SourceNames, Passes, here, past, none, next}
-use Rattle.kc_read.specs.PartsOfExpansion.{IsOther}
+use Rattle.kc_entries.specs.PartsOfExpansion.{IsOther}
 use Rattle.kc_language.specs.Statements.{Cause, ReadsSource, begins_with, SourceLine}
 use Rattle.kc_read.proofs.OneExpansion.{one_name, one_next, source_line}
 use Rattle.kc_read.proofs.OneLine.{one_source}

@@ -10,9 +10,9 @@ use Rattle.kc_language.specs.Expressions.{Disjunction, if_word, same_name}
 use Rattle.kc_language.specs.declared.statements.Keyword.{Keyword}
 use Rattle.kc_language.specs.declared.statements.Keyword.TheVariants as key
 use Rattle.kc_language.specs.Statements.{Named, InputPrompt, IfLine, EndIfLine, CommentLine, SourceLine, MenuLine, EndMenuLine, EndChoiceLine, MainMenuLine, TypeLine, PromptLine, DefaultLine, DefLine, DependsLine, VisibleLine, SelectLine, ImplyLine, RangeLine, HelpLine, ModulesLine, ConfigLine, IgnoredLine, Cause, LineContext, After, ReadsWhole, ReadsCondition, ReadsTextLine, ReadsSource, ReadsPrompt, ReadsValue, ReadsRest, ReadsLine, finish, text_of, word_of, named_target, operand_of, is_good_name, option_line, keyword_of, keyword_words, placement_cause, begins_with}
-use Rattle.kc_read.specs.PartsOfStatements.{ReadsConfig, ReadsType, ReadsTarget, choice_line, expected}
+use Rattle.kc_entries.specs.PartsOfStatements.{ReadsConfig, ReadsType, ReadsTarget, choice_line, expected}
 use Rattle.kc_language.specs.Statements.{keyword_or_refusal, in_place}
-use Rattle.kc_read.specs.PartsOfStatements.{ReadsRange, ReadsPlaced, good_name, keyword_in}
+use Rattle.kc_entries.specs.PartsOfStatements.{ReadsRange, ReadsPlaced, good_name, keyword_in}
 use Rattle.kc_language.specs.declared.diagnostics.Cause.TheVariants as cause
 use Rattle.kc_read.proofs.FileLemmas.{same_name_eq}
 use Rattle.kc_read.proofs.OneExpansion.{source_line}

@@ -20,7 +20,7 @@ use Rattle.kc_text.specs.declared.tokens.Token.{Token}
 use Rattle.kc_language.specs.Expansion.{without_help, NextLine, NextStatement, refusal_at, text_cause}
 use Rattle.kc_read.specs.declared.step.Step.{Step}
 use Rattle.kc_read.specs.declared.step.Step.TheVariants as step
-use Rattle.kc_read.specs.PartsOfExpansion.{is_help}
+use Rattle.kc_entries.specs.PartsOfExpansion.{is_help}
 use Rattle.kc_read.proofs.SourceLemmas.{cause_none}
 
 pub help_first : (ls : List Lexeme) (b : Bool) → b ≡ begins_with (codes "help") ls → b ≡ true → b ≡ is_help ls

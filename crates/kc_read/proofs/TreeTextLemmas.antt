@@ -7,13 +7,13 @@ use Rattle.std.proofs.lemmas.List.Elements.{All-nil, All-cons, All-head, All-tai
 use Rattle.kc_language.specs.declared.expressions.SymId.{SymId}
 use Rattle.kc_language.specs.Expressions.{Form, all_mentioned, mention, number_of, same_name, symbol}
 use Rattle.kc_language.specs.Expansion.{attributes, is_attribute, last_of, numbers, mentioned_names, numbered_lines}
-use Rattle.kc_read.specs.PartsOfExpansion.{located_numbered}
+use Rattle.kc_entries.specs.PartsOfExpansion.{located_numbered}
 use Rattle.kc_language.specs.Statements.{Named, Numbered, Located, ConfigLine, CommentLine, MenuLine, EndMenuLine, MainMenuLine, DefaultLine, DefLine, numbered, names_in_statement, statements}
 use Rattle.kc_language.specs.Symbols.{TreeFacts, SymbolFacts, Guarded, Shown, SymbolShown, MenuShown, EndShown, CommentShown, StatedDefault, definitions_of, dependency, shown_at, stated_default, is_first_definition, indices, symbol_facts, facts_with}
-use Rattle.kc_read.specs.PartsOfSymbols.{shown_number}
-use Rattle.kc_read.specs.PartsOfSymbols.{guarded_default, defaults_at, enclosing_block, shown_when, title_of}
-use Rattle.kc_tree.specs.TreeFacts.{HasLineTexts, IsLineText, IsLineForm, OfTitle}
-use Rattle.kc_read.proofs.ElementLemmas.{All-at, All-cons_option, All-flat_map, All-map_each, filter_map-from}
+use Rattle.kc_entries.specs.PartsOfSymbols.{shown_number}
+use Rattle.kc_entries.specs.PartsOfSymbols.{guarded_default, defaults_at, enclosing_block, shown_when, title_of}
+use Rattle.kc_entries.specs.WellFormed.{HasLineTexts, IsLineText, IsLineForm, OfTitle}
+use Rattle.kc_entries.proofs.ElementLemmas.{All-at, All-cons_option, All-flat_map, All-map_each, filter_map-from}
 use Rattle.kc_read.proofs.ReadTextLemmas.{HasTexts, IsInLines, IsLineValue}
 
 -- The names that are mentioned.

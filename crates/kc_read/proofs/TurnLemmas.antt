@@ -10,9 +10,9 @@ use Rattle.kc_language.specs.declared.statements.EntryKind.TheVariants as entry
 use Rattle.kc_language.specs.declared.statements.Keyword.{Keyword}
 use Rattle.kc_language.specs.declared.statements.Keyword.TheVariants as key
 use Rattle.kc_language.specs.Statements.{Statement, Named, InputPrompt, ConfigLine, IfLine, EndIfLine, CommentLine, SourceLine, MenuLine, EndMenuLine, ChoiceLine, EndChoiceLine, MainMenuLine, TypeLine, PromptLine, DefaultLine, DefLine, DependsLine, VisibleLine, SelectLine, ImplyLine, RangeLine, HelpLine, ModulesLine, IgnoredLine, Cause, LineContext, placement_cause, closing_cause, unless_placed, type_placement, is_choice_entry, is_config, After, finish, ReadsLine, ReadsRest, ReadsWhole, ReadsCondition, ReadsTextLine, ReadsSource, ReadsPrompt, ReadsValue, option_line, is_good_name, begins_with, text_of, plain_text, word_of, named_target, operand_of, keyword_of}
-use Rattle.kc_read.specs.PartsOfStatements.{is_entry, is_menu, ReadsConfig, ReadsType, ReadsTarget, choice_line, expected}
+use Rattle.kc_entries.specs.PartsOfStatements.{is_entry, is_menu, ReadsConfig, ReadsType, ReadsTarget, choice_line, expected}
 use Rattle.kc_language.specs.Statements.{keyword_or_refusal, in_place}
-use Rattle.kc_read.specs.PartsOfStatements.{ReadsPlaced, ReadsDepends, ReadsVisible, ReadsRange, good_name}
+use Rattle.kc_entries.specs.PartsOfStatements.{ReadsPlaced, ReadsDepends, ReadsVisible, ReadsRange, good_name}
 use Rattle.kc_language.specs.Expansion.{is_attribute, is_modules}
 
 -- What a line asks: that no enclosing block is a choice; that the innermost is of this kind; that its

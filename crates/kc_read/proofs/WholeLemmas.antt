@@ -11,28 +11,28 @@ use Rattle.kc_language.specs.Expressions.{number_of, same_name, symbol, if_word,
 use Rattle.kc_expr.specs.PartsOfExpressions.{is_tristate_constant}
 use Rattle.kc_expr.specs.PartsOfSymbols.{stands_in}
 use Rattle.kc_language.specs.Symbols.{Condition, EndShown, MenuShown, SymbolFacts, TreeFacts, listed, enclosing_choice, choice_of, type_of, of_block, symbol_facts, indices, facts_with, modules_symbol, is_first_definition_at, bad_members, bad_defaults, entry_name, menu_entry_at, entry_symbol, refused_at}
-use Rattle.kc_read.specs.PartsOfSymbols.{entries, whole_list_refusals}
-use Rattle.kc_read.specs.PartsOfSymbols.{symbol_if, is_bad_member}
+use Rattle.kc_entries.specs.PartsOfSymbols.{entries, whole_list_refusals}
+use Rattle.kc_entries.specs.PartsOfSymbols.{symbol_if, is_bad_member}
 use Rattle.kc_expr.proofs.NamesLemmas.{same_name-refl}
 use Rattle.kc_language.specs.declared.expressions.SymbolType.TheVariants as symbol_type
 use Rattle.kc_language.specs.Statements.{Cause, is_good_name, Named, Numbered, Located, statements}
 use Rattle.kc_language.specs.declared.diagnostics.Cause.TheVariants as cause
 use Rattle.kc_language.specs.declared.statements.Block.TheVariants as block
 use Rattle.kc_language.specs.Expansion.{Files, Expands, ReadSoFar, Refused, refusal_at, definitions, mentioned_names, numbered_lines}
-use Rattle.kc_read.specs.PartsOfExpansion.{defined}
+use Rattle.kc_entries.specs.PartsOfExpansion.{defined}
 use Rattle.kc_read.proofs.NameLemmas.{known_at}
-use Rattle.kc_tree.specs.TreeFacts.{IsMentioned, IsSymbolName, IsWellFormed}
+use Rattle.kc_entries.specs.WellFormed.{IsMentioned, IsSymbolName, IsWellFormed}
 use Rattle.kc_read.proofs.DefinedLemmas.{AreNames}
-use Rattle.kc_read.proofs.ElementLemmas.{All-at, found_is}
+use Rattle.kc_entries.proofs.ElementLemmas.{All-at, found_is}
 use Rattle.kc_read.proofs.EntrySoundLemmas.{entries_sound}
 use Rattle.kc_read.proofs.FormedLemmas.{all_sound, facts_at, mentioned_if}
 use Rattle.kc_read.proofs.MemberSoundLemmas.{all_listed, choices_sound}
 use Rattle.kc_read.proofs.NumberingLemmas.{as_many_defined, config_of, defined_at, mentioned_known, numbered_below}
 use Rattle.kc_read.proofs.ListShape.{choices_alone, ends_name_menus}
-use Rattle.kc_read.proofs.PlaceLemmas.{length-map_numbers}
+use Rattle.kc_entries.proofs.PlaceLemmas.{length-map_numbers}
 use Rattle.kc_read.proofs.ReadTextLemmas.{IsInLines, expanded_lines}
 use Rattle.kc_read.proofs.ShownLemmas.{shows_each}
-use Rattle.kc_read.proofs.SymbolListLemmas.{defined-once, defined_line, prompted_is_defined, typed_is_defined}
+use Rattle.kc_entries.proofs.SymbolListLemmas.{defined-once, defined_line, prompted_is_defined, typed_is_defined}
 use Rattle.kc_read.proofs.TreeTextLemmas.{line_texts}
 use Rattle.kc_read.proofs.BlockLemmas.{first_nil}
 

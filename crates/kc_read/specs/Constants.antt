@@ -1,4 +1,4 @@
--- For proofs: The expressions that are one of the constants n, m and y alone.
+-- For proofs: The expressions that are only one of the constants n, m and y.
 use Rattle.std.specs.Prelude.{Bool, true, false}
 use Rattle.kc_language.specs.declared.expressions.Tri.{Tri}
 use Rattle.kc_language.specs.declared.expressions.Tri.TheVariants.{N, M, Y}
@@ -19,7 +19,7 @@ abbrev pub is_tri : Tri → Operand → Bool
 is_tri t (TristateConstant u) = same_tri t u
 is_tri t _ = false
 
--- an expression is this constant alone
+-- an expression is only this constant
 abbrev pub is_constant : Tri → Expr → Bool
 is_constant t (One o) = is_tri t o
 is_constant t _ = false

@@ -1,4 +1,4 @@
--- For proofs: What the next line of a file is.
+-- For proofs: The result of reading the next line of a file.
 use Rattle.std.specs.Prelude.{◌≡◌, ◌≢◌, ℕ, Bool, true, false, List, [], Some, Ok, Err}
 use Rattle.kc_language.specs.Lines.{UnreadLines, IsTooLong}
 use Rattle.kc_read.specs.declared.refusal.Refusal.{Refusal}
@@ -23,7 +23,7 @@ long_line fault.BadToken = 0
 long_line fault.Macro = 0
 long_line fault.Memory = 0
 
--- what a line without tokens says in this file
+-- the meaning of a line without tokens in this file
 abbrev pub IsMarked : Bool → List ℕ → List ℕ → Step → Type 0
 IsMarked flat file text step.Blank = flat ≡ true → (n : ℕ) (name : List ℕ) → IsMarker text n name → ⊥
 IsMarked flat file text (step.Renumbered n) = (flat ≡ true) × IsMarker text n file
@@ -39,7 +39,7 @@ IsStep flat file known names c old new (step.Renumbered n) = MarksNext flat old 
 IsStep flat file known names c old new (step.Moved n name) = MarksNext flat old new n name.items × (same_name name.items file ≡ false) × (names ≡ known)
 IsStep flat file known names c old new (step.Next n s) = (x : Named) × (n ≡ old.number) × NextStatement flat old new c (Ok x) × IsMade known names s x
 
--- the same at a position: in its tree and its file, after what was read
+-- the same at a position: in its tree and its file, after what was read so far
 abbrev pub IsStepAt : Position → List (List ℕ) → List (List ℕ) → UnreadLines → UnreadLines → Step → Type 0
 IsStepAt p known names old new s = IsStep p.is_flat p.frame.now.file.value.items known names (context_in p.frame.now p.progress.now) old new s
 

@@ -11,7 +11,7 @@ use Rattle.kc_language.specs.declared.expressions.SymId.{SymId}
 use Rattle.kc_language.specs.declared.expressions.SymbolType.{SymbolType}
 use Rattle.kc_language.specs.declared.expressions.Tri.{Tri}
 use Rattle.kc_language.specs.declared.expressions.Tri.TheVariants.{M, N, Y}
-use Rattle.kc_tree.specs.TreeFacts.{IsWellFormed}
+use Rattle.kc_entries.specs.WellFormed.{IsWellFormed}
 use Rattle.kc_values.proofs.Same.{same_symbol-true}
 use Rattle.kc_values.proofs.UpgradeLemmas.{n_stays}
 

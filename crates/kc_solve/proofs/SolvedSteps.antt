@@ -18,7 +18,7 @@ use Rattle.kc_language.specs.declared.expressions.SymbolType.TheVariants.{Undefi
 use Rattle.kc_language.specs.Values.{Solves, IsOnlySolution, GivenValue, UserPlace, SymbolPlace, ChoicePlace, differs, differs_at, is_new, is_new_by, selection, default_selection, choice_at, facts, name, type_in, equations, rhs, known_from, user_place, name_count, equation, selected}
 use Rattle.kc_values.specs.PartsOfValues.{is_mentioned}
 use Rattle.kc_values.specs.PartsOfValues.{same_value}
-use Rattle.kc_tree.specs.TreeFacts.{IsWellFormed}
+use Rattle.kc_entries.specs.WellFormed.{IsWellFormed}
 use Rattle.kc_language.specs.ConfigFile.{Places, place_at}
 use Rattle.kc_values.specs.Laws.{MinimalRestores, MinimalHasNothingToSpare, IdempotentWhere as Law}
 use Rattle.kc_values.specs.Table.{value_in, tri_in, text_in, known_in}
@@ -28,6 +28,8 @@ use Rattle.kc_values.specs.declared.table.Value.{Value}
 use Rattle.kc_solve.proofs.WarningSteps.{tables_known}
 use Rattle.kc_solve.specs.Answers as solved
 use Rattle.kc_solve.specs.Kept.{IsSolved, solution_in, valuation}
+use Rattle.kc_solve.specs.Tables.{IsTableOf}
+use Rattle.kc_values.specs.declared.table.Table.{Table}
 use Rattle.kc_solve.specs.SolvedLaws.{IsMinimal, IdempotentWhere}
 use Rattle.kc_solve.specs.Answers.{TellsKnown}
 
@@ -205,8 +207,7 @@ module _ (tree : TreeFacts) (places : Places) (values : List (Option Value)) whe
       pub written_is : (i : SymId) → slice_index_or written i.0 false ≡ solved.written s i
       written_is i = subst (λ (x : Solution). slice_index_or written i.0 false ≡ solved.written x i) e (written_at i)
 
--- a solution is the only one for its tree and places
-pub only_here : (s : Solution) (t : TreeFacts) (u : Places) → IsSolution s → s.tree ≡ t → s.places ≡ u → IsOnlySolution (name_count t) (equations t (place_at u)) (value_of s)
-only_here s t u is e f =
-    subst (λ (x : TreeFacts). IsOnlySolution (name_count x) (equations x (place_at u)) (value_of s)) e
-    (subst (λ (p : Places). IsOnlySolution (name_count s.tree) (equations s.tree (place_at p)) (value_of s)) f is.only)
+-- the table of a solution
+pub table_is : (t : Table) (places : Places) (s : Solution) → solution_in t.tree.now places t.values ≡ s → length t.values ≡ name_count t.tree.now → IsTableOf s t
+table_is t places s e full =
+    subst (λ (y : Solution). IsTableOf y t) e (record { tree = refl; full = full; known_is = table_tells t.tree.now places t.values full })

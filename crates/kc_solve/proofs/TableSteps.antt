@@ -2,9 +2,7 @@
 use Rattle.std.proofs.Common.{◌≡◌, ℕ, ◌<◌, ◌≤◌, List, [], ◌∷◌, length, Option, Some, None, cond, sym, ◌∙◌, ap, inl, inr, refl, subst, arith, get_or, get_or-set_same, get_or-set_other}
 use Rattle.std.proofs.Math.Logic.{∥∥₁_elim}
 use Rattle.std.proofs.Math.Bridge.{le_prop}
-use Rattle.std.proofs.Math.Nat.{ℕ_set}
 use Rattle.std.specs.Prelude.{slice_index_or, slice_set, slice_get, IfSome, option_map}
-use Rattle.std.specs.Coded.{coded_list, coded_option}
 use Rattle.std.specs.Borrow.{Bor}
 use Rattle.std.specs.Option.{option_copied}
 use Rattle.std.specs.List.{All, AllByRecursion}
@@ -16,21 +14,18 @@ use base.Stored.{Coded-set}
 use Rattle.kc_language.specs.Expressions.{symbol, SymbolValue, Truth, TextValue}
 use Rattle.kc_expr.specs.Value.{value_by_type}
 use Rattle.kc_language.specs.contracts.expressions.SymbolType as type_row
-use Rattle.kc_language.specs.contracts.expressions.SymId as sym_row
 use Rattle.kc_language.specs.declared.expressions.SymId.{SymId}
 use Rattle.kc_language.specs.declared.expressions.Tri.{Tri}
 use Rattle.kc_language.specs.declared.expressions.SymbolType.{SymbolType}
 use Rattle.kc_language.specs.declared.expressions.SymbolType.TheVariants.{Undefined, Bool as IsBool, Tristate, Str, Int, Hex}
 use Rattle.kc_expr.proofs.AgreeLemmas.{depends_on_symbols}
 use Rattle.kc_order.specs.Solution.{IsUpdate}
-use Rattle.kc_tree.specs.Contexts.{mode_view}
+use Rattle.kc_tree.specs.Places.{mode_view}
 use Rattle.kc_tree.specs.Layouts.{facts_of}
-use Rattle.kc_tree.specs.TreeCode.{symbol_code}
-use Rattle.kc_tree.specs.TreeFacts.{IsMentioned, IsWellFormed}
+use Rattle.kc_entries.specs.WellFormed.{IsMentioned, IsWellFormed}
 use Rattle.kc_language.specs.Symbols.{SymbolFacts, TreeFacts}
 use Rattle.kc_language.specs.declared.symbols.ChoiceId.{ChoiceId}
 use Rattle.kc_tree.specs.declared.rows.Symbol.{Symbol}
-use Rattle.kc_tree.proofs.TreeLemmas.{symbols-length, symbols-at}
 use Rattle.kc_language.specs.Values.{GivenValue, SymbolPlace, facts, name, type_in, name_count, known_from, user_place, equations, equation, by_type}
 use Rattle.kc_values.specs.PartsOfValues.{is_mentioned, by_choice}
 use Rattle.kc_values.specs.PartsOfValues.{user_place_by, user_place_of}
@@ -55,17 +50,15 @@ each P h (x ∷ xs) = (h x, each P h xs)
 
 -- the facts of a symbol, by its row
 pub row_facts : (t : Table) (id : SymId) (s : Symbol) → IsRowOf t id s → facts t.tree.now id ≡ Some (facts_of t.layout.now id.0 s)
-row_facts t id s e =
-    ∥∥₁_elim t.laid (Coded-set (coded_option symbol_code) _ _) (λ laid.
-    ap (λ xs. slice_get xs id.0) laid.symbols ∙ symbols-at t.layout.now id.0 ∙ ap (option_map (facts_of t.layout.now id.0)) e)
+row_facts t id s e = t.laid.symbols id.0 ∙ ap (option_map (facts_of t.layout.now id.0)) e
 
 -- as many rows as symbols
 pub row_count : (t : Table) → length t.layout.now.symbols.items ≡ name_count t.tree.now
-row_count t = ∥∥₁_elim t.laid (ℕ_set _ _) (λ laid. sym (ap length laid.symbols ∙ symbols-length t.layout.now))
+row_count t = sym t.laid.symbol_count
 
 -- the defined symbols are those of the layout
 pub defined_are : (t : Table) → t.layout.now.defined.items ≡ t.tree.now.defined
-defined_are t = ∥∥₁_elim t.laid (Coded-set (coded_list sym_row.the_row.coded) _ _) (λ laid. sym laid.defined)
+defined_are t = sym t.laid.defined
 
 -- each of them has a row
 pub defined_below : (t : Table) (ids : List SymId) (i : ℕ) → ids ≡ t.layout.now.defined.items → i < length ids → (get_or ids i (symbol 0)).0 < length t.layout.now.symbols.items

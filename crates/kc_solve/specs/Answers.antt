@@ -6,9 +6,9 @@ use Rattle.kc_expr.specs.PartsOfExpressions.{text_of_value}
 use Rattle.kc_expr.specs.Value.{values_by}
 use Rattle.kc_language.specs.declared.expressions.SymId.{SymId}
 use Rattle.kc_language.specs.declared.expressions.Tri.{Tri}
-use Rattle.kc_language.specs.declared.expressions.Tri.TheVariants.{N, Y}
+use Rattle.kc_language.specs.declared.expressions.Tri.TheVariants.{N}
 use Rattle.kc_language.specs.declared.expressions.SymbolType.{SymbolType}
-use Rattle.kc_language.specs.Symbols.{Condition, SymbolFacts, TreeFacts, Shown, SymbolShown, MenuShown, EndShown, CommentShown, listed}
+use Rattle.kc_language.specs.Symbols.{SymbolFacts, TreeFacts, listed}
 use Rattle.kc_language.specs.ConfigFile.{place_at}
 use Rattle.kc_language.specs.Values as values
 use Rattle.kc_language.specs.Values.{conditions, facts, type_in}
@@ -43,18 +43,6 @@ visibility s id = visibility_by s.tree (known s) (facts s.tree id)
 -- the same for any type, but m stays m
 abbrev pub prompts_condition : Solution → SymId → Tri
 prompts_condition s id = conditions s.tree (known s) (flat_map (λ f. f.prompts) (listed (facts s.tree id)))
-
--- the value of a condition
-abbrev pub truth : Solution → Condition → Tri
-truth s when = values.condition s.tree (known s) when
-
--- whether an entry is shown: the condition of a menu or comment
-abbrev pub shown : Solution → Option Shown → Tri
-shown s None = Y
-shown s (Some (SymbolShown id)) = Y
-shown s (Some (MenuShown text when)) = truth s when
-shown s (Some (EndShown menu)) = Y
-shown s (Some (CommentShown text when)) = truth s when
 
 -- whether a symbol has a line in the .config
 abbrev pub written : Solution → SymId → Bool

@@ -34,9 +34,9 @@ abbrev pub IsSolvedRow : Table → SymId → Symbol → Option GivenValue → Ty
 IsSolvedRow t id row given = IsSolvedOwn t.tree.now (known_at t) id (facts_in t id row) (facts_in t id row).choice given
 
 -- whether a member without a user value is new; whether a symbol is new, read from its row
-abbrev pub member_is_new : Table → Places → Symbol → ℕ → Bool
-member_is_new t user row c =
-    is_visible t row && (not (is_chosen (selected t c (place_at user (ChoicePlace c))) (place_at user (ChoicePlace c))) && has_other t c)
+abbrev pub member_is_new : Table → Places → SymId → Symbol → ℕ → Bool
+member_is_new t user id row c =
+    is_visible t id row && (not (is_chosen (selected t c (place_at user (ChoicePlace c))) (place_at user (ChoicePlace c))) && has_other t c)
 
 abbrev pub row_is_new : Table → Places → SymId → Symbol → Bool
 row_is_new t user id row =

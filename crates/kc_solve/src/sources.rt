@@ -63,7 +63,7 @@ pub(crate) fn prompts_condition_at(table: &Table, id: SymId) -> Tri
     ensures { result ≡ at.conditions table.now (flat_map (λ f. f.prompts) (listed (facts table.now.tree.now id))) }
 {
     match table.layout.symbol(id) {
-        Some(symbol) => prompts_condition(table, symbol),
+        Some(symbol) => prompts_condition(table, id, symbol),
         None => Tri::N,
     }
 }

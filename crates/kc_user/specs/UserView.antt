@@ -1,4 +1,4 @@
--- Trusted: What the fields of a user's places say.
+-- Trusted: The meaning of the fields of user values.
 use Rattle.std.specs.Prelude.{map, option_map}
 use Rattle.kc_language.specs.ConfigFile.{Places}
 use Rattle.kc_user.specs.ValueView.{given_of_value}

@@ -1,4 +1,4 @@
--- Trusted: What a value stands for.
+-- Trusted: The meaning of a user value.
 use Rattle.kc_language.specs.Values.{GivenValue, GivenTruth, GivenText}
 use Rattle.kc_user.specs.declared.value.UserValue.{UserValue}
 use Rattle.kc_user.specs.declared.value.UserValue.TheVariants.{Tri, Text}

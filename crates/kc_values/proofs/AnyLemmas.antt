@@ -71,16 +71,6 @@ any_reverse p (x ∷ xs) =
     turned : (a b c : Bool) → a ≡ c → (a || (b || false)) ≡ (b || c)
     turned a b c h = grind arith
 
--- what is found under a number, whatever else is
-passes_same : {X : Type 0} (p q : X → Bool) (o : Option X) → ((x : X) → o ≡ Some x → p x ≡ q x) → passes p o ≡ passes q o
-passes_same p q None h = refl
-passes_same p q (Some x) h = h x refl
-
--- two tests that agree at what is found
-pub found_same : {X Y : Type 0} (p q : Y → Bool) (h : X → Option Y) → ((x : X) (y : Y) → h x ≡ Some y → p y ≡ q y) → (xs : List X) →
-    list_any p (filter_map h xs) ≡ list_any q (filter_map h xs)
-found_same p q h agree xs = any_found p h xs ∙ any_same (λ x. passes p (h x)) (λ x. passes q (h x)) (λ x. passes_same p q (h x) (agree x)) xs ∙ sym (any_found q h xs)
-
 -- a number stands in a list
 abbrev pub stands : ℕ → List ℕ → Bool
 stands v xs = list_any (λ m. m == v) xs

@@ -8,7 +8,7 @@ use Rattle.kc_language.specs.declared.expressions.SymId.{SymId}
 use Rattle.kc_language.specs.declared.expressions.SymbolType.TheVariants.{Undefined}
 use Rattle.kc_language.specs.Needs.{needs_in, names_by_type, named_by, needs}
 use Rattle.kc_values.specs.PartsOfNeeds.{mentioned_numbers, names_by_choice}
-use Rattle.kc_tree.specs.TreeFacts.{IsWellFormed}
+use Rattle.kc_entries.specs.WellFormed.{IsWellFormed}
 use Rattle.kc_language.specs.Symbols.{SymbolFacts, TreeFacts}
 use Rattle.kc_values.specs.Laws.{NeedingAreDefined}
 use Rattle.kc_language.specs.Values.{facts}

@@ -6,7 +6,7 @@ use Rattle.kc_language.specs.declared.expressions.Tri.{Tri}
 use Rattle.kc_language.specs.declared.expressions.Tri.TheVariants.{N, M, Y}
 use Rattle.kc_language.specs.Expressions.{lesser}
 use Rattle.kc_language.specs.Symbols.{SymbolFacts, TreeFacts}
-use Rattle.kc_tree.specs.TreeFacts.{IsMemberOf, IsWellFormed}
+use Rattle.kc_entries.specs.WellFormed.{IsMemberOf, IsWellFormed}
 use Rattle.kc_language.specs.Values.{and_value}
 use Rattle.kc_values.specs.PartsOfValues.{mode_value, prompt_value}
 use Rattle.kc_values.specs.Laws.{ModeIsPromptCondition}

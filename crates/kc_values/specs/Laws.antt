@@ -5,7 +5,7 @@ use Rattle.kc_language.specs.Expressions.{SymbolValue, symbol}
 use Rattle.kc_language.specs.declared.expressions.SymId.{SymId}
 use Rattle.kc_tree.specs.Layouts.{IsLayoutOf, facts_of}
 use Rattle.kc_language.specs.Symbols.{Condition, ChoiceFacts, TreeFacts}
-use Rattle.kc_tree.specs.TreeFacts.{IsWellFormed}
+use Rattle.kc_entries.specs.WellFormed.{IsWellFormed}
 use Rattle.kc_tree.specs.declared.layout.Layout.{Layout}
 use Rattle.kc_language.specs.Texts.{has_value}
 use Rattle.kc_order.specs.Loop.{HoldsNeeding}

@@ -28,11 +28,11 @@ module _ (tree : TreeFacts) (known : SymId → SymbolValue) where
 
 module _ (t : Table) where
   -- the default that applied; the source of a bool or tristate without a `select`, and with it; the source of a string, int or hex
-  abbrev pub default_source : Symbol → Source
-  default_source s = source.default_source t.tree.now (known_at t) (at.own_lines t s)
+  abbrev pub default_source : SymId → Symbol → Source
+  default_source id s = source.default_source t.tree.now (known_at t) (facts_in t id s)
 
-  abbrev pub is_truth_used : Symbol → Option GivenValue → Bool
-  is_truth_used s given = is_truth_used_of t.tree.now (known_at t) (at.own_lines t s) given
+  abbrev pub is_truth_used : SymId → Symbol → Option GivenValue → Bool
+  is_truth_used id s given = is_truth_used_of t.tree.now (known_at t) (facts_in t id s) given
 
   abbrev pub implied_source : SymId → Symbol → Source
   implied_source id s = implied_source_of t.tree.now (known_at t) (facts_in t id s)
@@ -43,11 +43,11 @@ module _ (t : Table) where
   abbrev pub truth_source : SymId → Symbol → Option GivenValue → Source
   truth_source id s given = source.truth_source t.tree.now (known_at t) (facts_in t id s) given
 
-  abbrev pub text_source : Symbol → Option (List ℕ) → Source
-  text_source s used = source.text_source t.tree.now (known_at t) (at.own_lines t s) used
+  abbrev pub text_source : SymId → Symbol → Option (List ℕ) → Source
+  text_source id s used = source.text_source t.tree.now (known_at t) (facts_in t id s) used
 
-  abbrev pub number_source : Symbol → Option GivenValue → Source
-  number_source s given = text_source s (lookup.if_within_range s.symbol_type (at.active_range t s) (lookup.visible_text given (at.visibility t s)))
+  abbrev pub number_source : SymId → Symbol → Option GivenValue → Source
+  number_source id s given = text_source id s (lookup.if_within_range s.symbol_type (at.active_range t id s) (lookup.visible_text given (at.visibility t id s)))
 
   -- the source of a symbol outside a choice
   abbrev pub own_source : SymId → Symbol → Option GivenValue → Source

@@ -4,7 +4,7 @@ use Rattle.kc_conf.proofs.accepted.read_alone.Goals as goal
 
 pub returns-in-Ok : goal.returns-in-Ok
 returns-in-Ok c = λ files root listed are. record {
-  read = record { built = c.in-Ok.ensures.built files root listed; opened = are; sources = (listed.0, listed.1, refl) };
+  read = record { built = c.in-Ok.ensures.built files root listed; opened = are; kept = refl };
   refused = tt;
 }
 

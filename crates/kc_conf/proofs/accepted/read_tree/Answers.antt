@@ -6,8 +6,8 @@ use Rattle.kc_conf.proofs.accepted.read_tree.Goals as goal
 
 pub returns-then-keeps : goal.returns-then-keeps
 returns-then-keeps c =
-    subst (λ (b : Bool). IsReadingOf (files_in c.args.files) c.args.root.now b c.read_with_sources.result) (sym c.if-keeps.true)
-    (c.read_with_sources.ensures c.args.root.now c.in-Ok.ensures.listed c.in-Ok.ensures.opened)
+    subst (λ (b : Bool). IsReadingOf (files_in c.args.files) c.args.root.now b c.read_with_files.result) (sym c.if-keeps.true)
+    (c.read_with_files.ensures c.args.root.now c.in-Ok.ensures.listed c.in-Ok.ensures.opened)
 
 pub returns : goal.returns
 returns c =

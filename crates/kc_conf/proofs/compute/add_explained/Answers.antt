@@ -1,13 +1,14 @@
--- The lines are those of the sources, and each begins with the lead.
-use Rattle.std.proofs.Common.{◌≡◌, ℕ, Bool, List, ◌++◌, ◌∙◌, OnOk, subst, subst₂}
-use Rattle.kc_language.specs.Statements.{Located, Numbered}
-use Rattle.kc_read.specs.Entries.{lines_in}
-use Rattle.kc_conf.specs.Computed.{explained_lost, explanation_lead}
+-- Each line begins with the lead.
+use Rattle.std.proofs.Common.{◌≡◌, ℕ, Bool, List, ◌++◌, ◌∙◌, OnOk, codes, subst₂}
+use Rattle.std.specs.List.{flat_map}
+use Rattle.kc_language.specs.Explanations.{explanation_text}
+use Rattle.kc_language.specs.Texts.{lost_at}
 use Rattle.kc_conf.proofs.compute.add_explained.Goals as goal
 
 pub returns : goal.returns
 returns c =
-    subst (λ (b : Bool). OnOk c.add_explained_lost.result (c.add_explained_lost.new.text.items ≡ c.args.text.now.items
-    ++ explained_lost b (explanation_lead c.args.options.now) (lines_in c.args.sources.now.entries) c.args.input.now c.args.solved.now)) c.is_raw.ensures
-    (subst₂ (λ (front : List ℕ) (ls : List (Located Numbered)). OnOk c.add_explained_lost.result (c.add_explained_lost.new.text.items ≡ c.args.text.now.items
-    ++ explained_lost c.is_raw.result front ls c.args.input.now c.args.solved.now)) (c.deref.ensures.value ∙ c.in_ok-front.ensures) c.in_ok-lines.ensures c.add_explained_lost.ensures)
+    let solved = c.args.solved.now in
+    let told : Bool → List ℕ → List ℕ = λ is_raw front. flat_map (λ s. flat_map (λ line. line ++ codes "\n"
+    ++ explanation_text solved.tree.lines solved c.args.input.now is_raw front 1 s) (lost_at is_raw c.args.input.now.lines solved s)) solved.tree.defined in
+    subst₂ (λ (is_raw : Bool) (front : List ℕ). OnOk c.add_explained_lost.result (c.add_explained_lost.new.text.items ≡ c.args.text.now.items ++ told is_raw front))
+    c.is_raw.ensures (c.deref.ensures.value ∙ c.in_ok-front.ensures) c.add_explained_lost.ensures

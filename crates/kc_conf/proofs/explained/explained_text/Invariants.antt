@@ -8,5 +8,5 @@ use Rattle.kc_conf.proofs.explained.explained_text.Given as goal
 abbrev pub invariant-loop-asked : goal.invariant-loop-asked
 invariant-loop-asked l =
     l.text.items
-    ≡ flat_map (λ asked. flat_map (explanation_text l.lines l.solved l.input l.options.prefix.is_raw [] l.options.explain_depth) (listed (asked_symbol l.solved.tree l.options.prefix.prefix asked)))
+    ≡ flat_map (λ asked. flat_map (explanation_text l.solved.tree.lines l.solved l.input l.options.prefix.is_raw [] l.options.explain_depth) (listed (asked_symbol l.solved.tree l.options.prefix.prefix asked)))
     (map string_bytes (take l.asked-index l.options.explain.items))

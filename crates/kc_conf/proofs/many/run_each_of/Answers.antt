@@ -1,14 +1,7 @@
 -- The tree's warnings are said, or all ends there.
-use Rattle.std.proofs.Common.{◌∙◌, ap, not}
 use Rattle.kc_conf.specs.Many.{stops, turns}
-use Rattle.kc_language.specs.Outcome.{is_not_empty, lines_text}
 use Rattle.kc_conf.proofs.ManyLemmas.{IsAcceptedOf-rooted}
-use Rattle.kc_conf.proofs.OutcomeLemmas.{lines_some}
 use Rattle.kc_conf.proofs.many.run_each_of.Goals as goal
-
-pub take_turns-requires-clause-warned : goal.take_turns-requires-clause-warned
-take_turns-requires-clause-warned g c =
-    ap not c.is_empty.ensures ∙ lines_some c.parse_warnings-warnings.result.now ∙ ap (λ l. is_not_empty (lines_text l)) c.parse_warnings-warnings.ensures
 
 pub returns-in-Ok : goal.returns-in-Ok
 returns-in-Ok g c = λ files root keeps of keeps_for rooted.

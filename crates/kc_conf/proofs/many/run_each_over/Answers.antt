@@ -4,7 +4,6 @@ use Rattle.std.specs.Prelude.{Ok}
 use Rattle.kc_language.specs.Symbols.{IsTreeOf}
 use Rattle.kc_conf.specs.Many.{stops}
 use Rattle.kc_language.specs.Outcome.{looped}
-use Rattle.kc_language.specs.Expansion.{numbered_lines}
 use Rattle.kc_conf.proofs.HeldLemmas.{AreKept-held}
 use Rattle.kc_conf.proofs.many.run_each_over.Goals as goal
 
@@ -16,9 +15,8 @@ returns-in-Err g c = λ files root keeps of keeps_for rooted.
 pub returns : goal.returns
 returns g c = λ files root keeps of keeps_for rooted.
     let built = subst (λ t. IsTreeOf files root (Ok t)) (sym c.laid-laid.ensures.tree) of.built in
-    let (log, expands, kept) = of.sources in
     c.run_each_of-status.ensures files root keeps (record {
       tree = record { built = built; accepted = c.in-Ok.ensures.accepted };
       opened = of.opened;
-      sources = (log, expands, AreKept-held files (numbered_lines log.lines) keeps c.args.read.sources c.borrowed-lent.result c.borrowed-lent.ensures kept);
+      held = AreKept-held files keeps c.args.read.files c.borrowed-lent.result c.borrowed-lent.ensures of.kept;
     }) keeps_for rooted

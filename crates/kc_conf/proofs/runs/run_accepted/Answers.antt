@@ -1,9 +1,7 @@
 -- A name is refused; or the tree's warnings are said, and a part follows.
-use Rattle.std.proofs.Common.{◌∙◌, ap, sym, option_map, not}
+use Rattle.std.proofs.Common.{◌∙◌, ap, sym, option_map}
 use Rattle.std.proofs.lemmas.Result.{err_from_is_err_and}
 use Rattle.kc_io.proofs.LogLemmas.{leads_nothing}
-use Rattle.kc_language.specs.Outcome.{is_not_empty, lines_text}
-use Rattle.kc_conf.proofs.OutcomeLemmas.{lines_some}
 use Rattle.kc_conf.specs.RefusedNames.{refused_line}
 use Rattle.kc_conf.proofs.PartOutcomes.{names-taken}
 use Rattle.kc_conf.proofs.RefusedNames.{none_refused}
@@ -33,10 +31,6 @@ run_inputs-requires-clause-taken g c =
     let opened = c.args.accepted.now.opened.now in
     none_refused c.args.options.now opened c.args.accepted.now.laid.tree.now
     (sym (c.in_ok-refused.ensures opened c.in_ok-names.ensures) ∙ ap (option_map refused_line) c.in_default.is)
-
-pub run_inputs-requires-clause-warned : goal.run_inputs-requires-clause-warned
-run_inputs-requires-clause-warned g c =
-    ap not c.is_empty.ensures ∙ lines_some c.parse_warnings-warnings.result.now ∙ ap (λ l. is_not_empty (lines_text l)) c.parse_warnings-warnings.ensures
 
 pub returns-in-Ok : goal.returns-in-Ok
 returns-in-Ok g c = λ files of.

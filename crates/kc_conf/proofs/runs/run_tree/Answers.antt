@@ -3,7 +3,6 @@ use Rattle.std.proofs.Common.{subst, sym}
 use Rattle.std.specs.Prelude.{Ok}
 use Rattle.kc_language.specs.Symbols.{IsTreeOf}
 use Rattle.kc_language.specs.Outcome.{root_file, looped}
-use Rattle.kc_language.specs.Expansion.{numbered_lines}
 use Rattle.kc_options.specs.PartsOfOutcome.{wants_sources}
 use Rattle.kc_conf.proofs.HeldLemmas.{AreHeld-sources, AreKept-held}
 use Rattle.kc_conf.proofs.RunParts.{LeavesRun-refusal}
@@ -19,14 +18,9 @@ pub returns : goal.returns
 returns g c = λ files of.
     let options = c.args.options.now in
     let built = subst (λ t. IsTreeOf files (root_file options) (Ok t)) (sym c.laid-laid.ensures.tree) of.built in
-    let (log, expands, kept) = of.sources in
-    let lines = numbered_lines log.lines in
     c.run_accepted-ended.ensures files (record {
       tree = record { built = built; accepted = c.in-Ok.ensures.accepted };
       opened = of.opened;
-      sources = (
-        log,
-        expands,
-        AreHeld-sources files lines (wants_sources options) options c.borrowed-lent.result (λ e. e) (AreKept-held files lines (wants_sources options) c.args.read.sources c.borrowed-lent.result c.borrowed-lent.ensures kept),
-      );
+      sources = AreHeld-sources files (wants_sources options) options c.borrowed-lent.result (λ e. e)
+          (AreKept-held files (wants_sources options) c.args.read.files c.borrowed-lent.result c.borrowed-lent.ensures of.kept);
     })

@@ -1,10 +1,9 @@
-use Rattle.std.proofs.Common.{[], ◌∷◌, false, arith}
-use Rattle.std.proofs.lemmas.Result.{on_err_weaker, on_ok_weaker}
-use Rattle.kc_config_file.specs.PartsOfConfigFile.{line, assignments}
+use Rattle.std.proofs.Common.{false, arith}
+use Rattle.std.proofs.lemmas.Result.{on_err_weaker}
 use Rattle.kc_config_file.specs.ReaderView.{position_of}
 use Rattle.kc_config_file.proofs.FedLemmas.{no_bytes, some_bytes}
 use Rattle.kc_config_file.proofs.FeedLemmas.{FinishesStream-nothing, FinishesStream-line, OnOk-three}
-use Rattle.kc_config_file.proofs.PlaceLemmas.{ArePlacesOf-given}
+use Rattle.kc_config_file.proofs.OpenLemmas.{open-after}
 use Rattle.kc_config_file.proofs.line_buffer.end_stream.Goals as goal
 
 pub returns-then-is_empty-clause-ok : goal.returns-then-is_empty-clause-ok
@@ -18,7 +17,7 @@ returns-clause-ok c =
     let stream = c.args.stream.now in
     OnOk-three c.end_line.result _ _ _ _
     (λ places warned next.
-    FinishesStream-line stream.tree.now stream.prefix.now stream.name.now (position_of c.args.line_buffer.now) c.args.user.now c.end_line.new.user _ _ c.requires.opened
+    FinishesStream-line stream.tree.now stream.prefix.now stream.name.now (position_of c.args.line_buffer.now) c.args.user.now c.end_line.new.user _ _ c.requires.within
     (some_bytes c.args.line_buffer.now.pending.items c.args.line_buffer.now.pending.len (omega (arith, c.args.line_buffer.now.pending.ok.0)) c.if-is_empty.ensures) places warned)
     c.end_line.ensures.places c.end_line.ensures.warned c.end_line.ensures.next
 
@@ -28,11 +27,8 @@ returns-clause-pending c =
     (λ unchanged. some_bytes c.args.line_buffer.now.pending.items c.args.line_buffer.now.pending.len (omega (arith, c.args.line_buffer.now.pending.ok.0)) c.if-is_empty.ensures)
     c.end_line.ensures.unchanged
 
-pub returns-clause-user : goal.returns-clause-user
-returns-clause-user c =
-    let stream = c.args.stream.now in
-    let tree = stream.tree.now in
-    let l = line stream.name.now c.args.line_buffer.now.number c.args.line_buffer.now.pending.items false in
-    on_ok_weaker c.end_line.result
-    (λ places. rw places (ArePlacesOf-given tree c.args.user.now.places (assignments tree stream.prefix.now (l ∷ [])) c.requires.user))
-    c.end_line.ensures.places
+pub returns-clause-opened : goal.returns-clause-opened
+returns-clause-opened c =
+    OnOk-three c.end_line.result _ _ _ _
+    (λ places warned next. open-after c.args.stream.now c.args.user.now c.end_line.new.user c.args.line_buffer.now false _ c.requires places next)
+    c.end_line.ensures.places c.end_line.ensures.warned c.end_line.ensures.next

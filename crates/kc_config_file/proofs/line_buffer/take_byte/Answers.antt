@@ -1,10 +1,9 @@
-use Rattle.std.proofs.Common.{true, ◌≤◌, [], ◌∷◌, length, arith}
+use Rattle.std.proofs.Common.{true, ◌≤◌, length, arith}
 use Rattle.std.proofs.lemmas.Bool.{eq-eqb, ne_eqb}
-use Rattle.kc_config_file.specs.PartsOfConfigFile.{line, assignments}
 use Rattle.kc_config_file.specs.ReaderView.{position_of}
 use Rattle.kc_config_file.proofs.FedLemmas.{fed-other}
 use Rattle.kc_config_file.proofs.FeedLemmas.{Feeds-lf, StopsBecause-long}
-use Rattle.kc_config_file.proofs.PlaceLemmas.{ArePlacesOf-given}
+use Rattle.kc_config_file.proofs.OpenLemmas.{open-after}
 use Rattle.kc_config_file.proofs.line_buffer.take_byte.Goals as goal
 
 pub returns-then-byte-eq10-clause-ok : goal.returns-then-byte-eq10-clause-ok
@@ -12,18 +11,15 @@ returns-then-byte-eq10-clause-ok c =
     let stream = c.args.stream.now in
     let ensures = c.in_ok-end_line.ensures in
     Feeds-lf stream.tree.now stream.prefix.now stream.name.now c.args.byte (position_of c.args.line_buffer.now) (position_of c.end_line.new.line_buffer)
-    c.args.user.now c.end_line.new.user _ _ c.requires.opened (eq-eqb c.args.byte 10 c.if-byte-eq10.true) ensures.places ensures.warned ensures.next
+    c.args.user.now c.end_line.new.user _ _ c.requires.within (eq-eqb c.args.byte 10 c.if-byte-eq10.true) ensures.places ensures.warned ensures.next
 
-pub returns-then-byte-eq10-clause-user : goal.returns-then-byte-eq10-clause-user
-returns-then-byte-eq10-clause-user c =
-    let stream = c.args.stream.now in
-    let tree = stream.tree.now in
-    let l = line stream.name.now c.args.line_buffer.now.number c.args.line_buffer.now.pending.items true in
-    rw c.in_ok-end_line.ensures.places (ArePlacesOf-given tree c.args.user.now.places (assignments tree stream.prefix.now (l ∷ [])) c.requires.user)
+pub returns-then-byte-eq10-clause-opened : goal.returns-then-byte-eq10-clause-opened
+returns-then-byte-eq10-clause-opened c =
+    open-after c.args.stream.now c.args.user.now c.end_line.new.user c.args.line_buffer.now true _ c.requires c.in_ok-end_line.ensures.places c.in_ok-end_line.ensures.next
 
 pub returns-clause-position : goal.returns-clause-position
 returns-clause-position c =
-    rw c.in_ok-push.ensures.items (fed-other c.args.byte (position_of c.args.line_buffer.now) c.requires.opened (ne_eqb c.args.byte 10 c.if-byte-eq10.false))
+    rw c.in_ok-push.ensures.items (fed-other c.args.byte (position_of c.args.line_buffer.now) c.requires.within (ne_eqb c.args.byte 10 c.if-byte-eq10.false))
 
 pub returns-then-len-ge-LONGEST_DOT_LINE-clause-err : goal.returns-then-len-ge-LONGEST_DOT_LINE-clause-err
 returns-then-len-ge-LONGEST_DOT_LINE-clause-err c =
@@ -32,4 +28,4 @@ returns-then-len-ge-LONGEST_DOT_LINE-clause-err c =
     let full = c.if-len-ge-LONGEST_DOT_LINE.true in
     let long : 65535 ≤ length c.args.line_buffer.now.pending.items = omega (arith, count, full) in
     StopsBecause-long stream.tree.now stream.prefix.now stream.name.now c.args.byte (position_of c.args.line_buffer.now) c.args.user.now
-    c.requires.opened (ne_eqb c.args.byte 10 c.if-byte-eq10.false) long
+    c.requires.within (ne_eqb c.args.byte 10 c.if-byte-eq10.false) long

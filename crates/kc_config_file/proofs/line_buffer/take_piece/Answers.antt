@@ -13,9 +13,8 @@ loop-at-init c =
     record {
       within = omega arith;
       taken = Feeds-nothing stream.tree.now stream.prefix.now stream.name.now (position_of c.args.line_buffer.now) c.args.user.now c.args.told.now.items;
-      position = fed-nothing (position_of c.args.line_buffer.now) c.requires.opened;
-      opened = c.requires.opened;
-      fits = c.requires.user;
+      position = fed-nothing (position_of c.args.line_buffer.now) c.requires.within;
+      opened = c.requires;
     }
 
 pub loop-at-preserved : goal.loop-at-preserved
@@ -32,9 +31,9 @@ loop-at-preserved c =
     let mid = position_of c.loop-at.line_buffer in
     let new = position_of c.take_front.new.line_buffer in
     let fed_next = subst (λ l. Feeds stream.tree.now stream.prefix.now stream.name.now (take n l) mid new c.loop-at.user c.take_front.new.user
-    c.loop-at.told.items c.take_front.new.told.items) left ensures.ok in
-    let spot_next = subst (λ l. (before : List ℕ) (first : StreamPosition) → mid ≡ fed before first → new ≡ fed (before ++ take n l) first) left ensures.position in
-    let fits = ensures.within in
+    c.loop-at.told.items c.take_front.new.told.items) left ensures.taken.ok in
+    let spot_next = subst (λ l. (before : List ℕ) (first : StreamPosition) → mid ≡ fed before first → new ≡ fed (before ++ take n l) first) left ensures.taken.position in
+    let fits = ensures.taken.within in
     let count = length-drop at c.args.piece.now in
     record {
       within = omega (arith, fits, count, invariant.within);
@@ -42,7 +41,6 @@ loop-at-preserved c =
           (position_of c.take_front.new.line_buffer) c.args.user.now c.loop-at.user c.take_front.new.user _ _ _ invariant.taken fed_next);
       position = rw (take_on at n c.args.piece.now) (spot_next front old invariant.position);
       opened = ensures.opened;
-      fits = ensures.user;
     }
 
 pub returns-in_err-at-clause-err : goal.returns-in_err-at-clause-err

@@ -1,6 +1,6 @@
 use Rattle.std.proofs.Common.{◌≡◌, ◌≤◌, ◌-◌, length, take}
-use Rattle.kc_language.specs.ConfigFile.{ArePlacesOf}
-use Rattle.kc_config_file.specs.Feeding.{IsWithinLine, Feeds, fed}
+use Rattle.kc_config_file.specs.Feeding.{Feeds, fed}
+use Rattle.kc_config_file.specs.LineByLine.{IsOpen}
 use Rattle.kc_config_file.specs.ReaderView.{position_of}
 use Rattle.kc_config_file.proofs.line_buffer.take_piece.Given as goal
 
@@ -11,8 +11,7 @@ invariant-loop-at l = record {
   taken : Feeds l.stream.tree.now l.stream.prefix.now l.stream.name.now (take l.at l.piece) (position_of l.fn.line_buffer) (position_of l.line_buffer)
       l.fn.user l.user l.fn.told.items l.told.items;
   position : position_of l.line_buffer ≡ fed (take l.at l.piece) (position_of l.fn.line_buffer);
-  opened : IsWithinLine (position_of l.line_buffer);
-  fits : ArePlacesOf l.stream.tree.now l.user.places;
+  opened : IsOpen l.stream (position_of l.line_buffer) l.user;
 }
 
 abbrev pub decreases-loop-at : goal.decreases-loop-at

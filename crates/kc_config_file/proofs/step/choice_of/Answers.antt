@@ -1,6 +1,6 @@
 use Rattle.std.proofs.Common.{◌∙◌, ap, sym}
 use Rattle.std.specs.Option.{option_and_then}
-use Rattle.kc_tree.specs.Contexts.{mode_view}
+use Rattle.kc_tree.specs.Places.{mode_view}
 use Rattle.kc_language.specs.Symbols.{SymbolFacts}
 use Rattle.kc_config_file.proofs.StepLemmas.{choice_there}
 use Rattle.kc_config_file.proofs.step.choice_of.Goals as goal

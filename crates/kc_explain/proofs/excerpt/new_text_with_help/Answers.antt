@@ -4,6 +4,7 @@ use Rattle.kc_language.specs.Symbols.{TreeFacts}
 use Rattle.kc_language.specs.Texts.{solution_view}
 use Rattle.kc_language.specs.declared.expressions.SymId.{SymId}
 use Rattle.kc_config_file.proofs.TextLemmas.{defined_named, symbols_next, symbols_end, grows, is_grown}
+use Rattle.kc_explain.specs.LineViews.{lines_of}
 use Rattle.kc_explain.specs.Excerpts.{new_with_help}
 use Rattle.kc_explain.proofs.excerpt.new_text_with_help.Goals as goal
 
@@ -21,7 +22,7 @@ add_new_with_help-requires-clause-mentioned c =
 
 pub loop-i-preserved : goal.loop-i-preserved
 loop-i-preserved c =
-    let new_in : FileTable → SymId → List ℕ = λ files. new_with_help (files_in files) c.args.lines.now c.args.solved.now.tree c.args.prefix.now (solution_view c.args.solved.now) in
+    let new_in : FileTable → SymId → List ℕ = λ files. new_with_help (files_in files) (lines_of c.args.layout.now) c.args.solved.now.tree c.args.prefix.now (solution_view c.args.solved.now) in
     let each = new_in c.args.files.now in
     let next = symbols_next c.args.solved.now.tree each c.loop-i.i c.symbol.result (rw c.tree-tree.ensures at c.symbol.ensures) in
     let added : c.add_new_with_help.new.text.items ≡ c.loop-i.text.items ++ each c.symbol.result =
@@ -30,6 +31,6 @@ loop-i-preserved c =
 
 pub returns : goal.returns
 returns c =
-    let each = new_with_help (files_in c.args.files.now) c.args.lines.now c.args.solved.now.tree c.args.prefix.now (solution_view c.args.solved.now) in
+    let each = new_with_help (files_in c.args.files.now) (lines_of c.args.layout.now) c.args.solved.now.tree c.args.prefix.now (solution_view c.args.solved.now) in
     let all : length c.args.solved.now.tree.defined ≤ c.loop-i.i = omega (arith, ap (λ (t : TreeFacts). length t.defined) c.tree-tree.ensures) in
     is_grown _ _ _ c.loop-i.invariant.1 (symbols_end c.args.solved.now.tree each c.loop-i.i all)

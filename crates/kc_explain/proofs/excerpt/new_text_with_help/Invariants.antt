@@ -3,6 +3,7 @@ use Rattle.std.proofs.Common.{◌≡◌, ◌++◌, drop}
 use Rattle.std.specs.Prelude.{flat_map}
 use Rattle.kc_language.specs.Explanations.{new_text_with_help}
 use Rattle.kc_language.specs.Texts.{solution_view}
+use Rattle.kc_explain.specs.LineViews.{lines_of}
 use Rattle.kc_explain.specs.Excerpts.{new_with_help}
 use Rattle.kc_explain.proofs.excerpt.new_text_with_help.Given as goal
 
@@ -11,5 +12,5 @@ abbrev pub invariant-loop-i : goal.invariant-loop-i
 invariant-loop-i l =
     let told = solution_view l.solved in
     (l.reader ≡ l.files)
-    × (l.text.items ++ flat_map (new_with_help (files_in l.files) l.lines l.solved.tree l.prefix told) (drop l.i l.solved.tree.defined)
-    ≡ new_text_with_help (files_in l.files) l.lines l.solved.tree l.prefix told)
+    × (l.text.items ++ flat_map (new_with_help (files_in l.files) (lines_of l.layout) l.solved.tree l.prefix told) (drop l.i l.solved.tree.defined)
+    ≡ new_text_with_help (files_in l.files) (lines_of l.layout) l.solved.tree l.prefix told)

@@ -1,6 +1,6 @@
 use Rattle.std.proofs.Common.{◌≢◌, Ok, Err}
 use Rattle.kc_language.specs.Expansion.{Expands, first_log}
-use Rattle.kc_read.specs.PartsOfExpansion.{root_context}
+use Rattle.kc_entries.specs.PartsOfExpansion.{root_context}
 use Rattle.kc_read.specs.Files.{files_in}
 use Rattle.kc_read.specs.LineReads.{cause_of}
 use Rattle.kc_read.specs.RefusalView.{refusal_view}

@@ -1,4 +1,4 @@
-use Rattle.kc_read.proofs.ListLemmas.{last_of-none}
+use Rattle.kc_entries.proofs.ListLemmas.{last_of-none}
 use Rattle.std.proofs.Common.{◌∙◌, ap, sym}
 use Rattle.kc_language.specs.Expansion.{refusal_at}
 use Rattle.kc_language.specs.declared.diagnostics.Cause.TheVariants.{Block}

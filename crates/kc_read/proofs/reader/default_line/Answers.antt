@@ -1,7 +1,7 @@
 use Rattle.kc_expr.specs.Form.{form_of}
 use Rattle.std.proofs.Common.{false}
 use Rattle.kc_language.specs.Statements.{ReadsValue, names_in_condition, DefaultLine}
-use Rattle.kc_read.specs.PartsOfStatements.{front}
+use Rattle.kc_entries.specs.PartsOfStatements.{front}
 use Rattle.kc_read.proofs.PartLemmas.{read_passed, value_fault, value_refused}
 use Rattle.std.proofs.Common.{refl}
 use Rattle.kc_language.specs.Expressions.{names_in}

@@ -1,5 +1,5 @@
 use Rattle.kc_language.specs.Statements.{names_in_condition, SelectLine}
-use Rattle.kc_read.specs.PartsOfStatements.{ReadsTarget}
+use Rattle.kc_entries.specs.PartsOfStatements.{ReadsTarget}
 use Rattle.kc_language.specs.Expressions.{all_mentioned}
 use Rattle.kc_expr.proofs.NamesLemmas.{extends_on}
 use Rattle.std.proofs.Common.{◌∙◌, ap}

@@ -8,7 +8,7 @@ use Rattle.kc_read.specs.Progress.{context_in}
 use Rattle.kc_read.proofs.step.step_of_line.Goals as goal
 use Rattle.kc_read.proofs.step.step_of_line.Goals.{then-begins_help, else-begins_help}
 use Rattle.kc_language.specs.Expansion.{without_help}
-use Rattle.kc_read.specs.PartsOfExpansion.{is_help}
+use Rattle.kc_entries.specs.PartsOfExpansion.{is_help}
 use Rattle.kc_text.specs.Lexemes.{lexemes}
 
 pub returns-in-Err-clause-refused : goal.returns-in-Err-clause-refused

@@ -1,4 +1,4 @@
-use Rattle.kc_tree.specs.Contexts.{mode_view}
+use Rattle.kc_tree.specs.Places.{mode_view}
 use Rattle.kc_tree.specs.Layouts.{facts_of}
 use Rattle.kc_values.specs.TableFacts.{known_at}
 use Rattle.kc_values.specs.User.{given_in}

@@ -20,8 +20,8 @@ get-own-requires c =
     let below = defined_below t c.defined-id-items.result.now c.loop-id.id-index c.defined-id-items.ensures c.loop-id-test.true in
     omega (arith, below, row_count t, c.requires.user.symbols)
 
-pub warnings_into-requires : goal.warnings_into-requires
-warnings_into-requires c =
+pub warnings_into-requires-clause-visibility : goal.warnings_into-requires-clause-visibility
+warnings_into-requires-clause-visibility c =
     let t = c.args.table.now in
     let id = get_or c.defined-id-items.result.now c.loop-id.id-index (symbol 0) in
     let s = c.symbol_row-symbol.result.now in

@@ -5,7 +5,7 @@ use Rattle.kc_language.specs.ConfigFile.{place_at}
 use Rattle.kc_language.specs.Values.{ChoicePlace, choice_at, selected, selection}
 use Rattle.kc_language.specs.declared.expressions.SymId.{SymId}
 use Rattle.kc_language.specs.Expressions.{SymbolValue}
-use Rattle.kc_tree.specs.Contexts.{mode_view}
+use Rattle.kc_tree.specs.Places.{mode_view}
 use Rattle.kc_tree.specs.Layouts.{facts_of}
 use Rattle.kc_user.specs.PartsOfConfigFile.{member_place}
 use Rattle.kc_values.specs.Sources.{member_source, own_source}

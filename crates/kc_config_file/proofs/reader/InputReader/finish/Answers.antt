@@ -8,4 +8,4 @@ returns-in-Ok c =
     let ensures = c.in-Ok.ensures in
     rw (← c.self.view_is, c.in_default.is)
     (AnswersEnd-ok stream.tree.now stream.prefix.now stream.name.now (position_of c.self.inside.line_buffer) (position_of c.end_stream.new.line_buffer)
-    c.args.user.now c.end_stream.new.user c.args.told.now.items c.end_stream.new.told.items ensures.ok ensures.position ensures.user)
+    c.args.user.now c.end_stream.new.user c.args.told.now.items c.end_stream.new.told.items ensures.ok ensures.position ensures.opened.user)
