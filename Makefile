@@ -1,5 +1,5 @@
 # Each target is one or two commands.
-.PHONY: build install example test case cases mutants bench shapes real refused replaced trials each lists make-names flatten-test docs clean
+.PHONY: build install example test case cases mutants bench shapes real refused replaced trials each explain lists make-names flatten-test docs clean
 
 PREFIX ?= /usr/local
 
@@ -91,6 +91,11 @@ each: build
 # Compares --list-new and --list-gone with what trying each answer shows, on random trees. Any program: make lists KCONF=FILE
 lists:
 	bench/lists.py $(KCONF) 3000
+
+# Compares explanations, lost values and the list of new symbols with help with an independent reader, on random trees. Any program:
+# make explain KCONF=FILE
+explain:
+	bench/explain.py $(KCONF) 0 100
 
 # Asks GNU make which names it reads in a dependency file, and looks that kconf writes those and refuses the others.
 make-names: build

@@ -5,6 +5,7 @@
 - The session in README.md is run in a copy of the example (crates/kconf_firmware/data), and must print the same.
 - The dependency file and the two lists of docs/formats.md must be those that the program writes.
 - The makefiles of docs/make.md are run over the example, the first one with each of its two rules.
+- The commands of docs/defconfigs.md for several processes must write what one run writes.
 - The version must be the same in the program, the man pages and the changelog.
 - Each option of the help must stand in README.md, the man page and both completions.
 - Each link from a document to a file of the repository must lead to a file.
@@ -17,6 +18,7 @@
 
 import glob
 import os
+import pathlib
 import re
 import shutil
 import subprocess
@@ -199,6 +201,30 @@ def session(kconf):
     return [] if came == shown else [f"README.md: the session is {came!r}"]
 
 
+def processes(kconf):
+    """Complaints about the commands of docs/defconfigs.md that share a list between processes, over six configurations."""
+    commands = re.search(r"^## Many processes\n.*?^```sh\n(.*?)^```$", read("docs/defconfigs.md"), re.M | re.S).group(1)
+    whole = "kconf --each --replace --savedefconfig '{}' Kconfig configs/*_defconfig\n"
+
+    def files_after(script):
+        with tempfile.TemporaryDirectory() as folder:
+            shutil.copytree(os.path.join(TOP, "crates/kconf_firmware/data"), folder, dirs_exist_ok=True)
+            os.mkdir(os.path.join(folder, "configs"))
+            os.mkdir(os.path.join(folder, "bin"))
+            os.symlink(kconf, os.path.join(folder, "bin/kconf"))
+            with open(os.path.join(folder, "start.config"), encoding="utf-8") as file:
+                lines = file.readlines()
+            for at in range(6):
+                with open(os.path.join(folder, f"configs/board{at}_defconfig"), "w", encoding="utf-8") as file:
+                    file.writelines(lines[at:])
+            path = os.path.join(folder, "bin") + ":" + os.environ["PATH"]
+            run = subprocess.run(["sh", "-e", "-c", script], cwd=folder, env={**os.environ, "PATH": path}, capture_output=True, text=True)
+            names = sorted(glob.glob("configs/*", root_dir=folder))
+            return run.returncode, [(name, pathlib.Path(folder, name).read_text(encoding="utf-8")) for name in names]
+
+    return [] if files_after(commands) == files_after(whole) else ["docs/defconfigs.md: several processes write other files than one"]
+
+
 def versions(kconf):
     """Complaints about the version in the program, the man pages and the changelog."""
     version = re.search(r'^pub\(crate\) const VERSION: &str = "kconf (.*)\\n";$', read("crates/kc_words/src/command.rt"), re.M).group(1)
@@ -285,7 +311,7 @@ def figures():
 def main():
     kconf = os.path.abspath(sys.argv[1])
     wrong, runs = examples(kconf)
-    unmade = session(kconf) + rule(kconf) + versions(kconf) + options(kconf)
+    unmade = session(kconf) + rule(kconf) + processes(kconf) + versions(kconf) + options(kconf)
     for name, text in makefiles().items():
         unmade += makefile(kconf, name, text)
     broken, count = links()

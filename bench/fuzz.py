@@ -4,7 +4,7 @@
 Each case is a tree of some symbols with menus, `if` blocks, choices, comments, sourced files, several definitions, all types, every
 attribute, names that are not defined, and at times a loop; with a .config, and at times a fragment. Two cases of five are broken
 after that: lines are dropped, doubled, exchanged or cut, or bytes are changed. Both programs run on the same files and write all
-three outputs. The first case in which a status, an output, or a line of what they tell differs is kept in a folder that is named,
+three outputs, and then explain all symbols. The first case in which a status, an output, or a line of what they tell differs is kept in a folder that is named,
 and ends the run with status 1.
 """
 
@@ -312,14 +312,16 @@ def main():
             words = ["--config", "dot.config", "--out", OUTPUTS[0], "--header", OUTPUTS[1], "--savedefconfig", OUTPUTS[2]]
             words += pick.choice([[], ["--warn-lost"]])
             words += ["Kconfig"] + pick.choice([[], ["more.config"]])
-            one, other = ran(old, folder, words), ran(new, folder, words)
-            statuses[one[0]] = statuses.get(one[0], 0) + 1
-            if one != other:
-                kept = f"{tempfile.gettempdir()}/fuzz-{seed}-{case}"
-                shutil.copytree(folder, kept, dirs_exist_ok=True)
-                parts = [name for name, a, b in zip(["status", "stdout", "stderr", *OUTPUTS], one, other) if a != b]
-                sys.exit(f"case {case} differs in {', '.join(parts)}: {kept}: {' '.join(words)}")
-    print(f"{count} cases, none differs; statuses {dict(sorted(statuses.items()))}")
+            asked = [word for name in tree.names for word in ("--explain", name)]
+            for run in [words, ["--config", "dot.config", *asked, "Kconfig"]]:
+                one, other = ran(old, folder, run), ran(new, folder, run)
+                statuses[one[0]] = statuses.get(one[0], 0) + 1
+                if one != other:
+                    kept = f"{tempfile.gettempdir()}/fuzz-{seed}-{case}"
+                    shutil.copytree(folder, kept, dirs_exist_ok=True)
+                    parts = [name for name, a, b in zip(["status", "stdout", "stderr", *OUTPUTS], one, other) if a != b]
+                    sys.exit(f"case {case} differs in {', '.join(parts)}: {kept}: {' '.join(run)}")
+    print(f"{count} cases, none differs; statuses of two runs each {dict(sorted(statuses.items()))}")
 
 
 if __name__ == "__main__":

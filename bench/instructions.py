@@ -24,7 +24,7 @@ ROWS = [
     ("the table of names", r"kc_expr::names?::|indexmap::|core::hash::"),
     ("`kc_expr` without the table of names", r"kc_expr::"),
     ("`kc_read`", r"kc_read::"),
-    ("`kc_config_file`", r"kc_config_file::"),
+    ("`kc_input` and `kc_config_file`", r"kc_(input|config_file)::"),
     ("`kc_io`, `kc_load`, `kc_conf`, `kc_words`, `kc_disk`", r"kc_(io|load|conf|words|disk)::"),
     ("`kc_values`, `kc_user`, `kc_order`, `kc_solve`", r"kc_(values|user|order|solve)::"),
     ("copying and filling memory", r"mem(move|cpy|set)"),

@@ -13,7 +13,8 @@
 # Then kconf --each runs all of these at once: bench/real/each.py says what it checks. Each line of these configurations has to be
 # kept, or reported by --warn-lost: bench/real/ignored.py. And the list of kconf --list-new is compared with that of the tree's
 # own conf --listnewconfig: bench/real/new.py says over which inputs. On Linux 6.1 and 7.2 each line of
-# the explanations of random symbols is checked by kconfiglib, and the command of docs/why.md is run: bench/real/explain.py.
+# the explanations of random symbols is checked by kconfiglib, those of all names are compared with bench/explain.py, and the
+# command of docs/why.md is run: bench/real/explain.py.
 #
 # Then come:
 # - SeaBIOS and toybox, each built with its own conf and with kconf: the results have to be the same byte for byte;

@@ -287,6 +287,12 @@ def lost_symbols(count):
     return tree, "".join(f"CONFIG_S_{i}=y\n" for i in range(count))
 
 
+def lost_symbols_and_causes(count):
+    """So many symbols that are lost, each of which depends on another one that is n."""
+    tree = "".join(config(f"T_{i}", 'bool "t"') + config(f"S_{i}", 'bool "s"', f"depends on T_{i}") for i in range(count))
+    return tree, "".join(f"CONFIG_S_{i}=y\n" for i in range(count))
+
+
 def lost_members(count):
     """So many choices of one member that depend on one that is n, each with a line in the .config."""
     lines = '\tprompt "c"\n\tdepends on OFF\n\n'
@@ -352,6 +358,7 @@ SHAPES = [
     (sourced_help, 16000),
     (sourced_tabs, 16000),
     (lost_symbols, 8000),
+    (lost_symbols_and_causes, 8000),
     (lost_members, 8000),
     (a_chain_of_dependencies, 8000),
     (defaults_that_do_not_apply, 8000),
@@ -363,6 +370,7 @@ REFUSED = {loop_beside_a_chain, loop_beside_wide_conditions}
 MORE_OPTIONS = {
     hidden_members: ["--list-new", "new"],
     lost_symbols: ["--warn-lost", "--explain-lost"],
+    lost_symbols_and_causes: ["--warn-lost", "--explain-lost"],
     lost_members: ["--warn-lost", "--explain-lost"],
     a_chain_of_dependencies: ["--explain", "S_0", "--explain-depth", "65535"],
     defaults_that_do_not_apply: ["--explain", "A"],

@@ -5,7 +5,7 @@ _kconf() {
         --root | --include)
             COMPREPLY=($(compgen -d -- "$word"))
             return ;;
-        --config | --out | --header | --savedefconfig | --list-new | --list-gone | --depfile | --each-from | --fragment)
+        --config | --out | --header | --savedefconfig | --list-new | --list-gone | --list-dead | --depfile | --each-from | --fragment)
             COMPREPLY=($(compgen -f -- "$word"))
             return ;;
         --prefix)
@@ -16,7 +16,7 @@ _kconf() {
     esac
     if [[ $word == -* ]]; then
         COMPREPLY=($(compgen -W \
-            '--root --flat --include --config --out --header --savedefconfig --list-new --with-help --list-gone --depfile --prefix --raw-strings --must-exist --strict --strict-tree --quiet-tree --hints --warn-lost --explain-lost --explain --explain-depth --replace --check --diff --each --each-from --fragment --help --version' -- "$word"))
+            '--root --flat --include --config --out --header --savedefconfig --list-new --with-help --list-gone --list-dead --depfile --prefix --raw-strings --must-exist --strict --strict-tree --quiet-tree --hints --warn-lost --explain-lost --explain --explain-depth --replace --check --diff --each --each-from --fragment --help --version' -- "$word"))
     else
         COMPREPLY=($(compgen -f -- "$word"))
     fi

@@ -1,37 +1,18 @@
 -- A tree is what the numbered lines of a root file give.
-use Rattle.std.proofs.Common.{◌≡◌, ◌≢◌, ℕ, List, [], ◌∷◌, length, map, Result, Ok, Err, refl, ap, sym, ◌∙◌, subst}
-use Rattle.std.specs.Prelude.{All}
-use Rattle.std.specs.List.{slice_get, flat_map}
-use Rattle.std.specs.Option.{is_some}
-use Rattle.std.proofs.lemmas.List.Elements.{All-append, All-head}
+use Rattle.std.proofs.{Common.{Err, List, Ok, Result, Some, [], ap, length, map, refl, subst, sym, ℕ, ◌∙◌, ◌∷◌, ◌≡◌, ◌≢◌}, lemmas.List.Elements.{All-append, All-head}}
+use Rattle.std.specs.{List.{flat_map, slice_get}, Prelude.All}
 use Rattle.kc_expr.specs.Names.{AreDistinct}
-use Rattle.kc_language.specs.Expressions.{number_of}
-use Rattle.kc_language.specs.Statements.{Cause, Numbered, Located, Named, statements}
+use Rattle.kc_language.specs.{Expansion.{Expands, Files, ReadSoFar, Refused, mentioned_names, numbered_lines, refusal_at}, Expressions.number_of, Statements.{Cause, EndChoiceLine, EndIfLine, EndMenuLine, Located, Named, Numbered, statements}, Symbols.{TreeFacts, bad_defaults, bad_members, defined_symbols, entry_name, entry_symbol, facts_with, listed, menu_entry_at, modules_symbol, refused_at, tree_with}, declared.statements.Block.Block}
+use Rattle.kc_language.specs.declared.statements.Block.TheVariants as block
 use Rattle.kc_diagnostics.specs.Causes.{owned_cause}
 use Rattle.kc_language.specs.declared.diagnostics.Cause.TheVariants as cause
-use Rattle.kc_read.specs.declared.refusal.Refusal.{Refusal}
-use Rattle.kc_language.specs.Expansion.{Expands, ReadSoFar, Refused, refusal_at, Files, mentioned_names, numbered_lines}
-use Rattle.kc_read.specs.PartsOfExpansion.{defined}
-use Rattle.kc_read.specs.Expansion.{OneExpansion}
-use Rattle.kc_read.specs.Entries.{lines_in}
-use Rattle.kc_read.specs.RefusalView.{IsMemory, refusal_view}
-use Rattle.kc_build.specs.declared.listing.Listing.{Listing}
-use Rattle.kc_build.specs.PartsView.{parts_view}
-use Rattle.kc_language.specs.Symbols.{listed, defined_symbols, TreeFacts, facts_with, modules_symbol, tree_with, bad_defaults, bad_members, entry_name, menu_entry_at, entry_symbol, refused_at}
-use Rattle.kc_read.specs.PartsOfSymbols.{tree_of_log, unless_refused, whole_list_refusals}
-use Rattle.kc_read.specs.PartsOfSymbols.{tree_of_lines}
-use Rattle.kc_read.specs.ListFacts.{AreBelow, AreChoicesApart, AreMenusOpened, AreTypesDefined}
-use Rattle.kc_build.specs.Listings.{IsListing}
-use Rattle.kc_build.specs.Passes.{statements_in}
-use Rattle.kc_tree.specs.TreeFacts.{IsWellFormed}
-use Rattle.kc_tree.specs.declared.layout.TreeParts.{TreeParts}
-use Rattle.kc_build.specs.Trees.{OneTree}
-use Rattle.kc_read.proofs.DefinedLemmas.{AreNames, expanded_allowed, expanded_known, numbered_typed}
-use Rattle.kc_read.proofs.ElementLemmas.{All-flat_map, All-map_each}
-use Rattle.kc_read.proofs.NestLemmas.{choice_alone, menu_closed}
-use Rattle.kc_read.proofs.NumberingLemmas.{numbered_below}
-use Rattle.kc_read.proofs.ListShape.{nested}
-use Rattle.kc_read.proofs.WholeLemmas.{IsShaped, shaped, well_formed}
+use Rattle.kc_read.specs.{Expansion.OneExpansion, RefusalView.{IsMemory, refusal_view}, declared.refusal.Refusal.Refusal}
+use Rattle.kc_entries.specs.{Entries.lines_in, ListFacts.{AreBelow, AreChoicesApart, AreTypesDefined}, PartsOfExpansion.defined, PartsOfSymbols.{tree_of_lines, tree_of_log, unless_refused, whole_list_refusals}, WellFormed.IsWellFormed}
+use Rattle.kc_build.specs.{Listings.IsListing, Nesting.{AreBlocksClosed, closed_block}, PartsView.parts_view, SelectorRows.AreTargetsBelow, Sound.AreSound, Trees.OneTree, declared.listing.Listing.Listing}
+use Rattle.kc_tree.specs.{EntryViews.statements_in, declared.layout.TreeParts.TreeParts}
+use Rattle.kc_read.proofs.{DefinedLemmas.{AreNames, expanded_allowed, expanded_known, numbered_typed}, ListShape.nested, NestLemmas.{choice_alone, closer_closes}, NumberingLemmas.numbered_below, TurnLemmas.{Leaves, turn}, WholeLemmas.{IsShaped, shaped, well_formed}}
+use Rattle.kc_entries.proofs.ElementLemmas.{All-flat_map, All-map_each}
+use Rattle.kc_build.proofs.TargetLemmas.{targets-below}
 
 -- Each refusal of the whole list is of a member or of a default.
 refusal_codes : (names : List (List ℕ)) (ls : List (Located Numbered)) → All (λ r. r.cause ≢ cause.Memory) (whole_list_refusals names ls)
@@ -71,6 +52,13 @@ whole-formed ls t known distinct shaped h =
     (facts_with (mentioned_names (statements ls)) (numbered_lines ls)) h in
     subst IsWellFormed (sym w.1) (well_formed ls known distinct shaped w.0)
 
+-- a line that closes a block leaves it
+closes-turn : (s : Numbered) (b : Block) → closed_block s ≡ Some b → turn s ≡ Leaves b
+closes-turn EndIfLine b h = ap Leaves (let same : block.If ≡ b = cc in same)
+closes-turn EndMenuLine b h = ap Leaves (let same : block.Menu ≡ b = cc in same)
+closes-turn EndChoiceLine b h = ap Leaves (let same : block.Choice ≡ b = cc in same)
+closes-turn _ b h = absurd cc
+
 -- what the numbered lines of an expanded list give
 module _ (log : ReadSoFar) (l : Listing) (h : IsListing log l) where
   abbrev line_statements : List Numbered
@@ -79,7 +67,7 @@ module _ (log : ReadSoFar) (l : Listing) (h : IsListing log l) where
   statements_here : line_statements ≡ statements_in l.entries
   statements_here = ap statements (sym h.lines_are)
 
-  pub lines-below : AreBelow (length l.names) (statements_in l.entries)
+  lines-below : AreBelow (length l.names) (statements_in l.entries)
   lines-below =
       subst (λ (ss : List Numbered). AreBelow (length l.names) ss) statements_here
       (subst (λ (ns : List (List ℕ)). AreBelow (length ns) line_statements) (sym h.names_are) (numbered_below log.lines))
@@ -92,16 +80,30 @@ module _ (log : ReadSoFar) (l : Listing) (h : IsListing log l) where
       h.modules_is ∙ ap (modules_symbol (mentioned_names (statements log.lines))) statements_here
       ∙ ap (λ (ns : List (List ℕ)). modules_symbol ns (statements_in l.entries)) (sym h.names_are)
 
-  pub lines-apart : (files : Files) (root : List ℕ) → Expands files root (Ok log) → AreChoicesApart (statements_in l.entries)
+  lines-apart : (files : Files) (root : List ℕ) → Expands files root (Ok log) → AreChoicesApart (statements_in l.entries)
   lines-apart files root x = subst AreChoicesApart statements_here (choice_alone line_statements (nested files root log x))
 
-  pub lines-typed : (files : Files) (root : List ℕ) → Expands files root (Ok log) → AreTypesDefined (statements_in l.entries)
+  lines-typed : (files : Files) (root : List ℕ) → Expands files root (Ok log) → AreTypesDefined (statements_in l.entries)
   lines-typed files root x =
       subst AreTypesDefined statements_here (numbered_typed (number_of (mentioned_names (statements log.lines))) log.lines (expanded_allowed files root log x))
 
-  pub lines-opened : (files : Files) (root : List ℕ) → Expands files root (Ok log) → AreMenusOpened (statements_in l.entries)
-  lines-opened files root x =
-      subst AreMenusOpened statements_here (λ i e. ap is_some (menu_closed line_statements (nested files root log x) i e).1)
+  lines-closed : (files : Files) (root : List ℕ) → Expands files root (Ok log) → AreBlocksClosed (statements_in l.entries)
+  lines-closed files root x =
+      subst AreBlocksClosed statements_here (λ i s b at h. closer_closes line_statements (nested files root log x) i s b at (closes-turn s b h))
+
+  lines-targets : AreTargetsBelow (length l.names) (statements_in l.entries)
+  lines-targets =
+      subst (λ (ss : List Numbered). AreTargetsBelow (length l.names) ss) statements_here
+      (subst (λ (ns : List (List ℕ)). AreTargetsBelow (length ns) line_statements) (sym h.names_are) (targets-below log.lines))
+
+  pub lines-sound : (files : Files) (root : List ℕ) → Expands files root (Ok log) → AreSound (length l.names) (statements_in l.entries)
+  lines-sound files root x = record {
+    below = lines-below;
+    targets = lines-targets;
+    types = lines-typed files root x;
+    apart = lines-apart files root x;
+    closed = lines-closed files root x;
+  }
 
   pub parts-lines : (s : Result TreeParts Refusal) → parts_view l.names s ≡ tree_with l.names (lines_in l.entries) → parts_view l.names s ≡ tree_of_lines log.lines
   parts-lines s a =

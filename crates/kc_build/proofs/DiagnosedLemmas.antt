@@ -1,41 +1,15 @@
 -- What lines have against them, from one line to the next and from one entry to the next.
-use Rattle.std.proofs.Common.{◌≡◌, ℕ, zero, suc, ◌+◌, ◌<◌, ◌≤◌, Bool, true, false, ◌||◌, ◌==◌, nat_lt, if◌then◌else◌, List, [], ◌∷◌, ◌++◌, length, filter, map, drop, Option, Some, None, Err, refl, ap, sym, ◌∙◌, arith, inl, inr, add-one}
-use Rattle.std.specs.Prelude.{◌⊎◌, All, option_map}
-use Rattle.std.specs.List.{slice_get, flat_map, list_any, take_while}
-use Rattle.std.specs.Option.{option_or, is_some}
-use Rattle.std.proofs.lemmas.Bool.Decides.{nat_tests}
-use Rattle.std.proofs.lemmas.Grind.{flat_map-append}
-use Rattle.std.proofs.lemmas.Option.{slice_get-map, slice_get_within}
-use Rattle.std.proofs.lemmas.List.{append-nil, length-map, length-append, length-drop}
-use Rattle.std.proofs.lemmas.List.Elements.{filter-append, All-nil, All-cons, All-head, All-tail, All-same}
-use Rattle.std.proofs.lemmas.List.Sums.{take_while-cons}
-use Rattle.kc_language.specs.declared.expressions.SymId.{SymId}
-use Rattle.kc_language.specs.declared.expressions.SymbolType.{SymbolType}
-use Rattle.kc_language.specs.Statements.{Cause, Numbered, Located, ConfigLine, TypeLine, PromptLine, statements}
+use Rattle.std.proofs.{Common.{Bool, Err, List, None, Option, Some, [], add-one, ap, arith, drop, false, filter, if◌then◌else◌, inl, inr, length, map, nat_lt, refl, suc, sym, true, zero, ℕ, ◌++◌, ◌+◌, ◌<◌, ◌==◌, ◌||◌, ◌∙◌, ◌∷◌, ◌≡◌, ◌≤◌}, lemmas.{Bool.Decides.nat_tests, Grind.flat_map-append, List.{Elements.{All-cons, All-head, All-nil, All-same, All-tail, filter-append}, Sums.take_while-cons, append-nil, length-append, length-drop, length-map}, Option.{slice_get-map, slice_get_within}}}
+use Rattle.std.specs.{List.{flat_map, list_any, slice_get, take_while}, Option.{is_some, option_or}, Prelude.{All, option_map, ◌⊎◌}}
+use Rattle.kc_language.specs.{Expansion.{Refused, attributes, is_attribute, numbers}, Statements.{Cause, ConfigLine, Located, Numbered, PromptLine, TypeLine, statements}, Symbols.{TreeFacts, bad_defaults, bad_members, choice_of, enclosing_choice, is_first_definition_at, line_warnings, listed, menu_entry_at, prompt_of, refused_at, type_of}, declared.{expressions.{SymId.SymId, SymbolType.SymbolType}, symbols.{ChoiceId.ChoiceId, MenuEntry.MenuEntry}}}
 use Rattle.kc_language.specs.declared.diagnostics.Cause.TheVariants as cause
-use Rattle.kc_language.specs.Expansion.{attributes, is_attribute, numbers, Refused}
-use Rattle.kc_read.specs.RefusalView.{refusal_view}
-use Rattle.kc_read.specs.declared.refusal.Refusal.{Refusal}
-use Rattle.kc_language.specs.declared.symbols.ChoiceId.{ChoiceId}
+use Rattle.kc_read.specs.{RefusalView.refusal_view, declared.refusal.Refusal.Refusal}
 use Rattle.kc_tree.specs.declared.rows.Symbol.{Symbol}
-use Rattle.kc_language.specs.Symbols.{TreeFacts, listed, prompt_of, choice_of, enclosing_choice, type_of, is_first_definition_at, bad_defaults, bad_members, menu_entry_at, refused_at, line_warnings}
-use Rattle.kc_read.specs.PartsOfSymbols.{is_member, unless_refused, whole_list_refusals, warnings}
-use Rattle.kc_read.specs.PartsOfSymbols.{first_of, is_bad_default, is_bad_member, line_of, menu_entry_before, prompt_before, line_warnings_by, warned_at}
-use Rattle.kc_build.specs.declared.diagnostics.Diagnostics.{Diagnostics}
-use Rattle.kc_build.specs.declared.diagnostics.EntrySummary.{EntrySummary}
-use Rattle.kc_language.specs.declared.symbols.MenuEntry.{MenuEntry}
-use Rattle.kc_build.specs.Diagnosed.{Diagnosis, AreLinesDiagnosed, lines_diagnosed, diagnosis_view, line_diagnosed}
-use Rattle.kc_read.specs.ListFacts.{AreBelow}
-use Rattle.kc_build.specs.SymbolRows.{AreSymbols, IsEntrySummary, choice_by, type_by, member_by, line_warnings_in}
-use Rattle.kc_build.specs.WholeListRefusals.{entry_refusal}
-use Rattle.kc_build.specs.WalkResult.{IsDiagnosed}
-use Rattle.kc_build.proofs.TypeLemmas.{choices_known, types_known}
-use Rattle.kc_read.proofs.PlaceLemmas.{there_in, get-dropped, drop-dropped}
-use Rattle.kc_read.proofs.MemberLemmas.{below_or_past, member_is}
-use Rattle.kc_read.proofs.MenuEntryLemmas.{has_prompt, entry_goes_on, entry_here, prompt_begins, prompt_goes_on}
-use Rattle.kc_read.proofs.PlaceLemmas.{filter-next, flat_map-next}
-use Rattle.kc_read.proofs.ListLemmas.{first_of-append}
-use Rattle.kc_read.proofs.BlockLemmas.{first_nil, second_nil}
+use Rattle.kc_entries.specs.{ListFacts.AreBelow, PartsOfSymbols.{first_of, is_bad_default, is_bad_member, is_member, line_of, line_warnings_by, menu_entry_before, prompt_before, unless_refused, warned_at, warnings, whole_list_refusals}}
+use Rattle.kc_build.specs.{Diagnosed.{AreLinesDiagnosed, Diagnosis, IsDiagnosed, diagnosis_view, line_diagnosed, lines_diagnosed}, SymbolRows.{IsEntrySummary, choice_by, line_warnings_in, member_by, type_by}, WholeListRefusals.entry_refusal, declared.diagnostics.{Diagnostics.Diagnostics, EntrySummary.EntrySummary}}
+use Rattle.kc_build.proofs.TypeLemmas.{AreTyped, choices_known, types_known}
+use Rattle.kc_entries.proofs.{ListLemmas.first_of-append, MemberLemmas.{below_or_past, member_is}, PlaceLemmas.{drop-dropped, filter-next, flat_map-next, get-dropped, there_in}}
+use Rattle.kc_read.proofs.{BlockLemmas.{first_nil, second_nil}, MenuEntryLemmas.{entry_goes_on, entry_here, has_prompt, prompt_begins, prompt_goes_on}}
 
 -- The places below one, of those that are kept among all.
 below_it : (n i : ℕ) → n < i → nat_lt n i ≡ true
@@ -179,7 +153,7 @@ record IsKnown (ls : List (Located Numbered)) (symbols : List Symbol) (summary :
   says : bad_members (statements ls) ≡ [] → line_warnings_in symbols summary prompted l.statement ≡ line_warnings (statements ls) i l.statement
 
 module _ (names : List (List ℕ)) (ls : List (Located Numbered)) (symbols : List Symbol) (below : AreBelow (length symbols) (statements ls))
-    (are : AreSymbols (statements ls) symbols) where
+    (are : AreTyped (statements ls) symbols) where
   types : type_by symbols ≡ type_of (statements ls)
   types = types_known (statements ls) symbols below are
 
@@ -248,7 +222,7 @@ taken_pass p [] = All-nil (λ x. p x ≡ true)
 taken_pass p (x ∷ xs) = all_pass p (p x) x xs refl (taken_pass p xs)
 
 module _ (names : List (List ℕ)) (ls : List (Located Numbered)) (symbols : List Symbol) (below : AreBelow (length symbols) (statements ls))
-    (are : AreSymbols (statements ls) symbols) (summary : EntrySummary) where
+    (are : AreTyped (statements ls) symbols) (summary : EntrySummary) where
   -- an attribute: whether a definition is the first, and in which choice it stands, does not count
   attribute_known : (prompted : Bool) (i : ℕ) (l : Located Numbered) → slice_get ls i ≡ Some l → is_attribute l.statement ≡ true →
       menu_entry_before (statements ls) i ≡ summary.entry → prompted ≡ prompt_before (statements ls) i →

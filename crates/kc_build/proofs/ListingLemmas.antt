@@ -1,24 +1,11 @@
 -- The listing of an expanded list.
-use Rattle.std.proofs.Common.{◌≡◌, ℕ, ◌≤◌, List, [], length, map, Option, Ok, ap, sym, ◌∙◌, arith, codes, position}
-use Rattle.std.specs.Prelude.{option_map}
-use Rattle.std.specs.Option.{option_or}
-use Rattle.std.specs.declared.vec.Vec.{Vec}
-use Rattle.std.specs.declared.alloc.Global.{Global}
-use Rattle.kc_language.specs.declared.expressions.SymId.{SymId}
-use Rattle.kc_language.specs.Expressions.{number_of, same_name, symbol}
-use Rattle.kc_read.specs.declared.expansion.Expansion.{Expansion}
-use Rattle.std.proofs.lemmas.List.{length-map}
-use Rattle.kc_language.specs.Text.{most_lines}
-use Rattle.kc_language.specs.Expansion.{modules_of, Files, Expands, ReadSoFar, mentioned_names}
-use Rattle.kc_read.specs.PartsOfExpansion.{defined as defined_names, located_numbered, number_line}
-use Rattle.kc_read.specs.Expanded.{IsExpansion}
-use Rattle.kc_language.specs.Statements.{statements}
-use Rattle.kc_read.proofs.NameLemmas.{extends_none}
-use Rattle.kc_read.specs.Entries.{lines_in}
-use Rattle.kc_read.proofs.FewLemmas.{expansion_few}
-use Rattle.kc_build.specs.declared.listing.Listing.{Listing}
-use Rattle.kc_build.specs.Listings.{IsListing}
-use Rattle.kc_read.proofs.NumberingLemmas.{defined_are_numbers, modules_are, named_is, statements_numbered}
+use Rattle.std.proofs.{Common.{List, Ok, Option, [], ap, arith, codes, length, map, position, sym, ℕ, ◌∙◌, ◌≡◌, ◌≤◌}, lemmas.List.length-map}
+use Rattle.std.specs.{Option.option_or, Prelude.option_map, declared.{alloc.Global.Global, vec.Vec.Vec}}
+use Rattle.kc_language.specs.{Expansion.{Expands, Files, ReadSoFar, mentioned_names, modules_of}, Expressions.{number_of, same_name, symbol}, Statements.statements, Text.most_lines, declared.expressions.SymId.SymId}
+use Rattle.kc_read.specs.{Expanded.IsExpansion, declared.expansion.Expansion.Expansion}
+use Rattle.kc_entries.specs.{Entries.lines_in, PartsOfExpansion.{defined as defined_names, located_numbered, number_line}}
+use Rattle.kc_read.proofs.{FewLemmas.expansion_few, NameLemmas.extends_none, NumberingLemmas.{defined_are_numbers, modules_are, named_is, statements_numbered}}
+use Rattle.kc_build.specs.{Listings.IsListing, declared.listing.Listing.Listing}
 
 -- the name that stands for modules where no line does
 abbrev modules_name : List (List ℕ) → Option SymId

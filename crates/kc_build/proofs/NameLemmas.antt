@@ -1,15 +1,10 @@
 -- The names of a tree are distinct, and so the tree of a root file is well formed.
-use Rattle.std.proofs.Common.{◌≡◌, ℕ, List, Result, Ok, Err}
-use Rattle.kc_language.specs.Expansion.{Expands, ReadSoFar, Refused, Files}
-use Rattle.kc_language.specs.Statements.{statements}
-use Rattle.kc_tree.specs.TreeFacts.{IsWellFormed}
-use Rattle.kc_language.specs.Symbols.{TreeFacts}
-use Rattle.kc_read.specs.PartsOfSymbols.{tree_of_log}
+use Rattle.std.proofs.Common.{Err, List, Ok, Result, ℕ, ◌≡◌}
+use Rattle.kc_language.specs.{Expansion.{Expands, Files, ReadSoFar, Refused}, Statements.statements, Symbols.TreeFacts}
+use Rattle.kc_entries.specs.{PartsOfSymbols.tree_of_log, WellFormed.IsWellFormed}
 use Rattle.kc_build.specs.Trees.{TreesAreWellFormed}
 use Rattle.kc_build.proofs.BuildLemmas.{whole-formed}
-use Rattle.kc_read.proofs.DefinedLemmas.{expanded_known}
-use Rattle.kc_read.proofs.NumberingLemmas.{names-distinct}
-use Rattle.kc_read.proofs.WholeLemmas.{shaped}
+use Rattle.kc_read.proofs.{DefinedLemmas.expanded_known, NumberingLemmas.names-distinct, WholeLemmas.shaped}
 
 log-formed : (files : Files) (root : List ℕ) (tree : TreeFacts) (e : Result ReadSoFar Refused) → Expands files root e → Ok tree ≡ tree_of_log e → IsWellFormed tree
 log-formed files root tree (Ok log) expands is =

@@ -1,339 +1,175 @@
--- The lines of a definition that select and imply, as they are added.
-use Rattle.std.proofs.Common.{◌≡◌, ◌≢◌, ℕ, ◌+◌, ◌<◌, ◌≤◌, Bool, true, false, ◌&&◌, ◌==◌, if◌then◌else◌, List, [], ◌∷◌, ◌++◌, length, drop, Option, Some, None, refl, ap, sym, ◌∙◌, arith, get_or, slice_set, append_assoc, length-append, subst, inl, inr}
-use Rattle.std.specs.Prelude.{◌⊎◌, slice_index_or, OnOk, OnErr, Result, Ok, Err, option_map}
-use Rattle.std.specs.List.{slice_get}
-use Rattle.std.specs.Global.{Vec}
-use Rattle.std.specs.Vec.{with_items}
-use Rattle.std.proofs.lemmas.Bool.{cases_lt, eq-eqb, eqb-true, false≢true, ne_eqb}
-use Rattle.std.proofs.lemmas.List.{append-nil, length-set, get_or-set_same, get_or-set_other, with_items_is}
-use Rattle.std.proofs.lemmas.List.Elements.{All-push}
-use Rattle.std.proofs.lemmas.Option.{none-some, same_Some}
-use Rattle.std.specs.declared.alloc.AllocError.{AllocError}
-use Rattle.std.specs.declared.alloc.Global.{Global}
-use Rattle.std.specs.declared.rc.Rc.{Rc}
-use Rattle.kc_expr.specs.declared.expression.Expr.{Expr}
-use Rattle.kc_language.specs.declared.expressions.SymId.{SymId}
-use Rattle.kc_language.specs.Expressions.{Form, symbol}
-use Rattle.kc_expr.specs.When.{when_view}
-use Rattle.kc_read.specs.declared.entries.AttributeLine.{AttributeLine}
-use Rattle.kc_read.specs.StatementViews.{attribute_view}
-use Rattle.kc_tree.specs.declared.rows.DefinitionId.{DefinitionId}
-use Rattle.kc_tree.specs.declared.rows.Selector.{Selector}
-use Rattle.kc_tree.specs.declared.rows.SelectorId.{SelectorId}
-use Rattle.kc_tree.specs.declared.rows.Symbol.{Symbol}
-use Rattle.kc_tree.specs.declared.selector_rows.SelectorRows.{SelectorRows}
-use Rattle.kc_tree.specs.Chains.{AreChained, AreHeads}
-use Rattle.kc_language.specs.declared.symbols.SelectOrImply.{SelectOrImply}
-use Rattle.kc_language.specs.declared.symbols.SelectOrImply.TheVariants as select_or_imply
-use Rattle.kc_build.specs.SymbolRows.{can_be_target}
-use Rattle.kc_build.specs.Passes.{statements_of}
-use Rattle.kc_language.specs.Symbols.{target_of}
-use Rattle.kc_build.specs.SelectorRows.{selector_row, rows_to, same_selectors, selects_of, implies_of, added_line, added_lines, HaveSources, KeepSources, IsAdded}
-use Rattle.kc_build.proofs.ChainLemmas.{to-keeps, to-new, get_past}
-use Rattle.kc_build.proofs.ScanLemmas.{statements_from}
-use Rattle.kc_read.proofs.PlaceLemmas.{get_front, end_get}
+-- The lines that select and imply symbols: one line more.
+use Rattle.std.proofs.{Common.{Bool, List, None, Option, Some, [], ap, arith, cond, false, inl, inr, length, refl, subst, suc, sym, true, zero, ℕ, ◌&&◌, ◌++◌, ◌+◌, ◌<◌, ◌∙◌, ◌∷◌, ◌≡◌, ◌≢◌, ◌≤◌}, lemmas.{Bool.{eq-eqb, ne_eqb}, List.{Elements.filter-append, append-nil, length_push}, Option.slice_get_within}}
+use Rattle.std.specs.{List.slice_get, Option.{is_some, option_and_then}, Prelude.{slice_set, ◌⊎◌}}
+use Rattle.kc_language.specs.{Expansion.{last_of, numbers}, Expressions.{Form, same_symbol, symbol}, Statements.{ImplyLine, Numbered, SelectLine}, Symbols.{target_of, targets}, declared.{expressions.SymId.SymId, symbols.SelectOrImply.SelectOrImply}}
+use Rattle.kc_language.specs.declared.symbols.SelectOrImply.TheVariants as word
+use Rattle.kc_entries.specs.declared.entries.Entries.{Entries}
+use Rattle.kc_entries.proofs.{ElementLemmas.same_is, EnclosingLemmas.last-snoc, MemberLemmas.below_or_past, PlaceLemmas.{end_get, get_front}}
+use Rattle.kc_tree.specs.{Places.{AreChained, AreSymbolRows, IsSymbolRow, line_in, lines_before, names}, Stored.stored, declared.rows.{Selector.Selector, SelectorId.SelectorId, Symbol.Symbol}}
+use Rattle.kc_tree.proofs.ListLemmas.{filter-below}
+use Rattle.kc_build.specs.SelectorRows.{last_in, with_last}
 
--- a line more, which leads on to the last one of its symbol
-chained-at : (lines : List Selector) (row : Selector) → AreChained lines → ((next : SelectorId) → row.next ≡ Some next → next.0 < length lines) →
-    (i : ℕ) (r : Selector) (next : SelectorId) → ((i < length lines) ⊎ (length lines ≤ i)) → slice_get (lines ++ row ∷ []) i ≡ Some r → r.next ≡ Some next → next.0 < i
-chained-at lines row h there i r next (inl l) e n = h i r next (sym (get_front lines (row ∷ []) i l) ∙ e) n
-chained-at lines row h there i r next (inr g) e n = at (cases_lt (length lines) i)
+-- Lists.
+pub get-set : {X : Type 0} (xs : List X) (k i : ℕ) (x y : X) → slice_get (slice_set xs k x) i ≡ Some y → ((i ≡ k) × (y ≡ x)) ⊎ ((i ≢ k) × (slice_get xs i ≡ Some y))
+get-set [] k i x y e = absurd cc
+get-set (z ∷ xs) zero zero x y e = inl (refl, cc)
+get-set (z ∷ xs) zero (suc i) x y e = inr (λ h. cc, e)
+get-set (z ∷ xs) (suc k) zero x y e = inr (λ h. cc, e)
+get-set (z ∷ xs) (suc k) (suc i) x y e = by (get-set xs k i x y e)
   where
-    at : ((length lines < i) ⊎ (i ≤ length lines)) → next.0 < i
-    at (inl past) = absurd (none-some r (sym (get_past lines row i past) ∙ e))
-    at (inr low) =
-        let same : i ≡ length lines = omega arith in
-        let is : row ≡ r = same_Some row r (sym (end_get lines row) ∙ ap (slice_get (lines ++ row ∷ [])) (sym same) ∙ e) in
-        let below = there next (ap (λ (x : Selector). x.next) is ∙ n) in
-        omega arith
+    by : ((i ≡ k) × (y ≡ x)) ⊎ ((i ≢ k) × (slice_get xs i ≡ Some y)) → ((suc i ≡ suc k) × (y ≡ x)) ⊎ ((suc i ≢ suc k) × (slice_get xs i ≡ Some y))
+    by (inl h) = inl (ap suc h.0, h.1)
+    by (inr h) = inr (λ q. h.0 (omega (arith, q)), h.1)
 
-pub chained-push : (lines : List Selector) (row : Selector) → AreChained lines → ((next : SelectorId) → row.next ≡ Some next → next.0 < length lines) → AreChained (lines ++ row ∷ [])
-chained-push lines row h there i r next e n = chained-at lines row h there i r next (cases_lt i (length lines)) e n
+last-more : (xs : List ℕ) (n : ℕ) (b : Bool) → last_of (xs ++ cond b (n ∷ []) []) ≡ cond b (Some n) (last_of xs)
+last-more xs n true = last-snoc xs n
+last-more xs n false = ap last_of (append-nil xs)
 
--- heads that were there are there still; that of one symbol is the new line
-pub heads-stay : (lines : List Selector) (row : Selector) (heads : List (Option SelectorId)) → AreHeads lines heads → AreHeads (lines ++ row ∷ []) heads
-heads-stay lines row heads h s id e = omega (arith, h s id e, length-append lines (row ∷ []))
+pub left-true : (a b : Bool) → (a && b) ≡ true → a ≡ true
+left-true true b h = refl
+left-true false b h = absurd cc
 
-set-cases : {A : Type 0} (xs : List A) (i j : ℕ) (y d z : A) (b : Bool) → i < length xs → (i == j) ≡ b → get_or (slice_set xs i y) j d ≡ z → ((j ≡ i) × (y ≡ z)) ⊎ ((j ≢ i) × (get_or xs j d ≡ z))
-set-cases xs i j y d z true l t e =
-    let same : j ≡ i = sym (eqb-true i j t) in
-    inl (same, sym (get_or-set_same xs i y d l) ∙ ap (λ k. get_or (slice_set xs i y) k d) (sym same) ∙ e)
-set-cases xs i j y d z false l t e =
-    let other : j ≢ i = (λ q. true_not_false i j q t) in
-    inr (other, sym (get_or-set_other xs i j y d other) ∙ e)
-  where
-    true_not_false : (i j : ℕ) → j ≡ i → (i == j) ≡ false → ⊥
-    true_not_false i j q t = absurd (false≢true (sym t ∙ eq-eqb i j (sym q)))
+pub right-true : (a b : Bool) → (a && b) ≡ true → b ≡ true
+right-true true b h = h
+right-true false b h = absurd cc
 
-pub heads-push : (lines : List Selector) (row : Selector) (heads : List (Option SelectorId)) (s : ℕ) (id : SelectorId) → s < length heads → id.0 ≡ length lines →
-    AreHeads lines heads → AreHeads (lines ++ row ∷ []) (slice_set heads s (Some id))
-heads-push lines row heads s id l n h t other e =
-    let more = length-append lines (row ∷ []) in
-    elim (set-cases heads s t (Some id) None (Some other) (s == t) l refl e) as (λ _. other.0 < length (lines ++ row ∷ [])) [
-      | inl p ↦ (let same : id ≡ other = same_Some id other p.1 in let m : id.0 ≡ other.0 = ap (λ (x : SelectorId). x.0) same in omega arith)
-      | inr p ↦ (let below = h t other p.1 in omega arith)
-    ]
+-- Which lines name which symbols.
+abbrev same_word : SelectOrImply → SelectOrImply → Bool
+same_word word.Select word.Select = true
+same_word word.Imply word.Imply = true
+same_word word.Select word.Imply = false
+same_word word.Imply word.Select = false
 
--- What a chain says, with one line more.
-abbrev one_if : Bool → ℕ × Option Form → List (ℕ × Option Form)
-one_if b x = if b then x ∷ [] else []
+word-is : (w v : SelectOrImply) → same_word w v ≡ true → w ≡ v
+word-is word.Select word.Select e = refl
+word-is word.Imply word.Imply e = refl
+word-is word.Select word.Imply e = absurd cc
+word-is word.Imply word.Select e = absurd cc
 
-module _ (lines : List Selector) (row : Selector) where
-  pub rows-stay : (heads : List (Option SelectorId)) (s : ℕ) → AreHeads lines heads → rows_to (lines ++ row ∷ []) (get_or heads s None) ≡ rows_to lines (get_or heads s None)
-  rows-stay heads s h = to-keeps (option_map selector_row) lines row (get_or heads s None) (λ id e. h s id e)
+abbrev pub Target : Type 0
+Target = SelectOrImply × SymId × Option Form
 
-  rows-by : (heads : List (Option SelectorId)) (t s : ℕ) (id : SelectorId) (b : Bool) → (t == s) ≡ b → t < length heads → id.0 ≡ length lines → row.next ≡ get_or heads t None →
-      AreHeads lines heads → rows_to (lines ++ row ∷ []) (get_or (slice_set heads t (Some id)) s None) ≡ rows_to lines (get_or heads s None) ++ one_if b (selector_row row)
-  rows-by heads t s id true e l n next h =
-      let same : t ≡ s = eqb-true t s e in
-      ap (λ k. rows_to (lines ++ row ∷ []) (get_or (slice_set heads t (Some id)) k None)) (sym same)
-      ∙ ap (rows_to (lines ++ row ∷ [])) (get_or-set_same heads t (Some id) None l)
-      ∙ to-new (option_map selector_row) lines row id (selector_row row) n refl
-      ∙ ap (λ o. rows_to lines o ++ selector_row row ∷ []) (next ∙ ap (λ k. get_or heads k None) same)
-  rows-by heads t s id false e l n next h =
-      let other : s ≢ t = (λ q. false≢true (sym e ∙ eq-eqb t s (sym q))) in
-      ap (rows_to (lines ++ row ∷ [])) (get_or-set_other heads t s (Some id) None other) ∙ rows-stay heads s h ∙ sym (append-nil (rows_to lines (get_or heads s None)))
+some-if : (b : Bool) (v : Option Form) → is_some (cond b (Some v) None) ≡ b
+some-if true v = refl
+some-if false v = refl
 
-  pub rows-push : (heads : List (Option SelectorId)) (t s : ℕ) (id : SelectorId) → t < length heads → id.0 ≡ length lines → row.next ≡ get_or heads t None → AreHeads lines heads →
-      rows_to (lines ++ row ∷ []) (get_or (slice_set heads t (Some id)) s None) ≡ rows_to lines (get_or heads s None) ++ one_if (t == s) (selector_row row)
-  rows-push heads t s id l n next h = rows-by heads t s id (t == s) refl l n next h
+named : (line : Numbered) (t : Target) (w : SelectOrImply) (s : SymId) → target_of line ≡ Some t → is_some (targets w s line) ≡ (same_word w (t.0) && same_symbol (t.1) s)
+named (SelectLine u v) t word.Select s e = some-if (same_symbol u s) v ∙ ap (λ (o : Target). same_word word.Select (o.0) && same_symbol (o.1) s) (let h : ◌≡◌ {A = Target} (word.Select, u, v) t = cc in h)
+named (SelectLine u v) t word.Imply s e = ap (λ (o : Target). same_word word.Imply (o.0) && same_symbol (o.1) s) (let h : ◌≡◌ {A = Target} (word.Select, u, v) t = cc in h)
+named (ImplyLine u v) t word.Imply s e = some-if (same_symbol u s) v ∙ ap (λ (o : Target). same_word word.Imply (o.0) && same_symbol (o.1) s) (let h : ◌≡◌ {A = Target} (word.Imply, u, v) t = cc in h)
+named (ImplyLine u v) t word.Select s e = ap (λ (o : Target). same_word word.Select (o.0) && same_symbol (o.1) s) (let h : ◌≡◌ {A = Target} (word.Imply, u, v) t = cc in h)
+named _ t w s e = absurd cc
 
--- Lines that stand in definitions below a number.
-pub sources-push : (source : ℕ) (old new : List Selector) (row : Selector) → new ≡ old ++ row ∷ [] → row.source.0 ≡ source → KeepSources source old new
-sources-push source old new row e s n l h =
-    let below : row.source.0 < n = omega arith in
-    subst (HaveSources n) (sym e) (All-push (λ (r : Selector). r.source.0 < n) old row h below)
+-- One line more behind these.
+module _ (es : Entries) (lines : List Selector) (r : Selector) where
+  before : (w : SelectOrImply) (s : SymId) (j : ℕ) → j < length lines → names es (lines ++ r ∷ []) w s j ≡ names es lines w s j
+  before w s j h = ap (λ (o : Option Selector). is_some (option_and_then (targets w s) (option_and_then (line_in es) o))) (get_front lines (r ∷ []) j h)
 
-pub sources-both : (source : ℕ) (a b c : List Selector) → KeepSources source a b → KeepSources source b c → KeepSources source a c
-sources-both source a b c h k n l s = k n l (h n l s)
+  last : (w : SelectOrImply) (s : SymId) → names es (lines ++ r ∷ []) w s (length lines) ≡ is_some (option_and_then (targets w s) (line_in es r))
+  last w s = ap (λ (o : Option Selector). is_some (option_and_then (targets w s) (option_and_then (line_in es) o))) (end_get lines r)
 
-module _ (source : DefinitionId) where
-  -- a line of each word, by the row that stands for it
-  pub record IsPushed (old : List Selector) (heads : List (Option SelectorId)) (s : SymId) (when : Option Form) (new : List Selector) (after : List (Option SelectorId)) : Type 0 where
-    pub row : Selector
-    pub source_is : row.source ≡ source
-    pub when_is : when_view row.when ≡ when
-    pub next_is : row.next ≡ get_or heads s.0 None
-    pub lines_are : new ≡ old ++ row ∷ []
-    pub heads_are : after ≡ slice_set heads s.0 (Some (record { 0 = length old }))
+  lines-front : (w : SelectOrImply) (s : SymId) (j : ℕ) → j ≤ length lines → lines_before es (lines ++ r ∷ []) w s j ≡ lines_before es lines w s j
+  lines-front w s j h = filter-below (names es (lines ++ r ∷ []) w s) (names es lines w s) j (λ i l. before w s i (omega (arith, h, l)))
 
-  module _ (old : List Selector) (heads : List (Option SelectorId)) (s : SymId) (when : Option Form) (new : List Selector) (after : List (Option SelectorId))
-      (p : IsPushed old heads s when new after) where
-    row-is : selector_row p.row ≡ (source.0, when)
-    row-is = let a = p.source_is in let b = p.when_is in λ i. ((a i).0, b i)
+  module _ (line : Numbered) (t : Target) (is : line_in es r ≡ Some line) (says : target_of line ≡ Some t) where
+    abbrev names_it : SelectOrImply → SymId → Bool
+    names_it w s = same_word w (t.0) && same_symbol (t.1) s
 
-    pub pushed-rows : s.0 < length heads → AreHeads old heads → (k : ℕ) → rows_to new (get_or after k None) ≡ rows_to old (get_or heads k None) ++ one_if (s.0 == k) (source.0, when)
-    pushed-rows l h k =
-        ap (λ (xs : List Selector). rows_to xs (get_or after k None)) p.lines_are
-        ∙ ap (λ (hs : List (Option SelectorId)). rows_to (old ++ p.row ∷ []) (get_or hs k None)) p.heads_are
-        ∙ rows-push old p.row heads s.0 k (record { 0 = length old }) l refl p.next_is h
-        ∙ ap (λ x. rows_to old (get_or heads k None) ++ one_if (s.0 == k) x) row-is
+    last-named : (w : SelectOrImply) (s : SymId) → names es (lines ++ r ∷ []) w s (length lines) ≡ names_it w s
+    last-named w s = last w s ∙ ap (λ (o : Option Numbered). is_some (option_and_then (targets w s) o)) is ∙ named line t w s says
 
-    pub pushed-others : (others : List (Option SelectorId)) → AreHeads old others → (k : ℕ) → rows_to new (get_or others k None) ≡ rows_to old (get_or others k None)
-    pushed-others others h k = ap (λ (xs : List Selector). rows_to xs (get_or others k None)) p.lines_are ∙ rows-stay old p.row others k h
+    lines-all : (w : SelectOrImply) (s : SymId) →
+        last_of (lines_before es (lines ++ r ∷ []) w s (length (lines ++ r ∷ []))) ≡ cond (names_it w s) (Some (length lines)) (last_of (lines_before es lines w s (length lines)))
+    lines-all w s =
+        let more : length (lines ++ r ∷ []) ≡ suc (length lines) = (let e = length_push lines r in omega (arith, e)) in
+        ap (λ n. last_of (lines_before es (lines ++ r ∷ []) w s n)) more
+        ∙ ap last_of (filter-append (names es (lines ++ r ∷ []) w s) (numbers (length lines)) (length lines ∷ []))
+        ∙ ap (λ (l : List ℕ). last_of (l ++ cond (names es (lines ++ r ∷ []) w s (length lines)) (length lines ∷ []) [])) (lines-front w s (length lines) (omega arith))
+        ∙ last-more (lines_before es lines w s (length lines)) (length lines) (names es (lines ++ r ∷ []) w s (length lines))
+        ∙ ap (λ b. cond b (Some (length lines)) (last_of (lines_before es lines w s (length lines)))) (last-named w s)
 
-    pub pushed-few : length new ≤ length old + 1
-    pushed-few = let e = ap length p.lines_are in omega (arith, length-append old (p.row ∷ []))
+    -- the row of a symbol leads to its last line of a kind
+    abbrev Leads : List Selector → SelectOrImply → ℕ → Symbol → Type 0
+    Leads ls w i row = (last_in w row).0 ≡ stored (last_of (lines_before es ls w (symbol i) (length ls)))
 
-    pub pushed-count : length after ≡ length heads
-    pushed-count = ap length p.heads_are ∙ length-set heads s.0 (Some (record { 0 = length old }))
+    leads-old : (w : SelectOrImply) (i : ℕ) (row : Symbol) → IsSymbolRow es lines i row → Leads lines w i row
+    leads-old word.Select i row k = k.last_select
+    leads-old word.Imply i row k = k.last_imply
 
-    pub pushed-sources : KeepSources source.0 old new
-    pushed-sources = sources-push source.0 old new p.row p.lines_are (ap (λ (d : DefinitionId). d.0) p.source_is)
+    -- the row of the symbol that the line names, or of another one
+    abbrev id : SelectorId
+    id = record { 0 = suc (length lines) }
 
-    pub pushed-chained : AreHeads old heads → AreChained old → AreChained new
-    pushed-chained h c =
-        subst AreChained (sym p.lines_are) (chained-push old p.row c (λ next e. h s.0 next (sym p.next_is ∙ e)))
+    last-changed : (w v : SelectOrImply) (row : Symbol) → last_in w (with_last v id row) ≡ cond (same_word w v) id (last_in w row)
+    last-changed word.Select word.Select row = refl
+    last-changed word.Imply word.Imply row = refl
+    last-changed word.Select word.Imply row = refl
+    last-changed word.Imply word.Select row = refl
 
-    pub pushed-heads : s.0 < length heads → AreHeads old heads → AreHeads new after
-    pushed-heads l h =
-        let q = heads-push old p.row heads s.0 (record { 0 = length old }) l refl h in
-        subst (λ (hs : List (Option SelectorId)). AreHeads new hs) (sym p.heads_are)
-        (subst (λ (xs : List Selector). AreHeads xs (slice_set heads s.0 (Some (record { 0 = length old })))) (sym p.lines_are) q)
+    own-by : (b : Bool) (w : SelectOrImply) (row : Symbol) (o : Option ℕ) → (last_in w row).0 ≡ stored o → (cond b id (last_in w row)).0 ≡ stored (cond (b && true) (Some (length lines)) o)
+    own-by true w row o e = refl
+    own-by false w row o e = e
 
-    pub pushed-stay : (others : List (Option SelectorId)) → AreHeads old others → AreHeads new others
-    pushed-stay others h = subst (λ (xs : List Selector). AreHeads xs others) (sym p.lines_are) (heads-stay old p.row others h)
+    same-here : (i : ℕ) → i ≡ t.1.0 → same_symbol (t.1) (symbol i) ≡ true
+    same-here i e = ap (λ n. same_symbol (t.1) (symbol n)) e ∙ eq-eqb _ _ refl
 
-  pub select_added : (old new : SelectorRows) (s : SymId) (when : Option Form) → s.0 < length old.selects.items →
-      IsPushed old.lines.items old.selects.items s when new.lines.items new.selects.items → new.implies.items ≡ old.implies.items →
-      IsAdded source old (select_or_imply.Select, s, when) new
-  select_added old new s when l p q = record {
-    selects = λ k m. pushed-rows _ _ s when _ _ p l old.selects_there k;
-    implies = λ k m. ap (λ (hs : List (Option SelectorId)). rows_to new.lines.items (get_or hs k None)) q
-        ∙ pushed-others _ _ s when _ _ p old.implies.items old.implies_there k
-        ∙ sym (append-nil (implies_of old k));
-    few = pushed-few _ _ s when _ _ p;
-    count = pushed-count _ _ s when _ _ p;
-    same = ap length q;
-    sources = pushed-sources _ _ s when _ _ p;
-  }
+    other-here : (i : ℕ) → i ≢ t.1.0 → same_symbol (t.1) (symbol i) ≡ false
+    other-here i ne = ne_eqb (t.1.0) i (λ q. ne (sym q))
 
-  pub imply_added : (old new : SelectorRows) (s : SymId) (when : Option Form) → s.0 < length old.implies.items →
-      IsPushed old.lines.items old.implies.items s when new.lines.items new.implies.items → new.selects.items ≡ old.selects.items →
-      IsAdded source old (select_or_imply.Imply, s, when) new
-  imply_added old new s when l p q = record {
-    selects = λ k m. ap (λ (hs : List (Option SelectorId)). rows_to new.lines.items (get_or hs k None)) q
-        ∙ pushed-others _ _ s when _ _ p old.selects.items old.selects_there k
-        ∙ sym (append-nil (selects_of old k));
-    implies = λ k m. pushed-rows _ _ s when _ _ p l old.implies_there k;
-    few = pushed-few _ _ s when _ _ p;
-    count = ap length q;
-    same = pushed-count _ _ s when _ _ p;
-    sources = pushed-sources _ _ s when _ _ p;
-  }
+    leads-own : (w : SelectOrImply) (i : ℕ) (row : Symbol) → i ≡ t.1.0 → IsSymbolRow es lines i row → Leads (lines ++ r ∷ []) w i (with_last (t.0) id row)
+    leads-own w i row e k =
+        ap (λ (x : SelectorId). x.0) (last-changed w (t.0) row)
+        ∙ own-by (same_word w (t.0)) w row (last_of (lines_before es lines w (symbol i) (length lines))) (leads-old w i row k)
+        ∙ ap (λ b. stored (cond (same_word w (t.0) && b) (Some (length lines)) (last_of (lines_before es lines w (symbol i) (length lines))))) (sym (same-here i e))
+        ∙ ap stored (sym (lines-all w (symbol i)))
 
-  -- What one line more comes to: it is there, or nothing changed.
-  abbrev pub Pushes : List Selector → List (Option SelectorId) → SymId → Option Form → List Selector → List (Option SelectorId) → Result (Unit {0}) AllocError → Type 0
-  Pushes old heads s when new after (Ok u) = IsPushed old heads s when new after
-  Pushes old heads s when new after (Err e) = (new ≡ old) × (after ≡ heads)
+    no-and : (b : Bool) → (b && false) ≡ false
+    no-and true = refl
+    no-and false = refl
 
-  pub pushes : (r : Result (Unit {0}) AllocError) (old new : List Selector) (heads now raw after : List (Option SelectorId)) (s : SymId) (w : Option (Rc Expr Global)) (when : Option Form) →
-      when_view w ≡ when → now ≡ heads → after ≡ raw → OnOk r (new ≡ old ++ record { source = source; when = w; next = get_or now s.0 None } ∷ []) →
-      OnOk r (raw ≡ slice_set now s.0 (Some (record { 0 = length old }))) → OnErr r (new ≡ old) → OnErr r (raw ≡ now) → Pushes old heads s when new after r
-  pushes (Ok u) old new heads now raw after s w when v e a line head stay same = record {
-    row = record { source = source; when = w; next = get_or heads s.0 None };
-    source_is = refl;
-    when_is = v;
-    next_is = refl;
-    lines_are = line ∙ ap (λ (hs : List (Option SelectorId)). old ++ record { source = source; when = w; next = get_or hs s.0 None } ∷ []) e;
-    heads_are = a ∙ head ∙ ap (λ (hs : List (Option SelectorId)). slice_set hs s.0 (Some (record { 0 = length old }))) e;
-  }
-  pushes (Err x) old new heads now raw after s w when v e a line head stay same = (stay, a ∙ same ∙ e)
+    leads-other : (w : SelectOrImply) (i : ℕ) (row : Symbol) → i ≢ t.1.0 → IsSymbolRow es lines i row → Leads (lines ++ r ∷ []) w i row
+    leads-other w i row ne k =
+        leads-old w i row k
+        ∙ ap (λ b. stored (cond b (Some (length lines)) (last_of (lines_before es lines w (symbol i) (length lines))))) (sym (ap (λ b. same_word w (t.0) && b) (other-here i ne) ∙ no-and (same_word w (t.0))))
+        ∙ ap stored (sym (lines-all w (symbol i)))
 
-  -- the same where the heads are those of a vector that was lent as a slice
-  pub pushes_in : (r : Result (Unit {0}) AllocError) (old new : List Selector) (v : Vec (Option SelectorId)) (now ws : List (Option SelectorId)) (s : SymId)
-      (w : Option (Rc Expr Global)) (when : Option Form) →
-      when_view w ≡ when → now ≡ v.items → length ws ≡ length now → length now ≡ v.len →
-      OnOk r (new ≡ old ++ record { source = source; when = w; next = get_or now s.0 None } ∷ []) → OnOk r (ws ≡ slice_set now s.0 (Some (record { 0 = length old }))) →
-      OnErr r (new ≡ old) → OnErr r (ws ≡ now) → Pushes old v.items s when new (with_items v ws).items r
-  pushes_in r old new v now ws s w when a e m n line head stay same =
-      pushes r old new v.items now ws (with_items v ws).items s w when a e (with_items_is v ws (m ∙ n)) line head stay same
+    row-own : (i : ℕ) (row : Symbol) → i ≡ t.1.0 → IsSymbolRow es lines i row → IsSymbolRow es (lines ++ r ∷ []) i (with_last (t.0) id row)
+    row-own i row e k = by (t.0) (leads-own word.Select i row e k) (leads-own word.Imply i row e k)
+      where
+        by : (v : SelectOrImply) → Leads (lines ++ r ∷ []) word.Select i (with_last v id row) → Leads (lines ++ r ∷ []) word.Imply i (with_last v id row) → IsSymbolRow es (lines ++ r ∷ []) i (with_last v id row)
+        by word.Select a b = record { symbol_type = k.symbol_type; choice = k.choice; first = k.first; last_select = a; last_imply = b }
+        by word.Imply a b = record { symbol_type = k.symbol_type; choice = k.choice; first = k.first; last_select = a; last_imply = b }
 
-  module _ (old : List Selector) (heads : List (Option SelectorId)) (s : SymId) (when : Option Form) (new : List Selector) (after : List (Option SelectorId))
-      (l : s.0 < length heads) (h : AreHeads old heads) where
-    pub chained_by : (r : Result (Unit {0}) AllocError) → Pushes old heads s when new after r → AreChained old → AreChained new
-    chained_by (Ok u) p c = pushed-chained old heads s when new after p h c
-    chained_by (Err e) p c = subst AreChained (sym p.0) c
+    row-other : (i : ℕ) (row : Symbol) → i ≢ t.1.0 → IsSymbolRow es lines i row → IsSymbolRow es (lines ++ r ∷ []) i row
+    row-other i row ne k = record { symbol_type = k.symbol_type; choice = k.choice; first = k.first; last_select = leads-other word.Select i row ne k; last_imply = leads-other word.Imply i row ne k }
 
-    pub heads_by : (r : Result (Unit {0}) AllocError) → Pushes old heads s when new after r → AreHeads new after
-    heads_by (Ok u) p = pushed-heads old heads s when new after p l h
-    heads_by (Err e) p = subst (λ (xs : List Selector). AreHeads xs after) (sym p.0) (subst (AreHeads old) (sym p.1) h)
+    pub rows-more : (rows : List Symbol) (row : Symbol) → AreSymbolRows es lines rows → slice_get rows (t.1.0) ≡ Some row →
+        AreSymbolRows es (lines ++ r ∷ []) (slice_set rows (t.1.0) (with_last (t.0) id row))
+    rows-more rows row are at i x e = by (get-set rows (t.1.0) i (with_last (t.0) id row) x e)
+      where
+        by : ((i ≡ t.1.0) × (x ≡ with_last (t.0) id row)) ⊎ ((i ≢ t.1.0) × (slice_get rows i ≡ Some x)) → IsSymbolRow es (lines ++ r ∷ []) i x
+        by (inl h) = subst (IsSymbolRow es (lines ++ r ∷ []) i) (sym h.1) (row-own i row h.0 (are i row (ap (slice_get rows) h.0 ∙ at)))
+        by (inr h) = row-other i x h.0 (are i x h.1)
 
-    pub others_by : (r : Result (Unit {0}) AllocError) (others : List (Option SelectorId)) → Pushes old heads s when new after r → AreHeads old others → AreHeads new others
-    others_by (Ok u) others p k = pushed-stay old heads s when new after p others k
-    others_by (Err e) others p k = subst (λ (xs : List Selector). AreHeads xs others) (sym p.0) k
-
-  pub select_by : (r : Result (Unit {0}) AllocError) (old new : SelectorRows) (s : SymId) (when : Option Form) (word : SelectOrImply) → word ≡ select_or_imply.Select →
-      s.0 < length old.selects.items → Pushes old.lines.items old.selects.items s when new.lines.items new.selects.items r →
-      new.implies.items ≡ old.implies.items → OnOk r (IsAdded source old (word, s, when) new)
-  select_by (Ok u) old new s when word k l p q =
-      subst (λ (x : SelectOrImply). IsAdded source old (x, s, when) new) (sym k) (select_added old new s when l p q)
-  select_by (Err e) old new s when word k l p q = tt
-
-  pub imply_by : (r : Result (Unit {0}) AllocError) (old new : SelectorRows) (s : SymId) (when : Option Form) (word : SelectOrImply) → word ≡ select_or_imply.Imply →
-      s.0 < length old.implies.items → Pushes old.lines.items old.implies.items s when new.lines.items new.implies.items r →
-      new.selects.items ≡ old.selects.items → OnOk r (IsAdded source old (word, s, when) new)
-  imply_by (Ok u) old new s when word k l p q =
-      subst (λ (x : SelectOrImply). IsAdded source old (x, s, when) new) (sym k) (imply_added old new s when l p q)
-  imply_by (Err e) old new s when word k l p q = tt
-
-  -- a line that names none of the symbols adds nothing
-  none_named : (b : Bool) (s t : ℕ) (x : ℕ × Option Form) → s < t → one_if (b && (t == s)) x ≡ []
-  none_named b s t x l = let other : (t == s) ≡ false = ne_eqb t s (λ q. omega arith) in rw other (by b)
-    where
-      by : (b : Bool) → one_if (b && false) x ≡ []
-      by true = refl
-      by false = refl
-
-  pub nothing_added : (old new : SelectorRows) (t : SelectOrImply × SymId × Option Form) → length old.selects.items ≤ t.1.0 →
-      new.lines ≡ old.lines → new.selects ≡ old.selects → new.implies ≡ old.implies → IsAdded source old t new
-  nothing_added old new t past a b c = record {
-    selects = λ s l. (λ i. rows_to ((a i).items) (get_or ((b i).items) s None))
-        ∙ sym (ap (λ xs. selects_of old s ++ xs) (none_named (same_selectors select_or_imply.Select t.0) s t.1.0 (source.0, t.2) (omega arith)) ∙ append-nil (selects_of old s));
-    implies = λ s l. (λ i. rows_to ((a i).items) (get_or ((c i).items) s None))
-        ∙ sym (ap (λ xs. implies_of old s ++ xs) (none_named (same_selectors select_or_imply.Imply t.0) s t.1.0 (source.0, t.2) (omega arith)) ∙ append-nil (implies_of old s));
-    few = (let e = ap (λ v. length v.items) a in omega arith);
-    count = ap (λ v. length v.items) b;
-    same = ap (λ v. length v.items) c;
-    sources = λ n l h. subst (λ v. HaveSources n v.items) (sym a) h;
-  }
-
-  -- Along the lines of a definition.
-  pub record IsAdding (own : List AttributeLine) (old : SelectorRows) (i : ℕ) (new : SelectorRows) : Type 0 where
-    pub selects : (s : ℕ) → s < length old.selects.items →
-        selects_of new s ++ added_lines source select_or_imply.Select s (drop i (statements_of own)) ≡ selects_of old s ++ added_lines source select_or_imply.Select s (statements_of own)
-    pub implies : (s : ℕ) → s < length old.selects.items →
-        implies_of new s ++ added_lines source select_or_imply.Imply s (drop i (statements_of own)) ≡ implies_of old s ++ added_lines source select_or_imply.Imply s (statements_of own)
-    pub few : length new.lines.items ≤ length old.lines.items + i
-    pub count : length new.selects.items ≡ length old.selects.items
-    pub same : length new.implies.items ≡ length old.implies.items
-    pub sources : KeepSources source.0 old.lines.items new.lines.items
-
-  next_lines : (word : SelectOrImply) (s : ℕ) (own : List AttributeLine) (i : ℕ) (x : AttributeLine) (t : SelectOrImply × SymId × Option Form) (now next base : List (ℕ × Option Form)) →
-      i < length own → x ≡ get_or own i x → Some t ≡ target_of (attribute_view x.attribute) → now ++ added_lines source word s (drop i (statements_of own)) ≡ base →
-      next ≡ now ++ added_line source word s t → next ++ added_lines source word s (drop (i + 1) (statements_of own)) ≡ base
-  next_lines word s own i x t now next base l at e h n =
-      let rest = added_lines source word s (drop (i + 1) (statements_of own)) in
-      let line = added_line source word s t in
-      let all : added_lines source word s (drop i (statements_of own)) ≡ line ++ rest = rw (statements_from own i x l at, ← e) (ap (λ k. k ++ rest) (append-nil line)) in
-      ap (λ k. k ++ rest) n ∙ append_assoc now line rest ∙ ap (λ k. now ++ k) (sym all) ∙ h
-
-  same_lines : (word : SelectOrImply) (s : ℕ) (own : List AttributeLine) (i : ℕ) (x : AttributeLine) (now base : List (ℕ × Option Form)) → i < length own → x ≡ get_or own i x →
-      None ≡ target_of (attribute_view x.attribute) → now ++ added_lines source word s (drop i (statements_of own)) ≡ base →
-      now ++ added_lines source word s (drop (i + 1) (statements_of own)) ≡ base
-  same_lines word s own i x now base l at e h =
-      let all : added_lines source word s (drop i (statements_of own)) ≡ added_lines source word s (drop (i + 1) (statements_of own)) = rw (statements_from own i x l at, ← e) refl in
-      ap (λ k. now ++ k) (sym all) ∙ h
-
-  pub adding_none : (own : List AttributeLine) (old now : SelectorRows) (i : ℕ) (x : AttributeLine) → IsAdding own old i now → i < length own → x ≡ get_or own i x →
-      None ≡ target_of (attribute_view x.attribute) → IsAdding own old (i + 1) now
-  adding_none own old now i x h l at e = record {
-    selects = λ s b. same_lines select_or_imply.Select s own i x _ _ l at e (h.selects s b);
-    implies = λ s b. same_lines select_or_imply.Imply s own i x _ _ l at e (h.implies s b);
-    few = let f = h.few in omega arith;
-    count = h.count;
-    same = h.same;
-    sources = h.sources;
-  }
-
-  pub adding_one : (own : List AttributeLine) (old now new : SelectorRows) (i : ℕ) (x : AttributeLine) (t : SelectOrImply × SymId × Option Form) → IsAdding own old i now → i < length own →
-      x ≡ get_or own i x → Some t ≡ target_of (attribute_view x.attribute) → IsAdded source now t new → IsAdding own old (i + 1) new
-  adding_one own old now new i x t h l at e a = record {
-    selects = λ s b. next_lines select_or_imply.Select s own i x t _ _ _ l at e (h.selects s b) (a.selects s (let n = h.count in omega arith));
-    implies = λ s b. next_lines select_or_imply.Imply s own i x t _ _ _ l at e (h.implies s b) (a.implies s (let n = h.count in omega arith));
-    few = let f = h.few in let g = a.few in omega arith;
-    count = a.count ∙ h.count;
-    same = a.same ∙ h.same;
-    sources = sources-both source.0 _ _ _ h.sources a.sources;
-  }
-
--- The last lines of the symbols, where those of the first symbols were looked at.
-pub record AreHeadsTo (symbols : List Symbol) (i : ℕ) (old new : List (Option SelectorId)) : Type 0 where
-  pub same : length new ≡ length old
-  pub looked_at : (s : ℕ) → s < i → slice_index_or new s None ≡ (if can_be_target symbols (symbol s) then slice_index_or old s None else None)
-  pub rest : (s : ℕ) → i ≤ s → slice_index_or new s None ≡ slice_index_or old s None
-
-module _ (symbols : List Symbol) (i : ℕ) (old new : List (Option SelectorId)) (h : AreHeadsTo symbols i old new) where
-  pub head_kept : can_be_target symbols (symbol i) ≡ true → AreHeadsTo symbols (i + 1) old new
-  head_kept can = record { same = h.same; looked_at = λ s l. by s (cases_lt s i) l; rest = λ s l. h.rest s (omega arith) }
-    where
-      by : (s : ℕ) → (s < i) ⊎ (i ≤ s) → s < i + 1 → slice_index_or new s None ≡ (if can_be_target symbols (symbol s) then slice_index_or old s None else None)
-      by s (inl l) m = h.looked_at s l
-      by s (inr g) m =
-          let here : s ≡ i = omega arith in
-          rw (here, can) (h.rest i (omega arith))
-
-  pub head_dropped : i < length old → can_be_target symbols (symbol i) ≡ false → AreHeadsTo symbols (i + 1) old (slice_set new i None)
-  head_dropped l can = record {
-    same = length-set new i None ∙ h.same;
-    looked_at = λ s m. by s (cases_lt s i) m;
-    rest = λ s m. (let other : s ≢ i = λ e. omega arith in get_or-set_other new i s None None other ∙ h.rest s (omega arith));
-  }
-    where
-      by : (s : ℕ) → (s < i) ⊎ (i ≤ s) → s < i + 1 → slice_index_or (slice_set new i None) s None ≡ (if can_be_target symbols (symbol s) then slice_index_or old s None else None)
-      by s (inl m) b = let other : s ≢ i = λ e. omega arith in get_or-set_other new i s None None other ∙ h.looked_at s m
-      by s (inr g) b =
-          let here : s ≡ i = omega arith in
-          let size = h.same in
-          let within : i < length new = omega arith in
-          rw (here, can) (get_or-set_same new i None None within)
+    -- the new line leads to the one before it
+    pub chained-more : (rows : List Symbol) (row : Symbol) → AreSymbolRows es lines rows → slice_get rows (t.1.0) ≡ Some row → r.next ≡ last_in (t.0) row → AreChained es lines → AreChained es (lines ++ r ∷ [])
+    chained-more rows row are at next chained j x w s e q = by (below_or_past j (length lines))
+      where
+        by : (j < length lines) ⊎ (length lines ≤ j) → x.next.0 ≡ stored (last_of (lines_before es (lines ++ r ∷ []) w s j))
+        by (inl h) =
+            chained j x w s (sym (get_front lines (r ∷ []) j h) ∙ e) (sym (before w s j h) ∙ q)
+            ∙ ap (λ l. stored (last_of l)) (sym (lines-front w s j (omega (arith, h))))
+        by (inr h) =
+            let within = slice_get_within (lines ++ r ∷ []) j x e in
+            let more = length_push lines r in
+            let all : length lines ≤ length lines = omega arith in
+            let end : j ≡ length lines = omega (arith, h, within, more) in
+            let same : x ≡ r = (let two : Some x ≡ Some r = sym e ∙ ap (slice_get (lines ++ r ∷ [])) end ∙ end_get lines r in cc) in
+            let it : names_it w s ≡ true = sym (last-named w s) ∙ ap (names es (lines ++ r ∷ []) w s) (sym end) ∙ q in
+            let word_is : t.0 ≡ w = sym (word-is w (t.0) (left-true _ _ it)) in
+            let symbol_is : t.1 ≡ s = sym (same_is (t.1) s (right-true _ _ it)) in
+            ap (λ (y : Selector). y.next.0) same
+            ∙ ap (λ (y : SelectorId). y.0) next
+            ∙ leads-old (t.0) (t.1.0) row (are (t.1.0) row at)
+            ∙ (λ i. stored (last_of (lines_before es lines (word_is i) (symbol_is i) (length lines))))
+            ∙ ap (λ l. stored (last_of l)) (sym (lines-front w s (length lines) all) ∙ ap (lines_before es (lines ++ r ∷ []) w s) (sym end))

@@ -1,14 +1,13 @@
 -- Trusted: The tree of a file map and a root file.
-use Rattle.std.specs.Prelude.{◌≡◌, ℕ, List, Result, Ok}
-use Rattle.kc_language.specs.Expansion.{Files, Refused}
-use Rattle.kc_language.specs.Symbols.{TreeFacts, IsTreeOf}
-use Rattle.kc_tree.specs.TreeFacts.{IsWellFormed}
+use Rattle.std.specs.Prelude.{List, Ok, Result, ℕ, ◌≡◌}
+use Rattle.kc_language.specs.{Expansion.{Files, Refused}, Symbols.{IsTreeOf, TreeFacts}}
+use Rattle.kc_entries.specs.WellFormed.{IsWellFormed}
 
 -- a root file gives at most one tree or refusal
 abbrev pub OneTree : Type 0
 OneTree = (files : Files) (root : List ℕ) (r other : Result TreeFacts Refused) → IsTreeOf files root r → IsTreeOf files root other → r ≡ other
 
--- over any files a root file gives a tree or a refusal, and no other
+-- with any files a root file gives exactly one tree or refusal
 abbrev pub HasOneTree : Type 0
 HasOneTree =
     (files : Files) (root : List ℕ) →

@@ -1,119 +1,215 @@
-//! The enclosing blocks of a line, by their contexts.
+//! The blocks around each entry, and the choices.
 
-ghost use Rattle.std.specs.Prelude.{◌≡◌, ◌<◌, ◌++◌, ◌∷◌, [], ◌^◌, None, Some, length, IfOk, OnOk, OnErr};
-ghost use Rattle.kc_expr.specs.Form.{form_of};
-ghost use Rattle.kc_tree.specs.Contexts.{HasNoMode, and_also, in_choice, condition_in};
-ghost use Rattle.kc_build.specs.Stacks.{IsClosed, open_scopes};
+ghost use Rattle.std.specs.Prelude.{◌≡◌, ◌<◌, ◌+◌, ◌^◌, ℕ, List, suc, length, IfOk, OnOk};
+ghost use Rattle.kc_language.specs.Symbols.{facts_with};
+ghost use Rattle.kc_entries.specs.Entries.{lines_in};
+ghost use Rattle.kc_entries.specs.ListFacts.{AreChoicesApart};
+ghost use Rattle.kc_entries.specs.StatementViews.{attribute_view, head_view};
+ghost use Rattle.kc_tree.specs.EntryViews.{statements_in};
+ghost use Rattle.kc_tree.specs.Places.{place_at};
+ghost use Rattle.kc_build.specs.Limits.{IsFew};
+ghost use Rattle.kc_build.specs.Nesting.{AreBlocksClosed};
+ghost use Rattle.kc_build.specs.Standing as see;
 
-use kc_expr::expression::Expr;
-use kc_tree::contexts::Contexts;
-use kc_tree::rows::{ChoiceId, ContextId};
+use kc_entries::entries::{Entries, EntryLines};
+use kc_entries::statement::{Attribute, Head};
+use kc_expr::expression::SymId;
+use kc_tree::layout::place_in;
+use kc_tree::rows::{AttributeId, Choice, EntryId, EntryPlace, VisibleId};
 use std::alloc::{AllocError, Global};
-use std::rc::Rc;
 
-/// What a block asks of the entries in it, and of what is visible in it besides; and the place among the entries of what
-/// opened it: none at the top.
-#[derive(Clone, Copy, Debug)]
-pub(crate) struct BlockScope {
-    pub within: ContextId,
-    pub visible: ContextId,
-    pub entry: Option<u32>,
-}
-
-/// The innermost open block, and those outside it.
+/// The state after some entries: their places without the chains of definitions, the menus with a `visible if` line, the choices
+/// with their members, and the innermost open block.
 #[derive(Debug, Drop)]
 pub(crate) struct Blocks {
-    innermost: BlockScope,
-    outside: Vec<BlockScope>,
+    pub places: Vec<EntryPlace>,
+    pub visibles: Vec<EntryId>,
+    pub choices: Vec<Choice>,
+    block: EntryId,
+    // Whether the last choice is open. Choices do not nest.
+    is_in_choice: bool,
+}
+
+// The place of an entry in a block, from its first line only.
+fn bare_place(places: &[EntryPlace], block: EntryId, at: EntryId, head: &Head) -> EntryPlace
+    ensures { result ≡ see.bare_place (place_at places.now block.0) block at (head_view head.now) }
+{
+    let around = place_in(places, block);
+    let context = match head {
+        Head::If(_) | Head::Choice => at,
+        _ => around.context,
+    };
+    EntryPlace {
+        outer: block,
+        context,
+        visible: around.visible,
+        prompt: AttributeId::none(),
+        next: EntryId::top(),
+        has_default: false,
+        has_range: false,
+        has_target: false,
+    }
+}
+
+// The number that an entry with this place gets if it has a `visible if` line. Only a menu may have one. Its number is one more
+// than the count.
+#[inline(always)]
+fn shown_number(place: &EntryPlace, count: usize, head: &Head) -> VisibleId
+    requires { suc count < 2 ^ 32 }
+    ensures { result ≡ see.shown_number place.now count (head_view head.now) }
+{
+    match head {
+        Head::Menu(_) => VisibleId::of(count),
+        _ => place.visible,
+    }
+}
+
+// Records one more attribute of an entry: the attribute with number `j` of all. `visible` is the number that the entry gets if it
+// has a `visible if` line.
+#[inline(always)]
+fn note_attribute(
+    place: &mut EntryPlace,
+    at: EntryId,
+    visible: VisibleId,
+    j: usize,
+    attribute: &Attribute,
+)
+    requires { suc j < 2 ^ 32 }
+    ensures { place.new ≡ see.noted at visible j (attribute_view attribute.now) place.old }
+{
+    match attribute {
+        Attribute::Depends(_) => place.context = at,
+        Attribute::Visible(_) => place.visible = visible,
+        Attribute::Default(_) | Attribute::Def(_, _) => place.has_default = true,
+        Attribute::Range(_) => place.has_range = true,
+        Attribute::Select(_, _) | Attribute::Imply(_, _) => place.has_target = true,
+        Attribute::Type(_, Some(_)) | Attribute::Prompt(_) => place.prompt = AttributeId::of(j),
+        _ => {}
+    }
 }
 
 impl Blocks {
-    /// No block is open.
-    pub(crate) fn new(alloc: Global) -> Blocks
-        ensures top { result.innermost ≡ record { within = record { 0 = 0 }; visible = record { 0 = 0 }; entry = None } }
-        ensures outside { result.outside.items ≡ [] }
+    // Returns the state before the first of `count` entries.
+    fn new(alloc: Global, count: usize) -> Result<Blocks, AllocError>
+        ensures { IfOk result see.AreNone }
     {
-        Blocks {
-            innermost: BlockScope {
-                within: ContextId(0),
-                visible: ContextId(0),
-                entry: None,
-            },
-            outside: Vec::new(alloc),
+        Ok(Blocks {
+            places: Vec::with_capacity(alloc, count)?,
+            visibles: Vec::new(alloc),
+            choices: Vec::new(alloc),
+            block: EntryId::top(),
+            is_in_choice: false,
+        })
+    }
+
+    // The place of the next entry.
+    #[inline(always)]
+    fn place_of(&self, at: EntryId, lines: EntryLines<'_>) -> EntryPlace
+        requires room { suc (length self.now.visibles.items) < 2 ^ 32 }
+        requires few { lines.first.now.start + length lines.attributes.now < 2 ^ 32 }
+        ensures { result ≡ see.own_place self.now at lines.entry }
+    {
+        let mut place = bare_place(&self.places, self.block, at, &lines.first.head);
+        let visible = shown_number(&place, self.visibles.len(), &lines.first.head);
+        let start = lines.first.start as usize;
+        for (j, line) in lines.attributes.iter().enumerate() {
+            note_attribute(&mut place, at, visible, start + j, &line.attribute);
         }
+        place
     }
 
-    /// The innermost open block; at the top it asks for nothing.
-    pub(crate) fn innermost(&self) -> BlockScope
-        ensures { result ≡ self.now.innermost }
+    // Appends the place of the next entry.
+    #[inline(always)]
+    fn add_place(&mut self, at: EntryId, lines: EntryLines<'_>) -> Result<(), AllocError>
+        requires room { suc (length self.old.visibles.items) < 2 ^ 32 }
+        requires few { lines.first.now.start + length lines.attributes.now < 2 ^ 32 }
+        ensures { OnOk result (see.HasPlace self.old at lines.entry self.new) }
     {
-        self.innermost
-    }
-
-    /// Opens a block inside the innermost one. Where it is out of memory, nothing changes.
-    pub(crate) fn open(&mut self, block: BlockScope) -> Result<(), AllocError>
-        ensures innermost { OnOk result (self.new.innermost ≡ block) }
-        ensures outside { OnOk result (self.new.outside.items ≡ self.old.outside.items ++ self.old.innermost ∷ []) }
-        ensures unchanged { OnErr result (open_scopes self.new ≡ open_scopes self.old) }
-    {
-        self.outside.push(self.innermost)?;
-        self.innermost = block;
+        let place = self.place_of(at, lines);
+        self.places.push(place)?;
+        if place.visible.0 as usize > self.visibles.len() {
+            self.visibles.push(at)?;
+        }
         Ok(())
     }
 
-    /// Closes the innermost block, if one is open.
-    pub(crate) fn close(&mut self)
-        ensures { IsClosed self.old self.new }
+    // Opens a choice.
+    fn open_choice(&mut self, alloc: Global, at: EntryId) -> Result<(), AllocError>
+        ensures { OnOk result (see.HasOpened at self.old self.new) }
     {
-        if let Some(block) = self.outside.pop() {
-            self.innermost = block;
+        self.choices.push(Choice {
+            entry: at,
+            members: Vec::new(alloc),
+        })?;
+        self.block = at;
+        self.is_in_choice = true;
+        Ok(())
+    }
+
+    // Adds a symbol to the open choice, if there is one.
+    fn add_member(&mut self, symbol: SymId) -> Result<(), AllocError>
+        ensures { OnOk result (see.HasMember symbol self.old self.new) }
+    {
+        let count = self.choices.len();
+        if self.is_in_choice && count > 0 {
+            self.choices[count - 1].members.push(symbol)?;
         }
+        Ok(())
+    }
+
+    // Closes the innermost open block.
+    fn close(&mut self)
+        ensures { see.HasClosed self.old self.new }
+    {
+        self.block = place_in(&self.places, self.block).outer;
+    }
+
+    // Opens or closes a block, or adds a member to the open choice.
+    fn turn(&mut self, alloc: Global, at: EntryId, head: &Head) -> Result<(), AllocError>
+        ensures { OnOk result (see.HasTurned at (head_view head.now) self.old self.new) }
+    {
+        match head {
+            Head::Config(symbol) => return self.add_member(*symbol),
+            Head::If(_) | Head::Menu(_) => self.block = at,
+            Head::Choice => return self.open_choice(alloc, at),
+            Head::EndIf | Head::EndMenu => self.close(),
+            Head::EndChoice => {
+                self.close();
+                self.is_in_choice = false;
+            }
+            Head::Comment(_) | Head::MainMenu(_) => {}
+        }
+        Ok(())
     }
 }
 
-/// The block of an `if`, inside another one.
-pub(crate) fn if_block(
-    contexts: &mut Contexts,
-    outer: BlockScope,
-    condition: Rc<Expr>,
-    entry: u32,
-) -> Result<BlockScope, AllocError>
-    requires there { outer.within.0 < length contexts.old }
-    requires few { length contexts.old < 2 ^ 32 }
-    ensures added { OnOk result (contexts.new ≡ contexts.old ++ and_also (condition_in contexts.old outer.within.0) (form_of condition.value) ∷ []) }
-    ensures within { IfOk result (λ b. b.within.0 ≡ length contexts.old) }
-    ensures visible { IfOk result (λ b. b.visible ≡ outer.visible) }
-    ensures entry { IfOk result (λ b. b.entry ≡ Some entry) }
-    ensures unchanged { OnErr result (contexts.new ≡ contexts.old) }
+/// Returns the blocks of these entries.
+pub(crate) fn blocks_of(alloc: Global, entries: &Entries) -> Result<Blocks, AllocError>
+    requires few { IsFew entries.now }
+    requires apart { AreChoicesApart (statements_in entries.now) }
+    requires closed { AreBlocksClosed (statements_in entries.now) }
+    ensures { IfOk result (see.AreBlocksOf entries.now) }
 {
-    let within = contexts.inside(outer.within, condition)?;
-    Ok(BlockScope {
-        within,
-        visible: outer.visible,
-        entry: Some(entry),
-    })
+    let mut blocks = Blocks::new(alloc, entries.first_lines.len())?;
+    let mut i = 0;
+    'entries: while let Some(lines) = entries.entry(i) {
+        let at = EntryId::of(i);
+        blocks.add_place(at, lines)?;
+        blocks.turn(alloc, at, &lines.first.head)?;
+        i += 1;
+    }
+    Ok(blocks)
 }
 
-/// The block of a choice, inside another one: its members depend on its mode.
-pub(crate) fn choice_block(
-    contexts: &mut Contexts,
-    outer: BlockScope,
-    choice: ChoiceId,
-    entry: u32,
-) -> Result<BlockScope, AllocError>
-    requires there { outer.within.0 < length contexts.old }
-    requires modeless { HasNoMode contexts.old outer.within.0 }
-    requires few { length contexts.old < 2 ^ 32 }
-    ensures added { OnOk result (contexts.new ≡ contexts.old ++ in_choice (condition_in contexts.old outer.within.0) choice.0 ∷ []) }
-    ensures within { IfOk result (λ b. b.within.0 ≡ length contexts.old) }
-    ensures visible { IfOk result (λ b. b.visible ≡ outer.visible) }
-    ensures entry { IfOk result (λ b. b.entry ≡ Some entry) }
-    ensures unchanged { OnErr result (contexts.new ≡ contexts.old) }
+/// Returns the title of the main menu: that of the last `mainmenu` line, or `Main menu`.
+pub(crate) fn main_menu_of(alloc: Global, entries: &Entries) -> Result<Vec<u8>, AllocError>
+    ensures { IfOk result (λ v. (names : List (List ℕ)) → v.items ≡ (facts_with names (lines_in entries.now)).main_menu) }
 {
-    let within = contexts.inside_choice(outer.within, choice)?;
-    Ok(BlockScope {
-        within,
-        visible: outer.visible,
-        entry: Some(entry),
-    })
+    let mut last: &[u8] = b"Main menu";
+    for entry in &entries.first_lines {
+        if let Head::MainMenu(text) = &entry.head {
+            last = text;
+        }
+    }
+    Vec::from_slice(alloc, last)
 }

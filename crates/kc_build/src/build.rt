@@ -1,41 +1,44 @@
 //! The tree of a root file.
 
-ghost use Rattle.std.specs.Prelude.{◌≡◌, ◌≢◌, ◌<◌, ◌≤◌, ◌+◌, ◌*◌, ◌^◌, ℕ, List, length, map, IfOk, IfErr, OnOk, Ok, Err};
+ghost use Rattle.std.specs.Prelude.{◌≡◌, ◌≢◌, ◌<◌, ◌≤◌, ◌+◌, ◌*◌, ◌^◌, ℕ, List, length, IfOk, IfErr, OnOk, Ok, Err};
 ghost use Rattle.kc_expr.specs.PartsOfSymbols.{stands_in};
 ghost use Rattle.kc_language.specs.Symbols.{defined_symbols, IsTreeOf, modules_symbol, tree_with};
-ghost use Rattle.kc_read.specs.PartsOfSymbols.{symbol_if};
+ghost use Rattle.kc_entries.specs.PartsOfSymbols.{symbol_if};
 ghost use Rattle.kc_language.specs.Expansion.{Files};
 ghost use Rattle.kc_read.specs.RefusalView.{IsMemory, refusal_view};
-ghost use Rattle.kc_read.specs.Entries.{lines_in};
+ghost use Rattle.kc_entries.specs.Entries.{lines_in};
 ghost use Rattle.kc_language.specs.declared.diagnostics.Cause.TheVariants.{Memory};
 ghost use Rattle.kc_build.specs.Limits.{most_names};
 ghost use Rattle.kc_build.specs.Listings.{IsListingOf};
-ghost use Rattle.kc_build.specs.PartsView.{parts_view};
-ghost use Rattle.kc_build.specs.Passes.{statements_in};
-ghost use Rattle.kc_read.specs.ListFacts.{AreBelow, AreChoicesApart, AreMenusOpened, AreTypesDefined};
+ghost use Rattle.kc_build.specs.PartsView.{AreNamed, parts_view};
+ghost use Rattle.kc_tree.specs.EntryViews.{statements_in};
+ghost use Rattle.kc_build.specs.Sound.{AreSound};
 
-use crate::entries::walk_entries;
+use crate::blocks::{Blocks, blocks_of, main_menu_of};
+use crate::diagnostics::diagnose;
 use crate::listing::Listing;
-use crate::settle::{Settled, settle};
+use crate::selectors::selectors_of;
+use crate::symbols::{definitions_of, give_choices};
+use kc_entries::entries::Entries;
 use kc_expr::expression::SymId;
 use kc_expr::names::Names;
-use kc_read::entries::Entries;
 use kc_read::refusal::Refusal;
 use kc_tree::layout::{Layout, TreeParts};
 use kc_tree::tree::Tree;
 use std::alloc::{AllocError, Global};
 
-// The most names that a tree may mention. So many take far more memory than a machine has.
+// The most names that a tree may mention, and the most attributes that its entries may have. That many need far more memory than a
+// machine has.
 const MOST_NAMES: usize = 2147483648;
 
-// The symbol is one of these.
+// Whether the symbol is one of these.
 fn is_one_of(symbols: &[SymId], id: SymId) -> bool
     ensures { result ≡ stands_in symbols.now id }
 {
     symbols.iter().any(|s| id.0 == s.0)
 }
 
-// The symbol, where there is one and it is defined.
+// The symbol, if there is one and it is defined.
 fn if_defined(defined: &[SymId], symbol: Option<SymId>) -> Option<SymId>
     ensures { result ≡ symbol_if (stands_in defined.now) symbol }
 {
@@ -45,8 +48,8 @@ fn if_defined(defined: &[SymId], symbol: Option<SymId>) -> Option<SymId>
     }
 }
 
-// Fails where there are more names than any table could have rows.
-fn check_names(count: usize) -> Result<(), AllocError>
+// Fails if there are more names or attributes than a tree may have.
+fn check_count(count: usize) -> Result<(), AllocError>
     ensures { OnOk result (count ≤ most_names) }
 {
     if count <= MOST_NAMES {
@@ -56,41 +59,48 @@ fn check_names(count: usize) -> Result<(), AllocError>
     }
 }
 
-// What the entries say, which define these symbols, and where `modules` stands for modules, if it is one of them: the first
-// refusal that the whole list shows, and where there is none all parts of the tree. Its only error is to be out of memory.
+// Builds all parts of the tree, or returns the first refusal that only the whole list shows. The entries define these symbols.
+// `modules` is the modules symbol, if it is one of them. The only error is that memory runs out.
 fn build_parts(
     alloc: Global,
     names: &Names,
-    entries: &Entries,
+    entries: Entries,
     defined: Vec<SymId>,
     modules: Option<SymId>,
 ) -> Result<Result<TreeParts, Refusal>, AllocError>
-    requires below { AreBelow (length names.now) (statements_in entries.now) }
-    requires types { AreTypesDefined (statements_in entries.now) }
-    requires apart { AreChoicesApart (statements_in entries.now) }
-    requires ends { AreMenusOpened (statements_in entries.now) }
-    requires defined { defined.items ≡ defined_symbols (statements_in entries.now) }
-    requires modules { modules ≡ modules_symbol names.now (statements_in entries.now) }
-    requires few { 8 * length (lines_in entries.now) + 8 < 2 ^ 32 }
-    ensures { IfOk result (λ s. parts_view names.now s ≡ tree_with names.now (lines_in entries.now)) }
+    requires lines { AreSound (length names.now) (statements_in entries) }
+    requires defined { defined.items ≡ defined_symbols (statements_in entries) }
+    requires modules { modules ≡ modules_symbol names.now (statements_in entries) }
+    requires few { 8 * length (lines_in entries) + 8 < 2 ^ 32 }
+    ensures parts { IfOk result (λ s. parts_view names.now s ≡ tree_with names.now (lines_in entries)) }
+    ensures named { IfOk result (AreNamed names.now) }
 {
     let count = names.count();
-    check_names(count)?;
-    let walked = walk_entries(alloc, entries, count, defined.len())?;
-    let Settled {
-        symbols,
-        tables,
-        main_menu,
-        diagnostics,
-    } = settle(alloc, names, entries, walked)?;
+    check_count(count)?;
+    check_count(entries.attributes.len())?;
+    let Blocks {
+        mut places,
+        visibles,
+        choices,
+        ..
+    } = blocks_of(alloc, &entries)?;
+    let mut symbols = definitions_of(alloc, &entries, &mut places, count)?;
+    give_choices(&mut symbols, &choices)?;
+    let diagnostics = diagnose(alloc, names, &entries, &symbols)?;
+    let selectors = selectors_of(alloc, &entries, &places, &mut symbols)?;
+    let main_menu = main_menu_of(alloc, &entries)?;
     let modules = if_defined(&defined, modules);
     match diagnostics.into_warnings() {
         Err(refusal) => Ok(Err(refusal)),
         Ok(warnings) => Ok(Ok(TreeParts {
             layout: Layout {
+                entries,
+                places,
+                visibles,
                 symbols,
+                selectors,
+                choices,
                 defined,
-                tables,
                 modules,
             },
             warnings,
@@ -99,30 +109,22 @@ fn build_parts(
     }
 }
 
-/// A tree, and the lines that it was built from.
-#[derive(Drop)]
-pub struct BuiltTree {
-    pub tree: Tree,
-    pub entries: Entries,
-}
-
-/// The tree that the lines of a root file say, with these lines, or the first refusal that the whole list shows, which leaves
-/// nothing. The files that the lines were read from are not looked at.
+/// Builds the tree from the lines of a root file, or returns the first refusal that only the whole list shows. The files that
+/// the lines were read from are not read again.
 ///
-/// E13 comes at the first `config` line, in order, that defines a choice's member and is not the first to define it, or that
-/// stands in a choice while its symbol is no bool. So of a symbol that is defined once outside and then in its choice the
-/// line is the one in the choice. Without such a line E14 comes at the first default line of a string, int or hex symbol that is no
-/// single operand, or of a choice that is no single name, parentheses aside. Both name the symbol, or `choice`. E20, which
-/// has no location, is being out of memory.
+/// E13 is at the first `config` line, in order, that defines a choice's member and is not its first definition, or that is
+/// in a choice while its symbol is not bool. So if a symbol is defined once outside and then in its choice, it is the line in
+/// the choice. Without such a line, E14 is at the first default of a string, int or hex symbol that is not one operand, or of
+/// a choice that is not one name (parentheses do not count). Both name the symbol, or `choice`. E20, which has no location:
+/// memory ran out.
 ///
-/// The caller owes lines as [`read_listing`](crate::read_listing) gives them.
+/// The listing must come from [`read_listing`](crate::read_listing).
 ///
 /// The meaning of the statements is that of the kernel's kconfig-language document and of kconfiglib's
 /// documentation; the limits, the order of checks and the warnings are our own.
-pub fn built_tree(alloc: Global, listing: Listing) -> Result<BuiltTree, Refusal>
+pub fn tree_of(alloc: Global, listing: Listing) -> Result<Tree, Refusal>
     requires { (files : Files) × (root : List ℕ) × IsListingOf files root listing }
-    ensures built { IfOk result (λ b. (files : Files) (root : List ℕ) → IsListingOf files root listing → IsTreeOf files root (Ok b.tree)) }
-    ensures lines { IfOk result (λ b. lines_in b.entries ≡ lines_in listing.entries) }
+    ensures built { IfOk result (λ t. (files : Files) (root : List ℕ) → IsListingOf files root listing → IsTreeOf files root (Ok t)) }
     ensures refused { IfErr result (λ r. r.cause ≢ Memory → (files : Files) (root : List ℕ) → IsListingOf files root listing → IsTreeOf files root (Err (refusal_view r))) }
     ensures memory { IfErr result IsMemory }
 {
@@ -132,7 +134,7 @@ pub fn built_tree(alloc: Global, listing: Listing) -> Result<BuiltTree, Refusal>
         modules,
         entries,
     } = listing;
-    let outcome = match build_parts(alloc, &names, &entries, defined, modules) {
+    let outcome = match build_parts(alloc, &names, entries, defined, modules) {
         Ok(outcome) => outcome,
         Err(_) => return Err(Refusal::out_of_memory()),
     };
@@ -140,23 +142,7 @@ pub fn built_tree(alloc: Global, listing: Listing) -> Result<BuiltTree, Refusal>
         Err(refusal) => Err(refusal),
         Ok(parts) => {
             names.are_distinct();
-            Ok(BuiltTree {
-                tree: Tree::of(names, parts),
-                entries,
-            })
+            Ok(Tree::of(names, parts))
         }
-    }
-}
-
-/// The tree that the lines of a root file say, or the first refusal, as [`built_tree`] gives them.
-pub fn tree_of(alloc: Global, listing: Listing) -> Result<Tree, Refusal>
-    requires { (files : Files) × (root : List ℕ) × IsListingOf files root listing }
-    ensures built { IfOk result (λ t. (files : Files) (root : List ℕ) → IsListingOf files root listing → IsTreeOf files root (Ok t)) }
-    ensures refused { IfErr result (λ r. r.cause ≢ Memory → (files : Files) (root : List ℕ) → IsListingOf files root listing → IsTreeOf files root (Err (refusal_view r))) }
-    ensures memory { IfErr result IsMemory }
-{
-    match built_tree(alloc, listing) {
-        Ok(built) => Ok(built.tree),
-        Err(refusal) => Err(refusal),
     }
 }

@@ -1,36 +1,42 @@
-//! The warnings about the lines of a tree, and the refusals that the whole list of them shows.
+//! The warnings about the lines of a tree, and the refusals that only the whole list of lines shows.
 
-ghost use Rattle.std.specs.Prelude.{◌≡◌, ◌++◌, ◌||◌, [], None, false, is_some, map, option_map, IfOk, OnOk, MatchResult, Some};
+ghost use Rattle.std.specs.Prelude.{◌≡◌, ◌+◌, ◌<◌, ◌^◌, ◌++◌, ◌||◌, [], None, false, is_some, length, map, option_map, IfOk, OnOk, MatchResult, Some};
 ghost use Rattle.std.specs.List.{list_any};
 ghost use Rattle.std.specs.Option.{option_or};
-ghost use Rattle.kc_read.specs.Entries.{attribute_line, first_line, own_lines};
-ghost use Rattle.kc_read.specs.StatementViews.{attribute_view, head_view};
+ghost use Rattle.kc_entries.specs.Entries.{attribute_line, first_line, lines_in, own_lines};
+ghost use Rattle.kc_entries.specs.ListFacts.{AreBelow, AreChoicesApart};
+ghost use Rattle.kc_build.specs.Nesting.{AreBlocksClosed};
+ghost use Rattle.kc_entries.specs.StatementViews.{attribute_view, head_view};
 ghost use Rattle.kc_read.specs.RefusalView.{refusal_view};
-ghost use Rattle.kc_build.specs.Diagnosed.{IsLineDiagnosed, AreLinesDiagnosed};
-ghost use Rattle.kc_build.specs.WalkResult.{HasOnlyWarnings};
+ghost use Rattle.kc_build.specs.Diagnosed.{IsLineDiagnosed, AreLinesDiagnosed, HasOnlyWarnings, IsDiagnosed};
+ghost use Rattle.kc_build.specs.Quiet as quiet;
 ghost use Rattle.kc_language.specs.Symbols as facts;
 ghost use Rattle.kc_language.specs.Symbols.{listed};
-ghost use Rattle.kc_build.specs.SymbolRows.{type_by, choice_by, member_by, default_symbol, line_warnings_in};
+ghost use Rattle.kc_tree.specs.EntryViews.{statements_in};
+ghost use Rattle.kc_build.specs.Limits.{IsFew};
+ghost use Rattle.kc_build.specs.ChoicesPassed.{IsSummary, first_by, open_choice, passed};
+ghost use Rattle.kc_build.specs.SymbolRows.{AreKnownRows, type_by, choice_by, member_by, line_warnings_in};
 ghost use Rattle.kc_build.specs.WholeListRefusals as entry_refusal;
-ghost use Rattle.kc_read.specs.PartsOfSymbols as spec_parts;
+ghost use Rattle.kc_entries.specs.PartsOfSymbols as spec_parts;
 
-use crate::lines::{
-    is_single, prompt_of, single_symbol, stated_default, stated_type, symbol_of, target_of,
-};
 use crate::symbols::{choice_of, has_text, is_member, type_of};
 use crate::warning::{LineWarning, Place, entry_name, line_of};
 use kc_diagnostics::Cause;
+use kc_entries::entries::{Entries, Entry, EntryLines};
+use kc_entries::statement::{Attribute, Head};
 use kc_expr::expression::{SymId, SymbolType};
 use kc_expr::names::Names;
 pub(crate) use kc_language::symbols::MenuEntry;
-use kc_read::entries::{Entry, EntryLines};
 use kc_read::refusal::Refusal;
-use kc_read::statement::{Attribute, Head};
-use kc_tree::rows::{ChoiceId, Symbol};
+use kc_tree::attributes::{
+    default_symbol, is_single, prompt_of, single_symbol, stated_default, stated_type, symbol_of,
+    target_of,
+};
+use kc_tree::rows::{ChoiceId, EntryId, Symbol};
 use std::alloc::{AllocError, Global};
 
-/// What is known of an entry when its lines are diagnosed: whose it is, whether it is the first definition of its symbol, and
-/// the choice that it stands in.
+/// What the diagnosis of a line needs to know about its entry: the symbol or choice of the entry, whether it is the first
+/// definition of its symbol, and the choice that it is in.
 #[derive(Clone, Copy, Debug)]
 pub(crate) struct EntrySummary {
     pub entry: MenuEntry,
@@ -38,8 +44,8 @@ pub(crate) struct EntrySummary {
     pub within_choice: Option<ChoiceId>,
 }
 
-/// What the lines so far have against them: warnings as whole lines, the first definition of a choice's member that is
-/// refused, and the first default that is.
+/// The diagnostics of the lines so far: warnings as whole lines, the first refused definition of a choice's member, and the
+/// first refused default.
 #[derive(Debug, Drop)]
 pub(crate) struct Diagnostics {
     pub warnings: Vec<Vec<u8>>,
@@ -47,7 +53,7 @@ pub(crate) struct Diagnostics {
     pub bad_default: Option<Refusal>,
 }
 
-// The symbol whose entry it is.
+// The symbol of an entry.
 fn entry_symbol(entry: MenuEntry) -> Option<SymId>
     ensures { result ≡ facts.entry_symbol entry }
 {
@@ -57,7 +63,7 @@ fn entry_symbol(entry: MenuEntry) -> Option<SymId>
     }
 }
 
-// The choice whose entry it is.
+// The choice of an entry.
 fn entry_choice(entry: MenuEntry) -> Option<ChoiceId>
     ensures { option_map (λ k. k.0) result ≡ facts.entry_choice entry }
 {
@@ -92,14 +98,14 @@ fn prompt_redefined(attribute: &Attribute, entry: MenuEntry, prompted: bool) -> 
     ))
 }
 
-/// Whether a prompt stands among the lines of an entry up to this one; `prompted` says so of those before it.
+/// Whether there is a prompt among the lines of an entry up to this one; `prompted` says so for the lines before it.
 pub(crate) fn is_prompted(prompted: bool, attribute: &Attribute) -> bool
     ensures { result ≡ (prompted || is_some (facts.prompt_of (attribute_view attribute.now))) }
 {
     prompted || prompt_of(attribute).is_some()
 }
 
-// The symbol has a type, or is a member of a choice.
+// Whether the symbol has a type or is a member of a choice.
 fn has_type(symbol: SymId, symbols: &[Symbol]) -> bool
     ensures { result ≡ spec_parts.has_type (type_by symbols.now symbol) (choice_by symbols.now symbol) }
 {
@@ -118,7 +124,7 @@ fn without_type(head: &Head, first: bool, symbols: &[Symbol]) -> Option<LineWarn
     }
 }
 
-// A select or imply of a symbol whose value is a text.
+// A `select` or `imply` of a string, int or hex symbol.
 fn text_target(attribute: &Attribute, symbols: &[Symbol]) -> Option<LineWarning>
     ensures { listed result ≡ spec_parts.text_target (type_by symbols.now) (attribute_view attribute.now) }
 {
@@ -131,7 +137,7 @@ fn text_target(attribute: &Attribute, symbols: &[Symbol]) -> Option<LineWarning>
     }
 }
 
-// A select or imply of a member of a choice.
+// A `select` or `imply` of a member of a choice.
 fn member_target(attribute: &Attribute, symbols: &[Symbol]) -> Option<LineWarning>
     ensures { listed result ≡ spec_parts.member_target (choice_by symbols.now) (attribute_view attribute.now) }
 {
@@ -143,17 +149,7 @@ fn member_target(attribute: &Attribute, symbols: &[Symbol]) -> Option<LineWarnin
     }
 }
 
-// The symbol that a default names alone.
-fn default_symbol(attribute: &Attribute) -> Option<SymId>
-    ensures { result ≡ default_symbol (attribute_view attribute.now) }
-{
-    match stated_default(attribute) {
-        Some(stated) => single_symbol(&stated.value),
-        None => None,
-    }
-}
-
-// A default of a choice that names no member of it.
+// A default of a choice that names a symbol that is not a member.
 fn default_not_member(
     attribute: &Attribute,
     entry: MenuEntry,
@@ -169,7 +165,7 @@ fn default_not_member(
     }
 }
 
-// What there is to warn of in an attribute: two things at most.
+// The warnings about an attribute: at most two.
 fn warnings_of(
     attribute: &Attribute,
     summary: EntrySummary,
@@ -198,7 +194,7 @@ fn warnings_of(
     }
 }
 
-// A second definition of a member; a definition in a choice whose type is not bool.
+// A second definition of a member, or a definition in a choice whose type is not bool.
 fn is_bad_member(head: &Head, summary: EntrySummary, symbols: &[Symbol]) -> bool
     ensures { result ≡ spec_parts.is_bad_member (type_by symbols.now) (choice_by symbols.now) summary.first (option_map (λ k. k.0) summary.within_choice) (head_view head.now) }
 {
@@ -211,7 +207,7 @@ fn is_bad_member(head: &Head, summary: EntrySummary, symbols: &[Symbol]) -> bool
     }
 }
 
-// The entry is that of a symbol whose value is a text.
+// Whether the entry is that of a string, int or hex symbol.
 fn is_text_entry(entry: MenuEntry, symbols: &[Symbol]) -> bool
     ensures { result ≡ list_any (λ t. facts.holds_text (type_by symbols.now t)) (listed (facts.entry_symbol entry)) }
 {
@@ -221,7 +217,7 @@ fn is_text_entry(entry: MenuEntry, symbols: &[Symbol]) -> bool
     }
 }
 
-// A default of such a symbol that is no single operand; one of a choice that is no single name.
+// A default of such a symbol that is not one operand, or a default of a choice that is not one name.
 fn is_bad_default(attribute: &Attribute, entry: MenuEntry, symbols: &[Symbol]) -> bool
     ensures { result ≡ spec_parts.is_bad_default (type_by symbols.now) entry (attribute_view attribute.now) }
 {
@@ -234,7 +230,7 @@ fn is_bad_default(attribute: &Attribute, entry: MenuEntry, symbols: &[Symbol]) -
     }
 }
 
-// A line of an entry.
+// The file and number of a line of an entry.
 fn place_in(entry: &Entry, line: u32) -> Place<'_>
     ensures file { result.file.now ≡ entry.now.file.value.items }
     ensures line { result.line ≡ line }
@@ -245,7 +241,7 @@ fn place_in(entry: &Entry, line: u32) -> Place<'_>
     }
 }
 
-// Adds the line of a warning where there is one.
+// Appends the line of a warning, if there is one.
 fn warn(
     alloc: Global,
     names: &Names,
@@ -266,7 +262,7 @@ fn warn(
     }
 }
 
-// Adds what there is to warn of in an attribute.
+// Appends the warnings about an attribute.
 fn warn_attribute(
     alloc: Global,
     names: &Names,
@@ -289,8 +285,40 @@ fn warn_attribute(
     }
 }
 
+// The type of the symbol of an entry.
+fn own_type(entry: MenuEntry, symbols: &[Symbol]) -> SymbolType
+    ensures { result ≡ quiet.own_type symbols.now entry }
+{
+    match entry_symbol(entry) {
+        Some(symbol) => type_of(symbols, symbol),
+        None => SymbolType::Undefined,
+    }
+}
+
+// Whether a symbol of this type is a bool or tristate.
+fn is_truth_type(symbol_type: SymbolType) -> bool
+    ensures { result ≡ quiet.is_truth_type symbol_type }
+{
+    matches!(symbol_type, SymbolType::Bool | SymbolType::Tristate)
+}
+
+// Whether the type of its symbol shows that an attribute gives no diagnostic.
+#[inline(always)]
+fn is_quiet(own_type: SymbolType, prompted: bool, attribute: &Attribute) -> bool
+    ensures { result ≡ quiet.is_quiet own_type prompted (attribute_view attribute.now) }
+{
+    match attribute {
+        Attribute::Type(symbol_type, _) => !prompted && *symbol_type == own_type,
+        Attribute::Prompt(_) => !prompted,
+        Attribute::Default(_) => is_truth_type(own_type),
+        Attribute::Def(symbol_type, _) => *symbol_type == own_type && is_truth_type(own_type),
+        Attribute::Select(_, _) | Attribute::Imply(_, _) => false,
+        _ => true,
+    }
+}
+
 impl Diagnostics {
-    /// Nothing yet.
+    /// Returns empty diagnostics.
     pub(crate) fn new(alloc: Global) -> Diagnostics
         ensures warnings { result.warnings.items ≡ [] }
         ensures member { result.bad_member ≡ None }
@@ -303,7 +331,7 @@ impl Diagnostics {
         }
     }
 
-    // Keeps the first definition of a member that is refused.
+    // Keeps the first refused definition of a member.
     fn look_for_member(
         &mut self,
         alloc: Global,
@@ -326,7 +354,7 @@ impl Diagnostics {
         Ok(())
     }
 
-    // Keeps the first default that is refused.
+    // Keeps the first refused default.
     fn look_for_default(
         &mut self,
         alloc: Global,
@@ -372,8 +400,8 @@ impl Diagnostics {
         }
     }
 
-    // Diagnoses an attribute, where `prompted` says whether a prompt stands before it in its entry. Of most there is nothing to
-    // say, whatever the symbols are.
+    // Diagnoses an attribute. `prompted` says whether there is a prompt before it in its entry. Most attributes give no diagnostic,
+    // whatever the symbols are.
     fn diagnose_attribute(
         &mut self,
         alloc: Global,
@@ -417,17 +445,22 @@ impl Diagnostics {
     {
         let first = lines.first;
         self.diagnose_head(alloc, names, symbols, summary, first)?;
+        let own_type = own_type(summary.entry, symbols);
         let mut prompted = false;
         for line in lines.attributes {
             let attribute = &line.attribute;
-            let place = place_in(first, line.line);
-            self.diagnose_attribute(alloc, names, symbols, summary, prompted, place, attribute)?;
+            if !is_quiet(own_type, prompted, attribute) {
+                let place = place_in(first, line.line);
+                self.diagnose_attribute(
+                    alloc, names, symbols, summary, prompted, place, attribute,
+                )?;
+            }
             prompted = is_prompted(prompted, attribute);
         }
         Ok(())
     }
 
-    /// The first refusal: of a definition of a member, and without one of a default. Where there is none, the warnings.
+    /// Returns the first refusal: of a definition of a member, otherwise of a default. Without a refusal, returns the warnings.
     pub(crate) fn into_warnings(self) -> Result<Vec<Vec<u8>>, Refusal>
         ensures { MatchResult result (λ v. HasOnlyWarnings self v.items) (λ r. option_or self.bad_member self.bad_default ≡ Some r) }
     {
@@ -441,4 +474,99 @@ impl Diagnostics {
             None => Ok(warnings),
         }
     }
+}
+
+// The choices before an entry: their number, and whether the last of them is open.
+#[derive(Drop)]
+struct ChoicesBefore {
+    count: u32,
+    is_open: bool,
+}
+
+impl ChoicesBefore {
+    // The choice that the entry is in.
+    fn open(&self) -> Option<ChoiceId>
+        ensures { option_map (λ k. k.0) result ≡ open_choice self.now }
+    {
+        if self.is_open && self.count > 0 {
+            Some(ChoiceId(self.count - 1))
+        } else {
+            None
+        }
+    }
+
+    // Moves on past the entry.
+    fn pass(&mut self, head: &Head)
+        requires { self.old.count + 1 < 2 ^ 32 }
+        ensures { self.new ≡ passed (head_view head.now) self.old }
+    {
+        match head {
+            Head::Choice => {
+                self.count += 1;
+                self.is_open = true;
+            }
+            Head::EndChoice => self.is_open = false,
+            _ => {}
+        }
+    }
+}
+
+// Whether an entry is the first definition of a symbol.
+fn is_first(symbols: &[Symbol], at: EntryId, symbol: SymId) -> bool
+    ensures { result ≡ first_by symbols.now at.0 symbol }
+{
+    match symbols.get(symbol.0) {
+        Some(row) => row.first.0 == at.0,
+        None => false,
+    }
+}
+
+// The summary of an entry.
+fn summary_of(symbols: &[Symbol], at: EntryId, head: &Head, choices: &ChoicesBefore) -> EntrySummary
+    ensures { IsSummary symbols.now at.0 (head_view head.now) choices.now result }
+{
+    let entry = match head {
+        Head::Config(symbol) => MenuEntry::Symbol(*symbol),
+        Head::Choice => MenuEntry::Choice(ChoiceId(choices.count)),
+        _ => MenuEntry::Other,
+    };
+    let first = match head {
+        Head::Config(symbol) => is_first(symbols, at, *symbol),
+        _ => false,
+    };
+    EntrySummary {
+        entry,
+        first,
+        within_choice: choices.open(),
+    }
+}
+
+/// Diagnoses the lines of the entries. The types and choices of the symbols are known.
+pub(crate) fn diagnose(
+    alloc: Global,
+    names: &Names,
+    entries: &Entries,
+    symbols: &[Symbol],
+) -> Result<Diagnostics, AllocError>
+    requires known { AreKnownRows entries.now symbols.now }
+    requires below { AreBelow (length symbols.now) (statements_in entries.now) }
+    requires apart { AreChoicesApart (statements_in entries.now) }
+    requires closed { AreBlocksClosed (statements_in entries.now) }
+    requires few { IsFew entries.now }
+    ensures { IfOk result (IsDiagnosed names.now (lines_in entries.now) (length (lines_in entries.now))) }
+{
+    let mut diagnostics = Diagnostics::new(alloc);
+    let mut choices = ChoicesBefore {
+        count: 0,
+        is_open: false,
+    };
+    let mut i = 0;
+    'entries: while let Some(lines) = entries.entry(i) {
+        let head = &lines.first.head;
+        let summary = summary_of(symbols, EntryId::of(i), head, &choices);
+        diagnostics.diagnose_entry(alloc, names, symbols, summary, lines)?;
+        choices.pass(head);
+        i += 1;
+    }
+    Ok(diagnostics)
 }

@@ -1,10 +1,10 @@
-//! What holds of every tree.
+//! Laws of each tree. Each is the contract of a function that does nothing.
 
 ghost use Rattle.kc_build.specs.Trees.{HasOneTree, OneTree, TreesAreWellFormed};
 
 use kc_read::laws::{has_one_expansion, one_expansion};
 
-/// The law of trees: a root file over a file map gives at most one tree or refusal. It does nothing, and so cannot fail.
+/// The law of trees: a root file over a file map gives at most one tree or refusal. It does nothing, so it cannot fail.
 /// The law is our own.
 pub fn one_tree()
     ensures { OneTree }
@@ -12,14 +12,14 @@ pub fn one_tree()
     one_expansion();
 }
 
-/// The law of answers: over any files a root file gives a tree or a refusal, and no other. It does nothing. The law is our own.
+/// The law of results: with any files a root file gives exactly one tree or refusal. It does nothing. The law is our own.
 pub fn has_one_tree()
     ensures { HasOneTree }
 {
     has_one_expansion();
 }
 
-/// The law of facts: whatever a root file says, its tree is well formed. It does nothing. The law is our own.
+/// The law of facts: the tree of any root file is well formed. It does nothing. The law is our own.
 pub fn trees_are_well_formed()
     ensures { TreesAreWellFormed }
 {}

@@ -10,9 +10,9 @@ ghost use Rattle.kc_read.specs.RefusalView.{IsMemory, refusal_view};
 ghost use Rattle.kc_language.specs.declared.diagnostics.Cause.TheVariants.{Memory};
 ghost use Rattle.kc_build.specs.Listings.{IsListing, IsListingOf};
 
+use kc_entries::entries::Entries;
 use kc_expr::expression::SymId;
 use kc_expr::names::Names;
-use kc_read::entries::Entries;
 use kc_read::expansion::{Expansion, expand};
 use kc_read::file_map::FileMap;
 use kc_read::refusal::Refusal;
@@ -25,12 +25,12 @@ pub struct Listing {
     pub names: Names,
     /// The defined symbols, in the order of their first definition.
     pub defined: Vec<SymId>,
-    /// The symbol with the first `modules` line, and without such a line the one named `MODULES`, where it is mentioned.
+    /// The symbol with the first `modules` line. Without such a line: the symbol named `MODULES`, if it is mentioned.
     pub modules: Option<SymId>,
     pub entries: Entries,
 }
 
-/// What reading a root file gives: its listing, and the names of the files that were opened, each once, in the order of
+/// The result of reading a root file: its listing, and the names of the opened files, each once, in the order of
 /// their first opening.
 #[derive(Drop)]
 pub struct RootReading {
@@ -38,7 +38,7 @@ pub struct RootReading {
     pub opened: Names,
 }
 
-// The modules symbol: this one, or that of the name `MODULES`, where it is mentioned.
+// The modules symbol: this one, or the symbol named `MODULES`, if it is mentioned.
 fn modules_symbol(names: &Names, modules: Option<SymId>) -> Option<SymId>
     ensures { result ≡ option_or modules (option_map symbol (position (same_name (codes "MODULES")) names.now)) }
 {
@@ -72,9 +72,9 @@ fn listing_of(names: Names, expansion: Expansion) -> RootReading
     }
 }
 
-/// The lines of a root file, and the files that were opened for them, or its first refusal: E1 to E12 and E16, each at the
-/// first line with a fault, as `expand` of kc_read answers them. The files are not looked at again afterwards. E20, which has
-/// no location, is being out of memory.
+/// Reads the lines of a root file, and returns them with the files that were opened. Otherwise returns the first refusal: E1 to
+/// E12 and E16, each at the first faulty line, as `expand` of kc_read returns them. The files are not read again later. E20,
+/// which has no location: memory ran out.
 pub fn read_listing(alloc: Global, map: &FileMap, root: &[u8]) -> Result<RootReading, Refusal>
     ensures listed { IfOk result (λ r. IsListingOf (files_in map.now) root.now r.listing) }
     ensures opened { IfOk result (λ r. AreOpened (files_in map.now) root.now r.opened) }

@@ -1,117 +1,117 @@
-//! What the entries of symbols select and imply.
+//! The lines that select and imply each symbol.
 
-ghost use Rattle.std.specs.Prelude.{◌≡◌, ◌<◌, ◌+◌, ◌^◌, ◌++◌, ◌∷◌, [], None, Some, length, option_map, slice_index_or, slice_set, OnOk, OnErr};
-ghost use Rattle.kc_build.specs.SymbolRows.{can_be_target};
-ghost use Rattle.kc_build.specs.Passes.{statements_of};
-ghost use Rattle.kc_build.specs.SelectorRows.{IsAdded, AreAdded, AreTargetHeads};
-ghost use Rattle.kc_expr.specs.Form.{form_of};
+ghost use Rattle.std.specs.Prelude.{◌≡◌, ◌<◌, ◌+◌, ◌^◌, length, IfOk, OnOk};
+ghost use Rattle.kc_tree.specs.EntryViews.{entry_count, statements_in, statements_of};
+ghost use Rattle.kc_tree.specs.Places.{ArePlaces};
+ghost use Rattle.kc_build.specs.SymbolRows.{AreKnownRows, can_be_target};
+ghost use Rattle.kc_build.specs.Limits.{IsFew};
+ghost use Rattle.kc_build.specs.SelectorRows.{Adds, AreSelectors, AreTargetsBelow, IsAdded, last_in, with_last};
 
-use crate::lines::{SelectOrImply, Target, target_of};
-use crate::symbols::{choice_of, has_text, type_of};
-use kc_expr::expression::{Expr, SymId, shared_condition};
-use kc_read::entries::AttributeLine;
-use kc_tree::rows::{DefinitionId, Selector, SelectorId, Symbol};
-use kc_tree::selector_rows::SelectorRows;
-use std::alloc::AllocError;
-use std::rc::Rc;
+use crate::symbols::has_text;
+use kc_entries::entries::{Entries, EntryLines};
+use kc_entries::statement::Head;
+use kc_language::symbols::SelectOrImply;
+use kc_tree::attributes::{Target, target_of};
+use kc_tree::rows::{AttributeId, EntryId, EntryPlace, Selector, SelectorId, Symbol};
+use std::alloc::{AllocError, Global};
 
-// Whether selecting or implying the symbol has an effect: it is no choice's member, and its value is no text.
-fn is_target(symbols: &[Symbol], symbol: SymId) -> bool
-    ensures { result ≡ can_be_target symbols.now symbol }
+// Whether selecting or implying a symbol has an effect: it is no member of a choice, and no string, int or hex symbol.
+fn is_target(symbol: &Symbol) -> bool
+    ensures { result ≡ can_be_target symbol.now }
 {
-    symbol.0 < symbols.len()
-        && choice_of(symbols, symbol).is_none()
-        && !has_text(type_of(symbols, symbol))
+    !symbol.choice.is_some() && !has_text(symbol.symbol_type)
 }
 
-// Adds a line that names a symbol to the lines of one word, whose last for each symbol are the heads.
-fn add_line(
-    lines: &mut Vec<Selector>,
-    heads: &mut [Option<SelectorId>],
-    symbol: SymId,
-    source: DefinitionId,
-    when: Option<Rc<Expr>>,
-) -> Result<(), AllocError>
-    requires there { symbol.0 < length heads.old }
-    requires few { length lines.old.items < 2 ^ 32 }
-    ensures line { OnOk result (lines.new.items ≡ lines.old.items ++ record { source = source; when = when; next = slice_index_or heads.old symbol.0 None } ∷ []) }
-    ensures head { OnOk result (heads.new ≡ slice_set heads.old symbol.0 (Some (record { 0 = length lines.old.items }))) }
-    ensures lines_stay { OnErr result (lines.new.items ≡ lines.old.items) }
-    ensures heads_stay { OnErr result (heads.new ≡ heads.old) }
+// Makes a line the last one of its kind that names a symbol. Returns the one before it.
+fn set_last(symbol: &mut Symbol, word: SelectOrImply, id: SelectorId) -> SelectorId
+    ensures before { result ≡ last_in word symbol.old }
+    ensures now { symbol.new ≡ with_last word id symbol.old }
 {
-    let id = SelectorId(lines.len() as u32);
-    lines.push(Selector {
-        source,
-        when,
-        next: heads[symbol.0],
-    })?;
-    heads[symbol.0] = Some(id);
-    Ok(())
+    match word {
+        SelectOrImply::Select => {
+            let before = symbol.last_select;
+            symbol.last_select = id;
+            before
+        }
+        SelectOrImply::Imply => {
+            let before = symbol.last_imply;
+            symbol.last_imply = id;
+            before
+        }
+    }
 }
 
-// Adds a line of an entry, where it names a symbol of the tables.
+// Appends a line that selects or implies a symbol, if it has an effect.
 fn add_selector(
-    selector_rows: &mut SelectorRows,
-    source: DefinitionId,
+    entry: EntryId,
+    attribute: AttributeId,
     target: Target<'_>,
+    symbols: &mut Vec<Symbol>,
+    lines: &mut Vec<Selector>,
 ) -> Result<(), AllocError>
-    requires same { length selector_rows.old.implies.items ≡ length selector_rows.old.selects.items }
-    requires few { length selector_rows.old.lines.items < 2 ^ 32 }
-    ensures { OnOk result (IsAdded source selector_rows.old (target.entry.word, target.entry.symbol, option_map (λ e. form_of e.now.value) target.entry.when) selector_rows.new) }
+    requires there { target.symbol.0 < length symbols.old.items }
+    requires few { length lines.old.items + 1 < 2 ^ 32 }
+    ensures { OnOk result (IsAdded entry attribute target.entry.word target.entry.symbol.0 symbols.old.items lines.old.items symbols.new.items lines.new.items) }
 {
-    if target.symbol.0 >= selector_rows.selects.len() {
+    let symbol = &mut symbols[target.symbol.0];
+    if !is_target(symbol) {
         return Ok(());
     }
-    let when = shared_condition(target.when)?;
-    let symbol = target.symbol;
-    match target.word {
-        SelectOrImply::Select => add_line(
-            &mut selector_rows.lines,
-            &mut selector_rows.selects,
-            symbol,
-            source,
-            when,
-        ),
-        SelectOrImply::Imply => add_line(
-            &mut selector_rows.lines,
-            &mut selector_rows.implies,
-            symbol,
-            source,
-            when,
-        ),
-    }
+    let next = set_last(symbol, target.word, SelectorId::of(lines.len()));
+    lines.push(Selector {
+        entry,
+        attribute,
+        next,
+    })?;
+    Ok(())
 }
 
-/// Adds what the attributes of a definition select and imply, whether that has an effect or not.
-pub(crate) fn add_selectors(
-    selector_rows: &mut SelectorRows,
-    source: DefinitionId,
-    attributes: &[AttributeLine],
+// Appends the lines of an entry that select or imply.
+fn add_selectors(
+    entry: EntryId,
+    own: EntryLines<'_>,
+    symbols: &mut Vec<Symbol>,
+    lines: &mut Vec<Selector>,
 ) -> Result<(), AllocError>
-    requires same { length selector_rows.old.implies.items ≡ length selector_rows.old.selects.items }
-    requires few { length selector_rows.old.lines.items + length attributes.now < 2 ^ 32 }
-    ensures { OnOk result (AreAdded source selector_rows.old (statements_of attributes.now) selector_rows.new) }
+    requires there { AreTargetsBelow (length symbols.old.items) (statements_of own.attributes.now) }
+    requires attributes { own.first.now.start + length own.attributes.now + 1 < 2 ^ 32 }
+    requires few { length lines.old.items + length own.attributes.now + 1 < 2 ^ 32 }
+    ensures { OnOk result (Adds entry own.entry symbols.old.items lines.old.items symbols.new.items lines.new.items) }
 {
-    for line in attributes {
+    let start = own.first.start as usize;
+    for (j, line) in own.attributes.iter().enumerate() {
         if let Some(target) = target_of(&line.attribute) {
-            add_selector(selector_rows, source, target)?;
+            let attribute = AttributeId::of(start + j);
+            add_selector(entry, attribute, target, symbols, lines)?;
         }
     }
     Ok(())
 }
 
-/// Drops the lines that select and imply symbols on which they have no effect. The symbols are known whole.
-pub(crate) fn keep_targets(selector_rows: &mut SelectorRows, symbols: &[Symbol])
-    requires count { length selector_rows.old.selects.items ≡ length symbols.now }
-    requires same { length selector_rows.old.implies.items ≡ length symbols.now }
-    ensures lines { selector_rows.new.lines.items ≡ selector_rows.old.lines.items }
-    ensures selects { AreTargetHeads symbols.now selector_rows.old.selects.items selector_rows.new.selects.items }
-    ensures implies { AreTargetHeads symbols.now selector_rows.old.implies.items selector_rows.new.implies.items }
+/// Returns the lines that select or imply a symbol and have an effect. Each is chained to the previous one of its kind for the
+/// same symbol. The symbols get the ends of the chains.
+pub(crate) fn selectors_of(
+    alloc: Global,
+    entries: &Entries,
+    places: &[EntryPlace],
+    symbols: &mut Vec<Symbol>,
+) -> Result<Vec<Selector>, AllocError>
+    requires places { ArePlaces entries.now places.now }
+    requires count { length places.now ≡ entry_count entries.now }
+    requires known { AreKnownRows entries.now symbols.old.items }
+    requires there { AreTargetsBelow (length symbols.old.items) (statements_in entries.now) }
+    requires few { IsFew entries.now }
+    ensures { IfOk result (λ lines. AreSelectors entries.now (length symbols.old.items) symbols.new.items lines.items) }
 {
-    for i in 0..symbols.len() {
-        if !is_target(symbols, SymId(i)) {
-            selector_rows.selects[i] = None;
-            selector_rows.implies[i] = None;
+    let mut lines = Vec::new(alloc);
+    for (i, place) in places.iter().enumerate() {
+        if place.has_target {
+            if let Some(own) = entries.entry(i) {
+                if let Head::Config(_) = &own.first.head {
+                    add_selectors(EntryId::of(i), own, symbols, &mut lines)?;
+                }
+            }
         }
     }
+    Ok(lines)
 }

@@ -1,91 +1,111 @@
-//! The rows of the symbols: of each its type, its choice and its definitions.
+//! The rows of the symbols (the type, the choice and the first definition of each), and the chain of definitions.
 
-ghost use Rattle.std.specs.Prelude.{◌≡◌, map, option_map, IfOk, OnOk};
-ghost use Rattle.kc_language.specs.Expansion.{numbers};
+ghost use Rattle.std.specs.Prelude.{◌≡◌, ◌<◌, ◌≤◌, ◌^◌, Some, length, option_map, replicate, IfOk, OnOk};
+ghost use Rattle.std.specs.List.{filter_map};
 ghost use Rattle.kc_language.specs.Symbols as facts;
+ghost use Rattle.kc_entries.specs.ListFacts.{AreBelow};
+ghost use Rattle.kc_entries.specs.PartsOfSymbols.{first_of};
+ghost use Rattle.kc_tree.specs.EntryViews.{entry_count, statements_in, statements_of};
+ghost use Rattle.kc_build.specs.Limits.{IsFew};
 ghost use Rattle.kc_build.specs.SymbolRows as symbol_rows;
-ghost use Rattle.kc_build.specs.SymbolRows.{row_view};
-ghost use Rattle.kc_build.specs.SymbolWalk.{unknown, first_given_type, with_definition, reported, HaveMemberTypes};
+ghost use Rattle.kc_build.specs.SymbolsFound as see;
 
+use kc_entries::entries::{AttributeLine, Entries};
+use kc_entries::statement::Head;
 use kc_expr::expression::{SymId, SymbolType};
-use kc_tree::definitions::SymbolDefinitions;
+use kc_tree::attributes::first_type;
 use kc_tree::maybe_choice::MaybeChoice;
-use kc_tree::rows::{ChoiceId, DefinitionId, Symbol};
+use kc_tree::rows::{Choice, ChoiceId, EntryId, EntryPlace, SelectorId, Symbol};
 use std::alloc::{AllocError, Global};
 
-/// Symbols of which nothing is known yet.
-pub(crate) fn unknown_symbols(alloc: Global, count: usize) -> Result<Vec<Symbol>, AllocError>
-    ensures { IfOk result (λ v. map row_view v.items ≡ map (λ _. unknown) (numbers count)) }
+// Rows of symbols about which nothing is known yet.
+fn unknown_symbols(alloc: Global, count: usize) -> Result<Vec<Symbol>, AllocError>
+    ensures { IfOk result (λ v. v.items ≡ replicate count see.unknown) }
 {
     let mut symbols = Vec::with_capacity(alloc, count)?;
     for _ in 0..count {
         symbols.push(Symbol {
             symbol_type: SymbolType::Undefined,
             choice: MaybeChoice::empty(),
-            definitions: SymbolDefinitions::Empty,
+            first: EntryId::top(),
+            last_select: SelectorId::none(),
+            last_imply: SelectorId::none(),
         })?;
     }
     Ok(symbols)
 }
 
-// The first of two types.
-fn first_given_type(symbol_type: SymbolType, found: Option<SymbolType>) -> SymbolType
-    ensures { result ≡ first_given_type symbol_type found }
+// Adds a definition to its symbol, before the known ones: its type counts if it gives one. Returns the definition that
+// follows it.
+fn add_definition(symbol: &mut Symbol, at: EntryId, attributes: &[AttributeLine]) -> EntryId
+    ensures added { symbol.new ≡ see.with_definition at (first_of (filter_map facts.stated_type (statements_of attributes.now))) symbol.old }
+    ensures next { result ≡ symbol.old.first }
 {
-    match symbol_type {
-        SymbolType::Undefined => found.unwrap_or(SymbolType::Undefined),
-        _ => symbol_type,
+    let next = symbol.first;
+    symbol.first = at;
+    if let Some(symbol_type) = first_type(attributes) {
+        symbol.symbol_type = symbol_type;
     }
+    next
 }
 
-// Adds a definition to a symbol: its type and its choice count where none was found before.
-fn add_definition(
+/// Returns the rows of `count` symbols from their definitions; the places get the chains. It goes from the last entry to the
+/// first. So the chain of a symbol always begins with the first definition so far, and its type is the first that they give.
+pub(crate) fn definitions_of(
     alloc: Global,
-    symbol: &mut Symbol,
-    id: DefinitionId,
-    symbol_type: Option<SymbolType>,
-    choice: Option<ChoiceId>,
-) -> Result<(), AllocError>
-    ensures { OnOk result (row_view symbol.new ≡ with_definition id.0 symbol_type (option_map (λ k. k.0) choice) (row_view symbol.old)) }
+    entries: &Entries,
+    places: &mut Vec<EntryPlace>,
+    count: usize,
+) -> Result<Vec<Symbol>, AllocError>
+    requires few { IsFew entries.now }
+    requires places { length places.old.items ≡ entry_count entries.now }
+    requires below { AreBelow count (statements_in entries.now) }
+    ensures rows { IfOk result (λ symbols. see.AreRowsFrom entries.now 0 count symbols.items) }
+    ensures same { OnOk result (see.AreSamePlaces places.old.items places.new.items) }
+    ensures linked { OnOk result (see.AreLinkedFrom entries.now 0 places.new.items) }
 {
-    symbol.symbol_type = first_given_type(symbol.symbol_type, symbol_type);
-    symbol.choice = MaybeChoice::of(symbol.choice.get().or(choice))?;
-    symbol.definitions.push(alloc, id)
+    let mut symbols = unknown_symbols(alloc, count)?;
+    let mut left = entries.first_lines.len();
+    'entries: while left > 0 {
+        left -= 1;
+        if let Some(lines) = entries.entry(left) {
+            if let Head::Config(symbol) = &lines.first.head {
+                let row = &mut symbols[symbol.0];
+                places[left].next = add_definition(row, EntryId::of(left), lines.attributes);
+            }
+        }
+    }
+    Ok(symbols)
 }
 
-/// Adds a definition to its symbol, where that is one of the list: `kind` is the first type that its attributes give, and
-/// `choice` is the choice that it stands in.
-pub(crate) fn note_definition(
-    alloc: Global,
-    symbols: &mut Vec<Symbol>,
-    symbol: SymId,
-    id: DefinitionId,
-    symbol_type: Option<SymbolType>,
-    choice: Option<ChoiceId>,
-) -> Result<(), AllocError>
-    ensures { OnOk result (map row_view symbols.new.items ≡ reported id.0 symbol_type (option_map (λ k. k.0) choice) symbol (map row_view symbols.old.items)) }
+// Makes a symbol a member of a choice, unless it is a member of an earlier one. It becomes a bool if it has no type.
+fn make_member(symbol: &mut Symbol, choice: ChoiceId) -> Result<(), AllocError>
+    ensures { OnOk result (symbol.new ≡ see.as_member (Some choice) symbol.old) }
 {
-    if symbol.0 < symbols.len() {
-        add_definition(alloc, &mut symbols[symbol.0], id, symbol_type, choice)?;
+    if !symbol.choice.is_some() {
+        symbol.choice = MaybeChoice::of(Some(choice))?;
+    }
+    if let SymbolType::Undefined = symbol.symbol_type {
+        symbol.symbol_type = SymbolType::Bool;
     }
     Ok(())
 }
 
-/// Makes a bool of each choice's member without a type.
-pub(crate) fn give_member_types(symbols: &mut Vec<Symbol>)
-    ensures { HaveMemberTypes (map row_view symbols.old.items) (map row_view symbols.new.items) }
+/// Gives each member its first choice, and the type bool if it has no type.
+pub(crate) fn give_choices(symbols: &mut Vec<Symbol>, choices: &[Choice]) -> Result<(), AllocError>
+    requires few { length choices.now < 2 ^ 32 }
+    requires there { see.AreMembersThere (length symbols.old.items) choices.now }
+    ensures { OnOk result (see.AreMembersOf choices.now symbols.old.items symbols.new.items) }
 {
-    for i in 0..symbols.len() {
-        if symbols[i].choice.is_some() {
-            symbols[i].symbol_type = first_given_type(
-                symbols[i].symbol_type,
-                Some(SymbolType::Bool),
-            );
+    for (k, choice) in choices.iter().enumerate() {
+        for member in &choice.members {
+            make_member(&mut symbols[member.0], ChoiceId(k as u32))?;
         }
     }
+    Ok(())
 }
 
-/// The type of a symbol; a name that is not defined has none.
+/// The type of a symbol. A name that is not defined has none.
 pub(crate) fn type_of(symbols: &[Symbol], symbol: SymId) -> SymbolType
     ensures { result ≡ symbol_rows.type_by symbols.now symbol }
 {
@@ -95,7 +115,7 @@ pub(crate) fn type_of(symbols: &[Symbol], symbol: SymId) -> SymbolType
     }
 }
 
-/// The choice of which a symbol is a member.
+/// The choice that a symbol is a member of.
 pub(crate) fn choice_of(symbols: &[Symbol], symbol: SymId) -> Option<ChoiceId>
     ensures { option_map (λ k. k.0) result ≡ symbol_rows.choice_by symbols.now symbol }
 {
@@ -105,7 +125,7 @@ pub(crate) fn choice_of(symbols: &[Symbol], symbol: SymId) -> Option<ChoiceId>
     }
 }
 
-/// The symbol is a member of the choice.
+/// Whether the symbol is a member of the choice.
 pub(crate) fn is_member(symbols: &[Symbol], choice: ChoiceId, symbol: SymId) -> bool
     ensures { result ≡ symbol_rows.member_by symbols.now choice.0 symbol }
 {
@@ -115,17 +135,7 @@ pub(crate) fn is_member(symbols: &[Symbol], choice: ChoiceId, symbol: SymId) -> 
     }
 }
 
-/// The symbol has no definition yet.
-pub(crate) fn is_new(symbols: &[Symbol], symbol: SymId) -> bool
-    ensures { result ≡ symbol_rows.is_new_by symbols.now symbol }
-{
-    match symbols.get(symbol.0) {
-        Some(found) => found.definitions.get(0).is_none(),
-        None => false,
-    }
-}
-
-/// The value of a symbol of this type is a text.
+/// Whether a symbol of this type is a string, int or hex symbol.
 pub(crate) fn has_text(symbol_type: SymbolType) -> bool
     ensures { result ≡ facts.holds_text symbol_type }
 {

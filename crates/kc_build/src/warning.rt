@@ -4,16 +4,16 @@ ghost use Rattle.std.specs.Prelude.{◌≡◌, IfOk};
 ghost use Rattle.kc_diagnostics.specs.Warnings.{shown_warning};
 ghost use Rattle.kc_language.specs.Symbols.{name_by};
 ghost use Rattle.kc_language.specs.Symbols as spec;
-ghost use Rattle.kc_read.specs.PartsOfSymbols as spec_parts;
+ghost use Rattle.kc_entries.specs.PartsOfSymbols as spec_parts;
 
-use crate::lines::SelectOrImply;
 use kc_diagnostics::{Warning, add_located};
 use kc_expr::expression::SymId;
 use kc_expr::names::Names;
 pub(crate) use kc_language::symbols::LineWarning;
+use kc_language::symbols::SelectOrImply;
 use std::alloc::{AllocError, Global};
 
-/// Where a line stands: its file and its number.
+/// The location of a line: its file and its number.
 #[derive(Clone, Copy, Debug)]
 pub(crate) struct Place<'a> {
     pub file: &'a [u8],
@@ -30,7 +30,7 @@ fn name_of(names: &Names, symbol: SymId) -> &[u8]
     }
 }
 
-/// The name of the symbol whose entry it is, or `choice`.
+/// The name of the symbol of an entry, or `choice`.
 pub(crate) fn entry_name(names: &Names, symbol: Option<SymId>) -> &[u8]
     ensures { result.now ≡ spec.entry_name names.now symbol }
 {
@@ -40,7 +40,7 @@ pub(crate) fn entry_name(names: &Names, symbol: Option<SymId>) -> &[u8]
     }
 }
 
-// The word of the line.
+// The keyword of the line.
 fn keyword_text<'a>(word: SelectOrImply) -> &'a [u8]
     ensures { result.now ≡ spec.keyword_text word }
 {
@@ -70,7 +70,7 @@ fn named<'n>(names: &'n Names, warning: LineWarning) -> Warning<&'n [u8]>
     }
 }
 
-/// The whole line of a warning about a line at this place.
+/// The whole line of a warning about a line at this location.
 pub(crate) fn line_of(
     alloc: Global,
     names: &Names,

@@ -1,13 +1,13 @@
-//! Reading a `.config` in any chunks: the warnings, the results and the pending bytes (kc_config_file).
+//! Reading a `.config` in any chunks: the warnings, the results and the pending bytes (kc_input).
 ghost use Rattle.std.specs.Prelude.{◌≡◌};
 ghost use Rattle.kc_language.specs.ConfigFile.{ArePlacesOf};
 
 use crate::trial::{Claim, is_true_of};
-use kc_config_file::fault::InputFault;
-use kc_config_file::prefix::Prefix;
-use kc_config_file::reader::InputReader;
-use kc_config_file::user_input::UserInput;
 use kc_expr::expression::Tri;
+use kc_input::fault::InputFault;
+use kc_input::prefix::Prefix;
+use kc_input::reader::InputReader;
+use kc_input::user_input::UserInput;
 use kc_tree::tree::Tree;
 use kc_user::value::UserValue;
 use std::alloc::{AllocError, Global};

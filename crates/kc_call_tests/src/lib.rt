@@ -1,8 +1,11 @@
-//! Tests of single calls of the crates up to kc_config_file. They cover what no run of the program shows: limits whose
-//! inputs are generated, a folder that fails, a `.config` in chunks, the order in which files are read, the plain slow
-//! solver compared with the solver, user values, and generic functions at a type. Whole runs are cases in kconf_cases.
+//! Tests of single calls of the crates up to kc_solve and of kc_input. They cover what no run of the program shows:
+//! limits whose inputs are generated, a folder that fails, a `.config` in chunks, the order in which files are read,
+//! the plain slow solver compared with the solver, user values, and generic functions at a type. Whole runs are cases
+//! in kconf_cases.
 #![tactic(auto)]
 
+#[cfg(test)]
+mod bounds;
 #[cfg(test)]
 mod config_reader;
 #[cfg(test)]

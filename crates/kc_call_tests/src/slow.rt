@@ -1,11 +1,10 @@
 //! The plain slow solver, with which the tests compare the solver: it computes every value again in each iteration.
 
-ghost use Rattle.std.specs.Prelude.{◌≡◌, ◌<◌, length, replicate, slice_get, None, Some, IfOk, IfSome, OnOk, []};
+ghost use Rattle.std.specs.Prelude.{◌≡◌, ◌<◌, ℕ, length, slice_get, Some, IfOk, IfSome, OnOk, []};
 ghost use Rattle.kc_expr.specs.Value.{value_by_type};
 ghost use Rattle.kc_language.specs.declared.expressions.Tri.TheVariants.{N};
 ghost use Rattle.kc_language.specs.Values.{IsOnlySolution, Solves, SymbolPlace, equations, name_count};
-ghost use Rattle.kc_solve.specs.Computing.{IsComputedSymbol};
-ghost use Rattle.kc_solve.specs.Graphs.{IsGraphOf};
+ghost use Rattle.kc_solve.specs.Computing.{IsComputedSymbol, IsUnread};
 ghost use Rattle.kc_solve.specs.PlaceLists.{places};
 ghost use Rattle.kc_solve.specs.Kept.{valuation};
 ghost use Rattle.kc_language.specs.ConfigFile.{ArePlacesOf, place_at};
@@ -13,10 +12,9 @@ ghost use Rattle.kc_values.specs.AtTable as at;
 ghost use Rattle.kc_language.specs.Needs.{IsAccepted};
 ghost use Rattle.kc_values.specs.Selections.{given_for, member_given};
 ghost use Rattle.kc_values.specs.Table.{known_value};
+ghost use Rattle.kc_values.specs.TableFacts.{IsRowOf};
 
 use kc_expr::expression::{SymId, SymbolType, Tri};
-use kc_order::ordered_are_accepted;
-use kc_solve::evaluation_order::EvaluationOrder;
 use kc_tree::laid_tree::LaidTree;
 use kc_tree::layout::Layout;
 use kc_tree::rows::{ChoiceId, Symbol};
@@ -68,11 +66,11 @@ fn first_values(alloc: Global, tree: &Tree) -> Result<SparseVec<Value>, AllocErr
     Ok(values)
 }
 
-// A table of n and empty texts, without computed contexts and selections.
+// A table of n and empty texts, where nothing is computed that names a symbol.
 fn first_table<'t>(alloc: Global, laid: &LaidTree<'t>) -> Result<Table<'t>, AllocError>
     ensures tree { IfOk result (λ t. t.tree.now ≡ laid.now.tree.now) }
     ensures count { IfOk result (λ t. length t.values ≡ name_count laid.now.tree.now) }
-    ensures unsettled { IfOk result (λ t. t.contexts.items ≡ replicate (length laid.now.layout.now.tables.contexts) None) }
+    ensures unread { IfOk result (λ t. (s : ℕ) → IsUnread t s) }
 {
     let mut table = Table::empty(alloc, laid)?;
     table.values = first_values(alloc, laid.tree)?;
@@ -99,7 +97,7 @@ fn value_anew(
     given: &SparseVec<UserValue>,
     chosen: &[Option<SymId>],
 ) -> Result<Value, AllocError>
-    requires below { id.0 < length given.now }
+    requires row { IsRowOf table.now id symbol.now }
     requires users { IfSome symbol.now.choice (λ c. c.0 < length chosen.now) }
     ensures { IfOk result (λ x. known_value symbol.now.symbol_type x
         ≡ at.equation table.now id symbol.now (given_for symbol.now.choice (places given.now chosen.now (SymbolPlace id.0)) chosen.now)) }
@@ -126,7 +124,7 @@ fn compute_anew(
     requires full { length table.old.values ≡ name_count table.old.tree.now }
     requires given { length given.now ≡ length table.old.values }
     requires chosen { length chosen.now ≡ length table.old.tree.now.choices }
-    requires unsettled { table.old.contexts.items ≡ replicate (length table.old.contexts.items) None }
+    requires unread { IsUnread table.old id.0 }
     ensures { OnOk result (IsComputedSymbol given.now chosen.now id table.old table.new) }
 {
     // A member's choice exists in the tree: this follows from `name_count`.
@@ -139,25 +137,21 @@ fn compute_anew(
 
 /// Computes the values that [`kc_solve::solve::solve`] computes, in the plainest way. In a table of n and empty texts
 /// it computes every equation again, one symbol after another in the order of their first mention, in as many
-/// iterations as there are symbols. The order is only needed as a proof that there is one (our own). The caller must
-/// pass an order and user values of that tree. Fails only if there is not enough memory.
+/// iterations as there are symbols (our own). The caller must pass a tree without dependency loops, and user values of
+/// that tree. Fails only if there is not enough memory.
 pub(crate) fn slow_table<'t>(
     alloc: Global,
     laid: &LaidTree<'t>,
-    order: &EvaluationOrder,
     user: &User,
 ) -> Result<Table<'t>, AllocError>
-    requires order { IsGraphOf laid.now order.now }
+    requires accepted { IsAccepted laid.now.tree.now }
     requires user { ArePlacesOf laid.now.tree.now user.now }
     ensures tree { IfOk result (λ t. t.tree.now ≡ laid.now.tree.now) }
-    ensures accepted { OnOk result (IsAccepted laid.now.tree.now) }
     ensures count { IfOk result (λ t. length t.values ≡ name_count laid.now.tree.now) }
     ensures solves { IfOk result (λ t. Solves (name_count laid.now.tree.now) (equations laid.now.tree.now (place_at user.now)) (valuation laid.now.tree.now t.values)) }
     ensures only { IfOk result (λ t. IsOnlySolution (name_count laid.now.tree.now) (equations laid.now.tree.now (place_at user.now)) (valuation laid.now.tree.now t.values)) }
 {
     accepted_have_one_solution();
-    ordered_are_accepted();
-    let _nodes = order.nodes();
     let count = laid.tree.name_count();
     let given = user.symbols();
     let chosen = user.choices();

@@ -1,5 +1,7 @@
 //! The results of the plain slow solver, as lines.
 
+ghost use Rattle.kc_values.specs.TableFacts.{IsRowOf};
+
 use crate::trial::{SymbolReport, choice_count, choice_into, symbol_into, warnings_into};
 use kc_diagnostics::Warning;
 use kc_expr::expression::{SymId, SymbolType};
@@ -45,7 +47,9 @@ fn differs(
     user: &User,
     id: SymId,
     symbol: &Symbol,
-) -> Result<bool, AllocError> {
+) -> Result<bool, AllocError>
+    requires row { IsRowOf table.now id symbol.now }
+{
     if let Some(choice) = symbol.choice.get() {
         let selection = selected_in(table, choice, chosen(user, choice));
         let default = selected_in(table, choice, None);
@@ -74,10 +78,10 @@ fn symbol_line(
     out: &mut Vec<u8>,
     warned: &mut Vec<Warning<Vec<u8>>>,
 ) -> Result<(), AllocError> {
-    let Some(symbol) = table.tree.facts(id) else {
+    let Some(symbol) = table.layout.symbol(id) else {
         return Ok(());
     };
-    let shown = visibility(table, symbol);
+    let shown = visibility(table, id, symbol);
     let report = SymbolReport {
         name: name(table.tree, id),
         value: text_of(table, id),

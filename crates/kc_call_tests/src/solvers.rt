@@ -1,7 +1,8 @@
 //! The solver compared with the plain slow one (kc_solve): they agree on each tree.
 
-ghost use Rattle.kc_solve.specs.Graphs.{IsGraphOf};
+ghost use Rattle.kc_solve.specs.Orders.{IsOrderOf};
 ghost use Rattle.kc_language.specs.ConfigFile.{ArePlacesOf};
+ghost use Rattle.kc_language.specs.Needs.{IsAccepted};
 
 use crate::slow::slow_table;
 use crate::trees::{CHOICES, LIMITS, Setup, TEXTS, TRUTHS};
@@ -22,7 +23,7 @@ fn solved_into(
     user: &User,
     out: &mut Vec<u8>,
 ) -> bool
-    requires order { IsGraphOf laid.now order.now }
+    requires order { IsOrderOf laid.now order.now }
     requires user { ArePlacesOf laid.now.tree.now user.now }
 {
     match solve(alloc, laid, order, user) {
@@ -32,18 +33,12 @@ fn solved_into(
 }
 
 // Adds the results of the plain slow solver. Returns whether there is a solution.
-fn slowly_solved_into(
-    alloc: Global,
-    laid: &LaidTree<'_>,
-    order: &EvaluationOrder,
-    user: &User,
-    out: &mut Vec<u8>,
-) -> bool
-    requires order { IsGraphOf laid.now order.now }
+fn slowly_solved_into(alloc: Global, laid: &LaidTree<'_>, user: &User, out: &mut Vec<u8>) -> bool
+    requires accepted { IsAccepted laid.now.tree.now }
     requires user { ArePlacesOf laid.now.tree.now user.now }
 {
     let mut warnings = Vec::new(alloc);
-    match slow_table(alloc, laid, order, user) {
+    match slow_table(alloc, laid, user) {
         Ok(table) => slow_lines::lines_into(alloc, &table, user, out, &mut warnings).is_ok(),
         Err(_) => false,
     }
@@ -51,13 +46,13 @@ fn slowly_solved_into(
 
 // Whether both have the same results.
 fn agree_along(alloc: Global, laid: &LaidTree<'_>, order: &EvaluationOrder, user: &User) -> bool
-    requires order { IsGraphOf laid.now order.now }
+    requires order { IsOrderOf laid.now order.now }
     requires user { ArePlacesOf laid.now.tree.now user.now }
 {
     let mut found = Vec::new(alloc);
     let mut slowly = Vec::new(alloc);
     solved_into(alloc, laid, order, user, &mut found)
-        && slowly_solved_into(alloc, laid, order, user, &mut slowly)
+        && slowly_solved_into(alloc, laid, user, &mut slowly)
         && found.as_slice() == slowly.as_slice()
 }
 

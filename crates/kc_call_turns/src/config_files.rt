@@ -1,18 +1,18 @@
 //! Reading a `.config`, values, and the three files.
 ghost use Rattle.std.specs.Prelude.{◌≡◌};
 ghost use Rattle.kc_language.specs.ConfigFile.{ArePlacesOf};
-ghost use Rattle.kc_solve.specs.Graphs.{IsGraphOf};
+ghost use Rattle.kc_solve.specs.Orders.{IsOrderOf};
 
 use crate::end::{CallEnd, done, refused};
 use crate::trees::TreeCall;
 use kc_config_file::config::config_text;
-use kc_config_file::fault::InputFault;
 use kc_config_file::header::{header_text, minimal_text};
-use kc_config_file::prefix::Prefix;
-use kc_config_file::reader::InputReader;
-use kc_config_file::user_input::UserInput;
 use kc_expr::expression::{SymId, Tri};
 use kc_expr::values::Values;
+use kc_input::fault::InputFault;
+use kc_input::prefix::Prefix;
+use kc_input::reader::InputReader;
+use kc_input::user_input::UserInput;
 use kc_solve::evaluation_order::EvaluationOrder;
 use kc_solve::solve::solve;
 use kc_solve::solved::Solved;
@@ -246,7 +246,7 @@ fn end_in_order(
     prefix: &Prefix,
     work: Work,
 ) -> Result<CallEnd, AllocError>
-    requires order { IsGraphOf laid.now order.now }
+    requires order { IsOrderOf laid.now order.now }
     requires user { ArePlacesOf laid.now.tree.now user.now }
 {
     match (solve(alloc, laid, order, user), work) {

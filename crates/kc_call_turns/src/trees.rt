@@ -179,7 +179,7 @@ pub(crate) fn call_build(alloc: Global) -> Result<CallEnd, AllocError> {
     }
 }
 
-// A comes before B, and each symbol once.
+// A stands before B, and N and U are there. The words 5, 10 and 20 define nothing, so the order may leave them out.
 fn is_order(nodes: &[u32]) -> bool {
     let first = nodes.iter().position(|node| *node == 0);
     let second = nodes.iter().position(|node| *node == 1);
@@ -187,7 +187,7 @@ fn is_order(nodes: &[u32]) -> bool {
         && first.is_some()
         && first < second
         && nodes.contains(&2)
-        && nodes.contains(&3)
+        && nodes.contains(&6)
 }
 
 // The result of the call for the refusal of a tree with a dependency loop.

@@ -1,6 +1,6 @@
 -- That no line of the streams goes unaccounted for where lost values are warned of.
 use Rattle.std.proofs.Common.{◌≡◌, ◌≢◌, ◌⊎◌, inl, inr, ℕ, ◌<◌, zero, suc, Bool, true, false, List, [], ◌∷◌, ◌++◌, length, Some, None, refl, sym, ap, subst, ◌∙◌, append_assoc, append-nil, codes, eqb, map, Option}
-use Rattle.std.specs.Prelude.{◌&&◌, ◌||◌, not, find, is_some, replicate, slice_index_or, if◌then◌else◌, option_map}
+use Rattle.std.specs.Prelude.{◌&&◌, ◌||◌, ◌==◌, filter, not, find, is_some, replicate, slice_index_or, if◌then◌else◌, option_map}
 use Rattle.std.specs.List.{All, Contains, flat_map, slice_get}
 use Rattle.std.proofs.lemmas.Grind.{flat_map-append}
 use Rattle.std.proofs.lemmas.List.{get_or-set_same, get_or-set_other, length-replicate}
@@ -13,28 +13,27 @@ use Rattle.kc_language.specs.declared.expressions.SymId.{SymId}
 use Rattle.kc_language.specs.declared.expressions.SymbolType.TheVariants.{Undefined}
 use Rattle.kc_language.specs.declared.expressions.Tri.{Tri}
 use Rattle.kc_language.specs.declared.expressions.Tri.TheVariants.{N, M, Y}
-use Rattle.kc_language.specs.Expansion.{Files, numbered_lines}
-use Rattle.kc_language.specs.Explanations.{explanation_text}
-use Rattle.kc_language.specs.Statements.{Located, Numbered}
+use Rattle.kc_language.specs.Expansion.{Files}
 use Rattle.kc_language.specs.Symbols.{SymbolFacts, TreeFacts, Warning}
-use Rattle.kc_tree.specs.TreeFacts.{IsWellFormed}
+use Rattle.kc_entries.specs.WellFormed.{IsWellFormed}
 use Rattle.kc_build.specs.Trees.{TreesAreWellFormed}
 use Rattle.kc_language.specs.Values.{GivenValue, GivenTruth, GivenText, Member, SymbolPlace, same_given, same_tri, given_of, facts, name, type_in}
 use Rattle.kc_language.specs.{ConfigFile.{ArePlacesOf, Assigns, Effect, Line, Notation, Places, Silent, StreamLocation, UserInput, Warns, change_text, effect, input_after, is_reported, is_within, lines_of, line_meaning, place_at, plain_line, plain_location, reading, stream_location, warning, located_warning_line, warnings}}
-use Rattle.kc_config_file.specs.PartsOfConfigFile.{change_line}
-use Rattle.kc_config_file.specs.PartsOfConfigFile.{type_of, before_too_long, effect_text, warning_line_if}
+use Rattle.kc_input.specs.PartsOfConfigFile.{change_line}
+use Rattle.kc_input.specs.PartsOfConfigFile.{type_of, before_too_long, effect_text, warning_line_if}
 use Rattle.kc_language.specs.Texts.{Solution, known, warnings as value_warnings, has_prompt, lost_at, lost_by, lost_lines, lost_of}
 use Rattle.kc_conf.specs.PartsOfTexts.{lost_line}
 use Rattle.kc_language.specs.declared.diagnostics.Warning.TheVariants.{SetAgain}
-use Rattle.kc_config_file.specs.ReadingLaws.{LinesGiveInTurn, LinesInTurn}
+use Rattle.kc_input.specs.ReadingLaws.{LinesGiveInTurn, LinesInTurn}
 use Rattle.kc_conf.specs.Laws.{DoneAreWhole, HoldsLine, IsAccountedFor, IsSetAgain, NothingIsLost, RefusesNothing}
 use Rattle.kc_conf.specs.PartsOfLaws.{IsKeptOrWarned, LeavesAlone}
-use Rattle.kc_language.specs.Outcome.{Options, lead, Outcome, lines_text, lost_text, lost_warnings, input_names, reported, read_of, root_file, streams, warned_files, with_rule}
-use Rattle.kc_language.specs.Outcome.{fresh_input}
-use Rattle.kc_conf.specs.Computed.{explanation_lead}
+use Rattle.kc_outcome.specs.Outcome.{Options, lead, Outcome, done_outcome, lines_text, lost_symbols, lost_text, lost_warnings, input_names, reported, read_of, root_file, streams, wants}
+use Rattle.kc_outcome.specs.Outcome.{fresh_input}
+use Rattle.kc_outcome.specs.declared.outcome.Output.{Output}
 use Rattle.kc_conf.specs.Faults.{AreLines}
 use Rattle.kc_conf.proofs.{EffectLemmas.{all_reported, assigned_typed, effect_is, silent_says}, RerunLemmas.{has_its_texts}}
-use Rattle.kc_conf.proofs.ExplainedLemmas.{AreLines-explanation, one_line}
+use Rattle.kc_conf.proofs.ExplainedLemmas.{AreLines-behind}
+use Rattle.kc_conf.proofs.LostLemmas.{behind, causes_text, lost_text_if, told_at}
 use Rattle.kc_conf.proofs.PartLemmas.{AreLines-append, AreLines-each, AreLines-nothing, AreLines-reading, AreLines-warning_if, AreLines-warnings}
 
 -- ---- lines that stand in texts
@@ -56,14 +55,18 @@ stands_within : (front part back text : List ℕ) → AreLines front → StandsI
 stands_within front part back text whole (before, after, is, lines) =
     (before ++ front, back ++ after, is ∙ simp append_assoc, AreLines-append before front lines whole)
 
--- one of whole texts stands among all of them
-stands_in_all : {X : Type 0} (g : X → List ℕ) → ((x : X) → AreLines (g x)) → (xs : List X) (i : ℕ) (x : X) (part : List ℕ) → slice_get xs i ≡ Some x → StandsIn part (g x) →
-    StandsIn part (flat_map g xs)
-stands_in_all g whole [] i x part e stands = absurd (let clash : None ≡ Some x = e in cc)
-stands_in_all g whole (y ∷ xs) zero x part e stands =
+-- one of whole texts that are kept stands among all of them
+stands_in_kept : {X : Type 0} (g : X → List ℕ) (p : X → Bool) → ((x : X) → AreLines (g x)) → (xs : List X) (i : ℕ) (x : X) (part : List ℕ) → slice_get xs i ≡ Some x → p x ≡ true →
+    StandsIn part (g x) → StandsIn part (flat_map g (filter p xs))
+stands_in_kept g p whole [] i x part e kept stands = absurd (let clash : None ≡ Some x = e in cc)
+stands_in_kept {X} g p whole (y ∷ xs) zero x part e kept stands =
     let same : y ≡ x = (let both : Some y ≡ Some x = e in cc) in
-    stands_before (flat_map g xs) part (g y) (subst (λ z. StandsIn part (g z)) (sym same) stands)
-stands_in_all g whole (y ∷ xs) (suc i) x part e stands = stands_after (g y) part (flat_map g xs) (whole y) (stands_in_all g whole xs i x part e stands)
+    subst (λ b. StandsIn part (flat_map g (if b then y ∷ filter p xs else filter p xs))) (sym (ap p same ∙ kept))
+    (stands_before (flat_map g (filter p xs)) part (g y) (subst (λ z. StandsIn part (g z)) (sym same) stands))
+stands_in_kept g p whole (y ∷ xs) (suc i) x part e kept stands = by (p y) (stands_in_kept g p whole xs i x part e kept stands) where
+  by : (b : Bool) → StandsIn part (flat_map g (filter p xs)) → StandsIn part (flat_map g (if b then y ∷ filter p xs else filter p xs))
+  by true rest = stands_after (g y) part (flat_map g (filter p xs)) (whole y) rest
+  by false rest = rest
 
 -- ---- one value
 
@@ -128,26 +131,30 @@ module _ (is_raw : Bool) (lines : List (Option StreamLocation)) (s : Solution) (
         let here : lost_at is_raw lines s id ≡ line_of ∷ [] = lost_here ∙ ap (λ b. if b then [] else line_of ∷ []) e in
         inr (line_stands line_of (lost_lines is_raw lines s) before after (is ∙ ap (λ l. before ++ (l ++ after)) here))
 
-  -- the same where whole lines follow each of them
+  -- the same where whole lines follow those of each lost symbol
   module _ (behind : SymId → List ℕ) (whole : (x : SymId) → AreLines (behind x)) where
     abbrev told_all : SymId → List ℕ
-    told_all x = flat_map (λ line. line ++ codes "\n" ++ behind x) (lost_at is_raw lines s x)
+    told_all x = lines_text (lost_at is_raw lines s x) ++ behind x
+
+    abbrev is_lost : SymId → Bool
+    is_lost x = not (length (lost_at is_raw lines s x) == 0)
 
     all_whole : (x : SymId) → AreLines (told_all x)
-    all_whole x = AreLines-each (λ line. line ++ codes "\n" ++ behind x) (lost_at is_raw lines s x) (λ line. AreLines-append (line ++ codes "\n") (behind x) (one_line line) (whole x))
+    all_whole x = AreLines-append (lines_text (lost_at is_raw lines s x)) (behind x) (lost_at is_raw lines s x, refl) (whole x)
 
     told_here : lost_at is_raw lines s id ≡ line_of ∷ [] → StandsIn (line_of ++ codes "\n") (told_all id)
     told_here is =
-        subst (λ ls. StandsIn (line_of ++ codes "\n") (flat_map (λ line. line ++ codes "\n" ++ behind id) ls)) (sym is)
-        (stands_before [] (line_of ++ codes "\n") (line_of ++ codes "\n" ++ behind id) (stands_first (line_of ++ codes "\n") (behind id)))
+        stands_before (behind id) (line_of ++ codes "\n") (lines_text (lost_at is_raw lines s id))
+        (subst (λ ls. StandsIn (line_of ++ codes "\n") (lines_text ls)) (sym is) (stands_first (line_of ++ codes "\n") []))
 
-    kept_or_explained : (given ≡ value) ⊎ StandsIn (line_of ++ codes "\n") (flat_map told_all s.tree.defined)
+    kept_or_explained : (given ≡ value) ⊎ StandsIn (line_of ++ codes "\n") (flat_map told_all (filter is_lost s.tree.defined))
     kept_or_explained = by (same_given given value) refl where
-      by : (b : Bool) → same_given given value ≡ b → (given ≡ value) ⊎ StandsIn (line_of ++ codes "\n") (flat_map told_all s.tree.defined)
+      by : (b : Bool) → same_given given value ≡ b → (given ≡ value) ⊎ StandsIn (line_of ++ codes "\n") (flat_map told_all (filter is_lost s.tree.defined))
       by true e = inl (given_is given value e)
       by false e =
-          inr (stands_in_all told_all all_whole s.tree.defined one.0 id (line_of ++ codes "\n") (slice_get-get_or s.tree.defined one.0 id one.1 ∙ ap Some one.2)
-          (told_here (lost_here ∙ ap (λ b. if b then [] else line_of ∷ []) e)))
+          let here : lost_at is_raw lines s id ≡ line_of ∷ [] = lost_here ∙ ap (λ b. if b then [] else line_of ∷ []) e in
+          inr (stands_in_kept told_all is_lost all_whole s.tree.defined one.0 id (line_of ++ codes "\n") (slice_get-get_or s.tree.defined one.0 id one.1 ∙ ap Some one.2)
+          (ap (λ ls. not (length ls == 0)) here) (told_here here))
 
   -- where no line is lost, what was given is the value
   pub lost_if : lost_lines is_raw lines s ≡ [] → given ≡ value
@@ -327,24 +334,24 @@ module _ (files : Files) (options : Options) (all : List (List ℕ)) (tree : Tre
   abbrev last_lines : List (Option StreamLocation)
   last_lines = (input_after tree prefix empty lines).lines
 
-  module _ (formed : IsWellFormed tree) (turn : LinesInTurn tree prefix) (asked : options.warn_lost ≡ true) (outcome : Outcome) (opened : List (List ℕ)) (tree_lines : List (Located Numbered)) (is : outcome ≡ with_rule options opened
-      (reported (lines_text tree.warnings) (reported (read_of options tree all).warned (warned_files files options tree tree_lines (read_of options tree all).input solution)))) where
+  module _ (formed : IsWellFormed tree) (turn : LinesInTurn tree prefix) (asked : options.warn_lost ≡ true) (outcome : Outcome) (opened : List (List ℕ)) (is : outcome ≡ reported (lines_text tree.warnings)
+      (reported (read_of options tree all).warned (done_outcome files options opened (read_of options tree all).input solution))) where
     abbrev last : UserInput
     last = input_after tree prefix empty lines
 
-    diagnostics_are : outcome.warned ≡ lines_text tree.warnings ++ (warnings tree prefix empty lines ++ (lines_text (map (λ line. lead options ++ line) (value_warnings solution)) ++ lost_text options tree_lines last solution))
+    diagnostics_are : outcome.warned ≡ lines_text tree.warnings ++ (warnings tree prefix empty lines ++ (lines_text (map (λ line. lead options ++ line) (value_warnings solution)) ++ lost_text options last solution))
     diagnostics_are =
         ap (λ (o : Outcome). o.warned) is
-        ∙ ap (λ w. lines_text tree.warnings ++ (w ++ (lines_text (map (λ line. lead options ++ line) (value_warnings solution)) ++ lost_text options tree_lines (read_of options tree all).input solution))) warned_are
-        ∙ ap (λ (i : UserInput). lines_text tree.warnings ++ (warnings tree prefix empty lines ++ (lines_text (map (λ line. lead options ++ line) (value_warnings solution)) ++ lost_text options tree_lines i solution))) input_is
+        ∙ ap (λ w. lines_text tree.warnings ++ (w ++ (lines_text (map (λ line. lead options ++ line) (value_warnings solution)) ++ lost_text options (read_of options tree all).input solution))) warned_are
+        ∙ ap (λ (i : UserInput). lines_text tree.warnings ++ (warnings tree prefix empty lines ++ (lines_text (map (λ line. lead options ++ line) (value_warnings solution)) ++ lost_text options i solution))) input_is
 
     -- what is warned of as the streams are read stands in the notes, and so does what is lost
     of_streams : (part : List ℕ) → StandsIn part (warnings tree prefix empty lines) → StandsIn part outcome.warned
     of_streams part stands =
         subst (StandsIn part) (sym diagnostics_are)
-        (stands_after (lines_text tree.warnings) part _ (tree.warnings, refl) (stands_before (lines_text (map (λ line. lead options ++ line) (value_warnings solution)) ++ lost_text options tree_lines last solution) part _ stands))
+        (stands_after (lines_text tree.warnings) part _ (tree.warnings, refl) (stands_before (lines_text (map (λ line. lead options ++ line) (value_warnings solution)) ++ lost_text options last solution) part _ stands))
 
-    of_lost : (part : List ℕ) → StandsIn part (lost_text options tree_lines last solution) → StandsIn part outcome.warned
+    of_lost : (part : List ℕ) → StandsIn part (lost_text options last solution) → StandsIn part outcome.warned
     of_lost part stands =
         subst (StandsIn part) (sym diagnostics_are)
         (stands_after (lines_text tree.warnings) part _ (tree.warnings, refl)
@@ -381,7 +388,7 @@ module _ (files : Files) (options : Options) (all : List (List ℕ)) (tree : Tre
       line_counts : length (input_after tree prefix empty before).lines ≡ length tree.symbols
       line_counts =
           turn.counts.lines empty before
-          ∙ ap (λ b. length (if b || is_some options.explanation then replicate (length tree.symbols) no_line else [])) asked
+          ∙ ap (λ b. length (if b || wants options Output.Explanation then replicate (length tree.symbols) no_line else [])) asked
           ∙ length-replicate (length tree.symbols) no_line
 
       line_below : s.0 < length (input_after tree prefix empty before).lines
@@ -396,18 +403,11 @@ module _ (files : Files) (options : Options) (all : List (List ℕ)) (tree : Tre
       abbrev line_told_of : TreeFacts → List ℕ
       line_told_of t = lost_line prefix.is_raw (has_prompt f.prompts) (stream_location l) (name t s) f.symbol_type given (given_of (known solution s)) ++ codes "\n"
 
-      abbrev explained : SymId → List ℕ
-      explained x = explanation_text tree_lines solution last prefix.is_raw (explanation_lead options) 1 x
-
-      abbrev text_by : Bool → List ℕ
-      text_by b = if b then flat_map (λ x. flat_map (λ line. line ++ codes "\n" ++ explained x) (lost_at prefix.is_raw last_lines solution x)) solution.tree.defined
-          else lines_text (lost_warnings options last solution)
-
-      heard_in : (b : Bool) → (options.explain_lost && options.warn_lost) ≡ b → StandsIn (line_told_of solution.tree) (text_by b) → IsKeptOrWarned prefix.is_raw tree solution outcome.warned l s f given
+      heard_in : (b : Bool) → (options.explain_lost && options.warn_lost) ≡ b → StandsIn (line_told_of solution.tree) (lost_text_if options last solution b) → IsKeptOrWarned prefix.is_raw tree solution outcome.warned l s f given
       heard_in b e told =
           inr (of_lost (line_told_of tree)
-          (subst (λ (t : TreeFacts). StandsIn (line_told_of t) (lost_text options tree_lines last solution)) is_whole.solution_is.tree_is
-          (subst (λ c. StandsIn (line_told_of solution.tree) (text_by c)) (sym e) told)))
+          (subst (λ (t : TreeFacts). StandsIn (line_told_of t) (lost_text options last solution)) is_whole.solution_is.tree_is
+          (subst (λ c. StandsIn (line_told_of solution.tree) (lost_text_if options last solution c)) (sym e) told)))
 
       kept : Has (input_after tree prefix here later) s.0 given (stream_location l) → IsKeptOrWarned prefix.is_raw tree solution outcome.warned l s f given
       kept stays = by (options.explain_lost && options.warn_lost) refl
@@ -427,9 +427,10 @@ module _ (files : Files) (options : Options) (all : List (List ℕ)) (tree : Tre
           by : (b : Bool) → (options.explain_lost && options.warn_lost) ≡ b → IsKeptOrWarned prefix.is_raw tree solution outcome.warned l s f given
           by true e = elim (kept_or_explained prefix.is_raw last_lines solution s f given (stream_location l) (subst (λ (t : TreeFacts). facts t s ≡ Some f) (sym is_whole.solution_is.tree_is) defined)
               (subst (λ (t : TreeFacts). Contains t.defined s) (sym is_whole.solution_is.tree_is) (formed.typed_defined s f defined typed)) there by_line
-              explained (AreLines-explanation prefix.is_raw tree_lines last solution (explanation_lead options) 1)) [
+              (behind options last solution) (AreLines-behind options last solution)) [
                 | inl same ↦ inl same
-                | inr told ↦ heard_in true e told
+                | inr told ↦ heard_in true e (stands_before (causes_text options last solution (lost_symbols options last solution) (length (lost_symbols options last solution)))
+                    (line_told_of solution.tree) (flat_map (told_at options last solution) (lost_symbols options last solution)) told)
               ]
           by false e = elim (kept_or_told prefix.is_raw last_lines solution s f given (stream_location l) (subst (λ (t : TreeFacts). facts t s ≡ Some f) (sym is_whole.solution_is.tree_is) defined)
               (subst (λ (t : TreeFacts). Contains t.defined s) (sym is_whole.solution_is.tree_is) (formed.typed_defined s f defined typed)) there by_line) [
@@ -504,11 +505,10 @@ module _ (files : Files) (options : Options) (all : List (List ℕ)) (tree : Tre
 
 pub nothing_lost : TreesAreWellFormed → DoneAreWhole → LinesGiveInTurn → NothingIsLost
 nothing_lost trees wholes turns files options all outcome is_outcome done asked =
-    let (tree, solution, is_whole, (opened, are, log, expands, is), passed) = wholes files options all outcome is_outcome done in (
+    let (tree, solution, is_whole, (opened, are, is), passed) = wholes files options all outcome is_outcome done in (
       tree,
       solution,
       is_whole,
-      has_its_texts files options all outcome tree solution opened log is,
-      each_accounted_for files options all tree solution is_whole (trees files (root_file options) tree is_whole.accepted.built) (turns tree options.prefix) asked outcome opened
-          (numbered_lines log.lines) is,
+      has_its_texts files options all outcome tree solution opened is_whole.solution_is.tree_is is,
+      each_accounted_for files options all tree solution is_whole (trees files (root_file options) tree is_whole.accepted.built) (turns tree options.prefix) asked outcome opened is,
     )

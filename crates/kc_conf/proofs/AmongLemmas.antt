@@ -11,7 +11,7 @@ use Rattle.kc_io.specs.declared.device.Action.TheVariants.{Report}
 use Rattle.kc_io.proofs.LogLemmas.{keeps_reported}
 use Rattle.kc_language.specs.Expansion.{Files}
 use Rattle.kc_language.specs.Symbols.{TreeFacts}
-use Rattle.kc_language.specs.Outcome.{Options, input_files, Outcome, lines_text}
+use Rattle.kc_outcome.specs.Outcome.{Options, input_files, Outcome, lines_text}
 use Rattle.kc_io.specs.Delivery.{stale_texts, status_with, texts_of}
 use Rattle.kc_io.specs.Inputs.{AreInputs, InputFile, IsAsTold}
 use Rattle.kc_conf.specs.PartsOfFaults.{stale_by}
@@ -19,9 +19,9 @@ use Rattle.kc_conf.specs.Many.{EndsTurn, RunsTurn, StopsAtTree, TakeTurns, Takes
 use Rattle.kc_conf.specs.PartsOfMany.{written_by}
 use Rattle.kc_conf.specs.Faults.{Completes}
 use Rattle.kc_conf.specs.Many as many
-use Rattle.kc_language.specs.declared.outcome.Delivery.{Delivery}
-use Rattle.kc_language.specs.declared.outcome.Delivery.TheVariants as delivered
-use Rattle.kc_language.specs.declared.outcome.Status.{Status}
+use Rattle.kc_outcome.specs.declared.outcome.Delivery.{Delivery}
+use Rattle.kc_outcome.specs.declared.outcome.Delivery.TheVariants as delivered
+use Rattle.kc_outcome.specs.declared.outcome.Status.{Status}
 use Rattle.kc_conf.proofs.SeparateLemmas.{broken_held, completes_held, completes_last, kept_held, texts_lack}
 
 or-first : (a b : Bool) → a ≡ true → (a || b) ≡ true

@@ -1,89 +1,74 @@
--- What is made of the tree's sources is what is made of its files and its lines, where the sources are wanted.
-use Rattle.std.proofs.Common.{◌≡◌, ◌∙◌, ℕ, Bool, true, false, List, ◌++◌, map, Option, Some, None, is_some, refl, sym, ap, subst, String, Global}
+-- What is made of the files that were kept is what is made of the tree's files, where these are wanted.
+use Rattle.std.proofs.Common.{◌≡◌, ◌∙◌, ℕ, Bool, true, false, List, [], ◌∷◌, ◌++◌, map, Option, Some, None, refl, sym, ap, subst, string_bytes}
 use Rattle.std.specs.Borrow.{Bor}
-use Rattle.std.specs.Prelude.{◌&&◌, ◌||◌, if◌then◌else◌, option_map}
+use Rattle.std.specs.Prelude.{◌&&◌, if◌then◌else◌}
 use Rattle.kc_language.specs.ConfigFile.{UserInput}
 use Rattle.kc_language.specs.Expansion.{Files}
-use Rattle.kc_language.specs.Explanations.{new_text_with_help}
-use Rattle.kc_language.specs.Outcome.{Options, Outcome, explained_text, lead, lines_text, lost_text, lost_warnings, rule_text, target}
-use Rattle.kc_language.specs.Statements.{Located, Numbered}
-use Rattle.kc_language.specs.Texts.{Solution, solution_view, warnings}
-use Rattle.kc_read.specs.Entries.{lines_in}
+use Rattle.kc_outcome.specs.Explanations.{new_text_with_help}
+use Rattle.kc_outcome.specs.Outcome.{Options, done_outcome, lead, lines_text, lost_text, names_listed, target, text_of, wants}
+use Rattle.kc_language.specs.Files.{rule_text}
+use Rattle.kc_outcome.specs.declared.outcome.Output.{Output}
+use Rattle.kc_outcome.specs.declared.outcome.WantedOutput.{WantedOutput}
+use Rattle.kc_io.specs.Delivery.{NamedText, texts_of, with_names}
+use Rattle.kc_outcome.proofs.OutputLemmas.{map-wanted}
+use Rattle.kc_options.specs.PartsOfOutcome.{wants_sources}
+use Rattle.kc_language.specs.Texts.{Solution, new_text, solution_view, warnings}
+use Rattle.kc_read.specs.declared.file_map.FileMap.{FileMap}
 use Rattle.kc_conf.specs.Accepted.{AreSources}
-use Rattle.kc_conf.specs.Computed.{explained_by, explained_lost, explanation_lead, files_from, lost_by, lost_from, new_by, ruled_files, sources_if}
+use Rattle.kc_conf.specs.Computed.{named_from, new_by, rule_by, text_from, value_lines}
+use Rattle.kc_conf.specs.declared.compute.Basis.{Basis}
 use Rattle.kc_conf.specs.Faults.{AreLines}
-use Rattle.kc_conf.specs.PartsOfOutcome.{files_of, list_text, text_if}
-use Rattle.kc_conf.specs.declared.accepted.TreeSources.{TreeSources}
-use Rattle.kc_conf.proofs.ExplainedLemmas.{AreLines-explained}
+use Rattle.kc_conf.specs.PartsOfOutcome.{names_if}
+use Rattle.kc_conf.proofs.ExplainedLemmas.{AreLines-lost}
 use Rattle.kc_conf.proofs.PartLemmas.{AreLines-append}
-
-or_middle : (a b : Bool) → (a || (true || b)) ≡ true
-or_middle true b = refl
-or_middle false b = refl
-
-or_last : (a b : Bool) → (a || (b || true)) ≡ true
-or_last true b = refl
-or_last false true = refl
-or_last false false = refl
 
 never : {P : Type 0} (b : Bool) → b ≡ true → b ≡ false → P
 never b on off = absurd (let clash : true ≡ false = sym on ∙ off in cc)
 
-none_is : (n : Option (String Global)) (rest : Bool) (text : List ℕ) → (is_some n || rest) ≡ false → None ≡ text_if n text
-none_is None rest text e = refl
-none_is (Some x) rest text e = absurd (let clash : true ≡ false = e in cc)
+-- each output with its text
+named-map : (f : Output → List ℕ) (outputs : List WantedOutput) →
+    map (λ (wanted : WantedOutput). let t : NamedText = record { name = string_bytes wanted.file; bytes = f wanted.kind } in t) outputs
+    ≡ with_names outputs (map (λ wanted. f wanted.kind) outputs)
+named-map f [] = refl
+named-map f (wanted ∷ outputs) = ap (λ ts. record { name = string_bytes wanted.file; bytes = f wanted.kind } ∷ ts) (named-map f outputs)
 
-module _ (files : Files) (lines : List (Located Numbered)) (options : Options) (input : UserInput) (solution : Solution) where
-  lost_as : (b : Bool) → (options.explain_lost && options.warn_lost) ≡ b → (o : Option (Bor TreeSources)) → AreSources files lines options o →
-      lost_by (sources_if b o) options input solution ≡ (if b then explained_lost options.prefix.is_raw (explanation_lead options) lines input solution else lines_text (lost_warnings options input solution))
-  lost_as false e o are = refl
-  lost_as true e None are =
-      never _ (ap (λ x. is_some options.explanation || (x || (options.with_help && is_some options.list_new))) e ∙ or_middle (is_some options.explanation) (options.with_help && is_some options.list_new)) are
-  lost_as true e (Some s) are = ap (λ (ls : List (Located Numbered)). explained_lost options.prefix.is_raw (explanation_lead options) ls input solution) are.1
+module _ (files : Files) (opened : List (List ℕ)) (options : Options) (basis : Basis) (are : AreSources files options basis.files)
+    (listed : basis.names.now ≡ names_if options opened) where
+  abbrev input : UserInput
+  input = basis.input.now
 
-  pub lost_is : (o : Option (Bor TreeSources)) → AreSources files lines options o → lost_from options o input solution ≡ lost_text options lines input solution
-  lost_is o are = lost_as (options.explain_lost && options.warn_lost) refl o are
+  abbrev solution : Solution
+  solution = basis.solved.now
 
-  new_as : (b : Bool) → options.with_help ≡ b → (n : Option (String Global)) → options.list_new ≡ n → (o : Option (Bor TreeSources)) → AreSources files lines options o →
-      text_if n (new_by (sources_if b o) solution.tree options.prefix (solution_view solution)) ≡ text_if n (list_text files lines solution.tree options.prefix (solution_view solution) b)
-  new_as false e n e' o are = refl
-  new_as true e None e' o are = refl
-  new_as true e (Some x) e' None are =
-      never _ (ap (λ b. is_some options.explanation || ((options.explain_lost && options.warn_lost) || (b && is_some options.list_new))) e
-      ∙ ap (λ (n : Option (String Global)). is_some options.explanation || ((options.explain_lost && options.warn_lost) || is_some n)) e'
-      ∙ or_last (is_some options.explanation) (options.explain_lost && options.warn_lost)) are
-  new_as true e (Some x) e' (Some s) are =
-      ap (λ (f : Files). Some (new_text_with_help f (lines_in s.now.entries) solution.tree options.prefix (solution_view solution))) are.0
-      ∙ ap (λ (ls : List (Located Numbered)). Some (new_text_with_help files ls solution.tree options.prefix (solution_view solution))) are.1
+  new_as : (b : Bool) → options.with_help ≡ b → wants options Output.NewSymbols ≡ true → (o : Option (Bor FileMap)) → AreSources files options o →
+      (if b then new_by o options.prefix solution else new_by None options.prefix solution)
+      ≡ (if b then new_text_with_help files solution.tree.lines solution.tree options.prefix (solution_view solution) else new_text solution.tree options.prefix (solution_view solution))
+  new_as false e wanted o kept = refl
+  new_as true e wanted None kept = never (wants_sources options) (ap (λ b. b && wants options Output.NewSymbols) e ∙ wanted) kept
+  new_as true e wanted (Some found) kept = ap (λ (f : Files). new_text_with_help f solution.tree.lines solution.tree options.prefix (solution_view solution)) kept
 
-  explained_as : (o : Option (Bor TreeSources)) → AreSources files lines options o → explained_by o options input solution ≡ text_if options.explanation (explained_text options lines input solution)
-  explained_as None are =
-      none_is options.explanation ((options.explain_lost && options.warn_lost) || (options.with_help && is_some options.list_new)) (explained_text options lines input solution) are
-  explained_as (Some s) are = ap (λ (ls : List (Located Numbered)). text_if options.explanation (explained_text options ls input solution)) are.1
+  rule_as : wants options Output.DependencyFile ≡ true → rule_by options basis.names.now ≡ rule_text (target options) (names_listed options opened)
+  rule_as wanted = ap (rule_by options) (listed ∙ ap (λ b. if b then Some (names_listed options opened) else None) wanted)
 
-  abbrev with_two : Option (List (List ℕ)) → Option (List ℕ) → Option (List ℕ) → Outcome
-  with_two names listed explained = record (files_of files options solution.tree lines input solution) {
-    list_new = listed;
-    depfile = option_map (rule_text (target options)) names;
-    explanation = explained;
-  }
+  -- a text that is wanted is the one that the definitions say
+  text_as : (kind : Output) → wants options kind ≡ true → text_from options basis kind ≡ text_of files options opened input solution kind
+  text_as Output.NewSymbols wanted = new_as options.with_help refl wanted basis.files are
+  text_as Output.DependencyFile wanted = rule_as wanted
+  text_as _ wanted = refl
 
-  pub files_are : (o : Option (Bor TreeSources)) (names : Option (List (List ℕ))) → AreSources files lines options o →
-      files_from options o input solution names ≡ ruled_files files options solution.tree lines input solution names
-  files_are o names are =
-      ap (λ (l : Option (List ℕ)). with_two names l (explained_by o options input solution)) (new_as options.with_help refl options.list_new refl o are)
-      ∙ ap (λ (t : Option (List ℕ)). with_two names (text_if options.list_new (list_text files lines solution.tree options.prefix (solution_view solution) options.with_help)) t) (explained_as o are)
+  pub texts_are : map (named_from options basis) options.outputs.items ≡ texts_of options (done_outcome files options opened input solution)
+  texts_are =
+      map-wanted (named_from options basis)
+      (λ wanted. record { name = string_bytes wanted.file; bytes = text_of files options opened input solution wanted.kind })
+      options.outputs.items options.outputs.items (λ kind has. has)
+      (λ wanted has. ap (λ bytes. let t : NamedText = record { name = string_bytes wanted.file; bytes = bytes } in t) (text_as wanted.kind has))
+      ∙ named-map (text_of files options opened input solution) options.outputs.items
 
--- what is told of lost values is whole lines
-AreLines-lost_by : (o : Option (Bor TreeSources)) (options : Options) (input : UserInput) (solution : Solution) → AreLines (lost_by o options input solution)
-AreLines-lost_by None options input solution = (lost_warnings options input solution, refl)
-AreLines-lost_by (Some s) options input solution = AreLines-explained options.prefix.is_raw (lines_in s.now.entries) input solution (explanation_lead options) solution.tree.defined
-
-pub lines_added : (options : Options) (o : Option (Bor TreeSources)) (input : UserInput) (solution : Solution) (old new : List ℕ) →
-    new ≡ old ++ (lines_text (map (λ line. lead options ++ line) (warnings solution)) ++ lost_from options o input solution) → AreLines old → AreLines new
-lines_added options o input solution old new is whole =
+-- what is told of values is whole lines
+pub lines_added : (options : Options) (input : UserInput) (solution : Solution) (old new : List ℕ) →
+    new ≡ old ++ value_lines options input solution → AreLines old → AreLines new
+lines_added options input solution old new is whole =
     let told = lines_text (map (λ line. lead options ++ line) (warnings solution)) in
     subst AreLines (sym is)
-    (AreLines-append old (told ++ lost_from options o input solution) whole
-    (AreLines-append told (lost_from options o input solution) (map (λ line. lead options ++ line) (warnings solution), refl)
-    (AreLines-lost_by (sources_if (options.explain_lost && options.warn_lost) o) options input solution)))
+    (AreLines-append old (told ++ lost_text options input solution) whole
+    (AreLines-append told (lost_text options input solution) (map (λ line. lead options ++ line) (warnings solution), refl) (AreLines-lost options input solution)))

@@ -2,15 +2,15 @@
 use Rattle.std.proofs.Common.{◌≡◌, ℕ, map, Bool, true, false, List, [], ◌∷◌, ◌++◌, codes, refl, sym, ap, subst, ◌∙◌, append_assoc, append-nil, Option, Some, None}
 use Rattle.std.specs.Prelude.{decimal, if◌then◌else◌, ◌&&◌}
 use Rattle.kc_language.specs.Statements.{cause_text}
-use Rattle.kc_language.specs.Outcome.{Options, run_error_text, lead, first_line, refusal_line, IsLenientOutcome, IsOutcomeOfReading, Outcome, accepted_tree, is_not_empty, is_done, lines_text, long_line, lost_text, input_names, near_text, reported, read_of, refused_outcome, refused_name, refused_tree, streams, strictly, unknown_symbol, whole, refused_if, warned_files, refuses_input}
+use Rattle.kc_outcome.specs.Outcome.{Options, lead, first_line, refusal_line, IsLenientOutcome, IsOutcomeOfReading, Outcome, accepted_tree, done_outcome, is_not_empty, is_done, lines_text, long_line, lost_text, input_names, near_text, reported, read_of, refused_outcome, refused_name, refused_tree, streams, unknown_symbol, whole, refused_if, refuses_input}
+use Rattle.kc_language.specs.Statements.{run_error_text}
 use Rattle.kc_conf.specs.PartsOfOutcome.{error_if_at, too_long_line, unknown_line, unreadable_line}
-use Rattle.kc_language.specs.Outcome.{fresh_input}
+use Rattle.kc_outcome.specs.Outcome.{fresh_input}
 use Rattle.kc_conf.specs.Faults.{AreLines}
-use Rattle.kc_conf.specs.PartsOfOutcome.{strict_line, depfile_text, outcome_of}
+use Rattle.kc_conf.specs.PartsOfOutcome.{strict_line, outcome_of}
 use Rattle.kc_conf.specs.Laws.{DiagnosticsAreLines}
 use Rattle.kc_language.specs.declared.diagnostics.RunError.TheVariants as run
-use Rattle.kc_language.specs.Expansion.{Refused, Files, numbered_lines}
-use Rattle.kc_language.specs.Statements.{Located, Numbered}
+use Rattle.kc_language.specs.Expansion.{Refused, Files}
 use Rattle.kc_language.specs.Symbols.{TreeFacts}
 use Rattle.kc_language.specs.Texts.{warnings}
 use Rattle.kc_language.specs.ConfigFile.{StreamLocation, lines_of}
@@ -48,18 +48,18 @@ if_strict : (options : Options) (b : Bool) (outcome : Outcome) → AddsLines out
 if_strict options true outcome adds = (adds.0, AreLines-ended (lead options) strict_line (codes "error E21: warnings are refused", refl))
 if_strict options false outcome adds = adds
 
-of_reading : (files : Files) (options : Options) (tree : TreeFacts) (lines : List (Located Numbered)) (all : List (List ℕ)) (outcome : Outcome) →
-    IsOutcomeOfReading files options tree lines (read_of options tree all) outcome → AddsLines outcome
-of_reading files options tree lines all outcome (long_line stop stopped is) =
+of_reading : (files : Files) (options : Options) (opened : List (List ℕ)) (tree : TreeFacts) (all : List (List ℕ)) (outcome : Outcome) →
+    IsOutcomeOfReading files options opened tree (read_of options tree all) outcome → AddsLines outcome
+of_reading files options opened tree all outcome (long_line stop stopped is) =
     subst AddsLines (sym is) (AddsLines-reported (read_of options tree all).warned (refused_outcome (too_long_line stop))
     (AreLines-reading tree options.prefix (lines_of (streams (input_names options) all)) (fresh_input options tree)) (AreLines-nothing, AreLines-too_long stop))
-of_reading files options tree lines all outcome (whole solution none solves is) =
+of_reading files options opened tree all outcome (whole solution none solves is) =
     let input = (read_of options tree all).input in
-    subst AddsLines (sym is) (AddsLines-reported (read_of options tree all).warned (outcome_of files options tree lines input solution)
+    subst AddsLines (sym is) (AddsLines-reported (read_of options tree all).warned (outcome_of files options opened input solution)
     (AreLines-reading tree options.prefix (lines_of (streams (input_names options) all)) (fresh_input options tree))
-    (if_strict options (refuses_input options input solution) (warned_files files options tree lines input solution) (
-      AreLines-append (lines_text (map (λ line. lead options ++ line) (warnings solution))) (lost_text options lines input solution)
-          (map (λ line. lead options ++ line) (warnings solution), refl) (AreLines-lost options lines input solution),
+    (if_strict options (refuses_input options input solution) (done_outcome files options opened input solution) (
+      AreLines-append (lines_text (map (λ line. lead options ++ line) (warnings solution))) (lost_text options input solution)
+          (map (λ line. lead options ++ line) (warnings solution), refl) (AreLines-lost options input solution),
       AreLines-nothing,
     )))
 
@@ -70,19 +70,12 @@ of_lenient files options opened all outcome (refused_name tree name accepted unr
 of_lenient files options opened all outcome (unknown_symbol tree asked accepted read unknown is) =
     subst AddsLines (sym is)
     (AreLines-nothing, AreLines-ended (lead options) (unknown_line tree asked) (codes "error E24: no symbol has the name " ++ first_line asked ++ near_text tree asked, refl))
-of_lenient files options opened all outcome (accepted_tree tree log accepted expands named known (rest, read, is)) =
+of_lenient files options opened all outcome (accepted_tree tree accepted named known (rest, read, is)) =
     subst AddsLines (sym is)
-    (AddsLines-reported (lines_text tree.warnings) rest (tree.warnings, refl) (of_reading files options tree (numbered_lines log.lines) all rest read))
-
-if_ruled : (b : Bool) (options : Options) (opened : List (List ℕ)) (outcome : Outcome) → AddsLines outcome →
-    AddsLines (if b then record outcome { depfile = depfile_text options opened } else outcome)
-if_ruled true options opened outcome adds = adds
-if_ruled false options opened outcome adds = adds
+    (AddsLines-reported (lines_text tree.warnings) rest (tree.warnings, refl) (of_reading files options opened tree all rest read))
 
 pub diagnostics_are_lines : DiagnosticsAreLines
 diagnostics_are_lines files options all outcome (lenient, opened, is_lenient, are, is) =
-    let strict = strictly options lenient in
     let adds = subst AddsLines (sym is)
-    (if_ruled (is_done strict.status) options opened strict
-    (if_strict options (is_done lenient.status && (options.strict_tree && is_not_empty lenient.warned)) lenient (of_lenient files options opened all lenient is_lenient))) in
+    (if_strict options (is_done lenient.status && (options.strict_tree && is_not_empty lenient.warned)) lenient (of_lenient files options opened all lenient is_lenient)) in
     AreLines-append outcome.warned outcome.refusal adds.0 adds.1

@@ -7,7 +7,7 @@ use Rattle.kc_language.specs.declared.diagnostics.Warning.TheVariants as warning
 use Rattle.kc_language.specs.declared.expressions.SymId.{SymId}
 use Rattle.kc_language.specs.declared.expressions.SymbolType.{SymbolType}
 use Rattle.kc_language.specs.declared.expressions.SymbolType.TheVariants as symbol_type
-use Rattle.kc_config_file.specs.PartsOfConfigFile.{assigned_or, line_value, set_effect, unset_effect}
+use Rattle.kc_input.specs.PartsOfConfigFile.{assigned_or, line_value, set_effect, unset_effect}
 
 pub effect_is : (tree : TreeFacts) (prefix : Notation) (l : Line) → effect_of prefix.is_raw tree (line_meaning tree prefix l) ≡ effect tree prefix l
 unfolding effect

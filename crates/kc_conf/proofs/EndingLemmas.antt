@@ -9,7 +9,8 @@ use Rattle.kc_language.specs.Text.{GoesBeyond}
 use Rattle.kc_language.specs.ConfigFile.{StreamLocation}
 use Rattle.kc_language.specs.Expansion.{Refused as RefusedTree}
 use Rattle.kc_io.specs.Delivered.{Delivered, cleared, failure_of}
-use Rattle.kc_io.specs.Delivery.{StopsBefore, NamedText, chosen, delivery, moved, put, share_name, stale}
+use Rattle.kc_io.specs.Delivery.{StopsBefore, NamedText, chosen, cleared_by, delivers, delivery, moved, put, share_name, stale, stale_lines, stale_texts, status_with}
+use Rattle.kc_io.specs.Inputs.{still_told}
 use Rattle.kc_io.specs.Log.{Event, Journal, Log, Leads, Tells, did, each_byte, held, is_held}
 use Rattle.kc_io.specs.declared.delivery.Manner.{Manner}
 use Rattle.kc_io.specs.declared.delivery.Manner.TheVariants.{InPlace, Replacing}
@@ -17,27 +18,25 @@ use Rattle.kc_io.specs.declared.device.Action.{Action}
 use Rattle.kc_io.specs.declared.device.Action.TheVariants.{Create, Close, Clear, Report, Write as WriteAt}
 use Rattle.kc_io.specs.declared.device.Site.TheVariants.{Beside}
 use Rattle.kc_io.specs.declared.steps.Failure.{Failure}
-use Rattle.kc_io.proofs.LogLemmas.{leads_as, leads_both, leads_nothing, leads_said}
-use Rattle.kc_language.specs.Outcome.{Options, lead, first_line, refusal_line, lines_text}
-use Rattle.kc_conf.specs.PartsOfOutcome.{error_if_at, stale_line, too_long_line, unreadable_line}
-use Rattle.kc_conf.specs.Faults.{AreLines}
-use Rattle.kc_conf.specs.RefusedNames.{unknown_near}
-use Rattle.kc_conf.specs.PartsOfOutcome.{strict_line}
-use Rattle.kc_conf.specs.Endings.{BreaksEnd, EndStops, Ends, HandsBy, IsChecked, IsEnded, in_delivery, in_diagnostics}
-use Rattle.kc_conf.specs.Faults.{clearing, event_of}
-use Rattle.kc_io.specs.Delivery.{delivers, stale_lines, stale_texts, status_with, cleared_by}
-use Rattle.kc_io.specs.Inputs.{still_told}
+use Rattle.kc_io.proofs.LogLemmas.{leads_nothing}
+use Rattle.kc_outcome.specs.Outcome.{Options, lead, refusal_line}
+use Rattle.kc_language.specs.Statements.{run_error_text}
+use Rattle.kc_language.specs.declared.diagnostics.RunError.{RunError}
+use Rattle.kc_language.specs.declared.diagnostics.RunError.TheVariants.{NotUpToDate}
+use Rattle.kc_language.specs.Statements.{cause_text, error_at, error_line}
+use Rattle.kc_conf.specs.PartsOfOutcome.{error_if_at, stale_line, too_long_line}
+use Rattle.kc_conf.specs.Faults.{AreLines, clearing, event_of}
+use Rattle.kc_conf.specs.Endings.{BreaksEnd, Ends, Finishes, HandsBy, IsChecked, Refuses, in_delivery, in_diagnostics}
 use Rattle.kc_conf.specs.PartsOfFaults.{delivered_by, stale_by}
-use Rattle.kc_language.specs.Statements.{cause_text, error_at}
 use Rattle.kc_conf.specs.Reads.{IsReportStop}
-use Rattle.kc_language.specs.declared.outcome.Delivery.{Delivery}
-use Rattle.kc_language.specs.declared.outcome.Delivery.TheVariants.{Write, Replace, Check}
-use Rattle.kc_language.specs.declared.outcome.Status.{Status}
-use Rattle.kc_language.specs.declared.outcome.Status.TheVariants.{Done, Refused}
+use Rattle.kc_outcome.specs.declared.outcome.Delivery.{Delivery}
+use Rattle.kc_outcome.specs.declared.outcome.Delivery.TheVariants.{Write, Replace, Check}
+use Rattle.kc_outcome.specs.declared.outcome.Status.{Status}
+use Rattle.kc_outcome.specs.declared.outcome.Status.TheVariants.{Done, Refused}
 use Rattle.kc_conf.specs.declared.stop.Stop.{Stop}
 use Rattle.kc_conf.specs.declared.stop.Stop.TheVariants.{OutOfMemory, Failed}
 use Rattle.kc_conf.proofs.PartLemmas.{AreLines-append, AreLines-nothing}
-use Rattle.kc_conf.proofs.TellingLemmas.{Leads-silent, Tells-first, Tells-later, Tells-still, Tells-weaker, still-known}
+use Rattle.kc_conf.proofs.TellingLemmas.{IsOfFiles, Leads-as, Leads-silent, Leads-then, Recalls-first, Tells-later, Tells-recalled, Tells-still, still-known}
 
 -- ---- text that is not empty
 
@@ -57,16 +56,9 @@ pub beyond-nothing : (text more : List ℕ) → text ≢ [] → GoesBeyond (text
 beyond-nothing [] more some = absurd (some refl)
 beyond-nothing (b ∷ rest) more some = (b, rest ++ more, refl)
 
-pub some-strict : (options : Options) → lead options ++ strict_line ≢ []
-some-strict options e = some-after (lead options) strict_line (λ e. cc) e
-
-pub some-unreadable : (options : Options) (name : List ℕ) → lead options ++ unreadable_line name ≢ []
-some-unreadable options name e =
-    some-after (lead options) (unreadable_line name) (λ e. some-after (codes "error E23: make cannot read the name " ++ first_line name) (codes "\n") (λ e. cc) e) e
-
-pub some-unknown : (options : Options) (name near : List ℕ) → lead options ++ unknown_near name near ≢ []
-some-unknown options name near e =
-    some-after (lead options) (unknown_near name near) (λ e. some-after (codes "error E24: no symbol has the name " ++ first_line name ++ near) (codes "\n") (λ e. cc) e) e
+-- an error line, behind any lead
+pub some-error : (front : List ℕ) (error : RunError (List ℕ)) → front ++ error_line (run_error_text error) ≢ []
+some-error front error e = some-after front (error_line (run_error_text error)) (λ e. cc) e
 
 some-at : (file : List ℕ) (number : ℕ) (text : List ℕ) → error_at file number text ≢ []
 some-at file number text e = some-after (file ++ codes ":" ++ decimal number ++ codes ": error " ++ text) (codes "\n") (λ e. cc) e
@@ -105,33 +97,32 @@ cleared-report Check action e = refl
 -- ---- what is refused
 
 -- the events of diagnostics that failed
-report-log : (options : Options) (stop : Stop) (old new : Log) → IsReportStop stop → Leads (event_of stop) [] old new → Leads ([] ++ event_of stop ++ clearing options stop) [] old new
-report-log options OutOfMemory old new never log = absurd never
-report-log options (Failed f) old new (report, name) log =
-    leads_as (event_of (Failed f)) (event_of (Failed f) ++ clearing options (Failed f)) [] old new
-    (sym (append-nil (event_of (Failed f))) ∙ ap (λ l. event_of (Failed f) ++ l) (sym (cleared-report options.delivery f.action report))) log
+pub report-log : (options : Options) (stop : Stop) {old new : Log} → IsReportStop stop → Leads (event_of stop) [] old new → Leads ([] ++ event_of stop ++ clearing options stop) [] old new
+report-log options OutOfMemory never log = absurd never
+report-log options (Failed f) (report, name) log =
+    Leads-as (sym (append-nil (event_of (Failed f))) ∙ ap (λ l. event_of (Failed f) ++ l) (sym (cleared-report options.delivery f.action report))) refl log
 
 -- the diagnostics failed before anything was said
-pub BreaksEnd-report : (options : Options) (waits line : List ℕ) (texts : List NamedText) (stop : Stop) (old new : Log) → waits ++ line ≢ [] → IsReportStop stop → Leads (event_of stop) [] old new →
-    BreaksEnd options waits line texts stop old new
-BreaksEnd-report options waits line texts OutOfMemory old new some never log = absurd never
-BreaksEnd-report options waits line texts (Failed f) old new some (report, name) log = record {
+pub BreaksEnd-report : (options : Options) (rest : List ℕ) (texts : List NamedText) (stop : Stop) {old new : Log} → rest ≢ [] → IsReportStop stop → Leads (event_of stop) [] old new → BreaksEnd options rest texts stop old new
+BreaksEnd-report options rest texts OutOfMemory some never log = absurd never
+BreaksEnd-report options rest texts (Failed f) some (report, name) log = record {
   done = [];
   front = [];
-  stops = in_diagnostics f [] report name AreLines-nothing (λ journal e. beyond-nothing (waits ++ line) (stale_lines options (stale_texts options texts journal)) some);
-  log = report-log options (Failed f) old new (report, name) log;
+  stops = in_diagnostics f [] report name AreLines-nothing (λ journal e. beyond-nothing rest (stale_lines options (stale_texts options texts journal)) some);
+  log = report-log options (Failed f) (report, name) log;
 }
 
 -- a line was said, and that refuses
-pub IsEnded-line : (options : Options) (line : List ℕ) (old new : Log) → Leads [] line old new → IsEnded options [] line [] Refused old new Refused
-IsEnded-line options line old new log = record {
+pub Ends-refused : (options : Options) (line : List ℕ) (result : Result Status Stop) (old new : Log) → line ≢ [] → Refuses line result old new → Ends options line [] Refused result old new
+Ends-refused options line (Ok status) old new some (is, log) = record {
   made = [];
   stale = [];
   of_old = λ journal e. (sym (delivers-nothing options.delivery journal), sym (stale-nothing options.delivery journal));
-  log = leads_said [] line (line ++ []) old new (sym (append-nil line)) log;
-  status_is = refl;
+  log = Leads-as refl (sym (append-nil line)) log;
+  status_is = is;
   only_checked = inl refl;
 }
+Ends-refused options line (Err stop) old new some (report, log) = BreaksEnd-report options line [] stop some report log
 
 -- ---- what files hold
 
@@ -148,74 +139,36 @@ delivers-same Write texts j k same = refl
 delivers-same Replace texts j k same = ap (λ s. delivery Replacing (if share_name texts then texts else s)) (stale-held texts j k same)
 delivers-same Check texts j k same = refl
 
+module _ (options : Options) (texts : List NamedText) where
+  pub IsOfFiles-made : (made : List Event) (stale : List NamedText) → IsOfFiles (λ journal. (made ≡ delivers options texts journal) × (stale ≡ stale_texts options texts journal))
+  IsOfFiles-made made stale j k same (is, are) = (is ∙ delivers-same options.delivery texts j k same, are ∙ stale-same options.delivery texts j k same)
+
+  pub IsOfFiles-left : (done : List Event) (f : Failure) → IsOfFiles (λ journal. (left : List Event) × (done ++ left ≡ delivers options texts journal) × StopsBefore left (Err f))
+  IsOfFiles-left done f j k same (left, is, stops) = (left, is ∙ delivers-same options.delivery texts j k same, stops)
+
+  pub IsOfFiles-beyond : (text front : List ℕ) → IsOfFiles (λ journal. GoesBeyond (text ++ stale_lines options (stale_texts options texts journal)) front)
+  IsOfFiles-beyond text front j k same goes = subst (λ (s : List NamedText). GoesBeyond (text ++ stale_lines options s) front) (stale-same options.delivery texts j k same) goes
+
 -- ---- what waits is said first
 
-module _ (options : Options) (waits line : List ℕ) (texts : List NamedText) (lines : AreLines waits) (old mid new : Log) (h : Leads [] waits old mid) where
-  waits-stops : {stop : Stop} {done : List Event} {front : List ℕ} (b : List Event) (t : List ℕ) → Leads b t mid new → EndStops options [] line texts (still_told mid new) stop done front →
-      EndStops options waits line texts (still_told old new) stop done (waits ++ front)
-  waits-stops b t w (in_diagnostics f front report name are beyond) =
-      in_diagnostics f (waits ++ front) report name (AreLines-append waits front lines are)
-      (Tells-first (λ journal. GoesBeyond ((waits ++ line) ++ stale_lines options (stale_texts options texts journal)) (waits ++ front)) old mid new [] b waits t refl
-      (λ j k same p. subst (λ (s : List NamedText). GoesBeyond ((waits ++ line) ++ stale_lines options s) (waits ++ front)) (stale-same options.delivery texts j k same) p) h w
-      (Tells-weaker (λ journal. GoesBeyond (line ++ stale_lines options (stale_texts options texts journal)) front)
-      (λ journal. GoesBeyond ((waits ++ line) ++ stale_lines options (stale_texts options texts journal)) (waits ++ front)) (still_told mid new)
-      (λ journal p. (
-        p.0,
-        p.1,
-        append_assoc waits line (stale_lines options (stale_texts options texts journal)) ∙ ap (λ l. waits ++ l) p.2 ∙ sym (append_assoc waits front (p.0 ∷ p.1)),
-      )) beyond))
-  waits-stops b t w (in_delivery f done tells) =
-      in_delivery f done
-      (Tells-first (λ journal. (left : List Event) × (done ++ left ≡ delivers options texts journal) × StopsBefore left (Err f)) old mid new [] b waits t refl
-      (λ j k same p. (p.0, p.1 ∙ delivers-same options.delivery texts j k same, p.2)) h w tells)
+module _ (options : Options) (waits line : List ℕ) (texts : List NamedText) (ended : Status) {result : Result Status Stop} {old mid new : Log} where
+  pub Finishes-said : AreLines waits → Leads [] waits old mid → Ends options line texts ended result mid new → Finishes options (waits ++ line) texts ended result old new
+  Finishes-said lines log ends = record { front = waits; rest = line; mid = mid; whole = refl; lines = lines; log = log; ends = ends }
 
-  pub BreaksEnd-behind : (stop : Stop) → BreaksEnd options [] line texts stop mid new → BreaksEnd options waits line texts stop old new
-  BreaksEnd-behind stop b = record {
-    done = b.done;
-    front = waits ++ b.front;
-    stops = waits-stops (b.done ++ event_of stop ++ clearing options stop) b.front b.log b.stops;
-    log = leads_both [] (b.done ++ event_of stop ++ clearing options stop) waits b.front old mid new h b.log;
-  }
-
-  pub IsEnded-behind : (ended status : Status) → IsEnded options [] line texts ended mid new status → IsEnded options waits line texts ended old new status
-  IsEnded-behind ended status e = record {
-    made = e.made;
-    stale = e.stale;
-    of_old = Tells-first (λ journal. (e.made ≡ delivers options texts journal) × (e.stale ≡ stale_texts options texts journal)) old mid new [] e.made waits (line ++ stale_lines options e.stale) refl
-        (λ j k same p. (p.0 ∙ delivers-same options.delivery texts j k same, p.1 ∙ stale-same options.delivery texts j k same)) h e.log e.of_old;
-    log = leads_said e.made (waits ++ (line ++ stale_lines options e.stale)) ((waits ++ line) ++ stale_lines options e.stale) old new (sym (append_assoc waits line (stale_lines options e.stale)))
-        (leads_both [] e.made waits (line ++ stale_lines options e.stale) old mid new h e.log);
-    status_is = e.status_is;
-    only_checked = e.only_checked;
-  }
-
-  pub Ends-behind : (ended : Status) (result : Result Status Stop) → Ends options [] line texts ended result mid new → Ends options waits line texts ended result old new
-  Ends-behind ended (Ok status) e = IsEnded-behind ended status e
-  Ends-behind ended (Err stop) b = BreaksEnd-behind stop b
-
--- it was not said
-pub Ends-unsaid : (options : Options) (waits line : List ℕ) (texts : List NamedText) (stop : Stop) (old new : Log) → IsReportStop stop × (waits ≢ []) × Leads (event_of stop) [] old new →
-    BreaksEnd options waits line texts stop old new
-Ends-unsaid options waits line texts stop old new (report, some, log) = BreaksEnd-report options waits line texts stop old new (some-before waits line some) report log
+-- or not
+pub Finishes-unsaid : (options : Options) (waits line : List ℕ) (texts : List NamedText) (ended : Status) (stop : Stop) {old new : Log} → IsReportStop stop × (waits ≢ []) × Leads (event_of stop) [] old new →
+    Finishes options (waits ++ line) texts ended (Err stop) old new
+Finishes-unsaid options waits line texts ended stop {old = old} (report, some, log) = record {
+  front = [];
+  rest = waits ++ line;
+  mid = old;
+  whole = refl;
+  lines = AreLines-nothing;
+  log = leads_nothing old;
+  ends = BreaksEnd-report options (waits ++ line) texts stop (some-before waits line some) report log;
+}
 
 -- ---- texts that are delivered
-
--- a delivery that ended
-pub IsEnded-delivered : (options : Options) (manner : Manner) (texts : List NamedText) (old new : Log) → ((journal : Journal) → delivery manner (chosen manner texts journal) ≡ delivers options texts journal) →
-    ((journal : Journal) → [] ≡ stale_texts options texts journal) → Delivered manner texts old new (Ok tt) → IsEnded options [] [] texts Done old new Done
-IsEnded-delivered options manner texts old new is none d = record {
-  made = d.done;
-  stale = [];
-  of_old = Tells-still (λ journal. (d.done ≡ delivers options texts journal) × ([] ≡ stale_texts options texts journal)) old new
-      (λ journal after e e'. (whole d.left d.stops (d.all journal e) ∙ is journal, none journal));
-  log = leads_as ((d.done ++ []) ++ []) d.done [] old new (append-nil (d.done ++ []) ∙ append-nil d.done) d.log;
-  status_is = refl;
-  only_checked = inl refl;
-}
-  where
-    whole : {all : List Event} (left : List Event) → StopsBefore left (Ok tt) → d.done ++ left ≡ all → d.done ≡ all
-    whole [] stops e = sym (append-nil d.done) ∙ e
-    whole (event ∷ left) stops e = absurd stops
 
 -- each of these events is of a replacement, behind whose failure what stands beside places is removed
 abbrev Clears : List Event → Type 0
@@ -255,50 +208,56 @@ clears-failed done [] texts f all stops = absurd stops
 clears-failed done (event ∷ left) texts f all stops =
     ap (cleared_by Replace) (sym stops.0) ∙ Clears-at done event left (subst Clears (sym all) (Clears-replacing texts))
 
-module _ (options : Options) (texts : List NamedText) (old : Log) (f : Failure) where
-  failed-log : (manner : Manner) (new : Log) (d : Delivered manner texts old new (Err f)) →
-      ((journal : Journal) → d.done ++ d.left ≡ delivery manner (chosen manner texts journal) → cleared manner (Err f) ≡ clearing options (Failed f)) →
-      Leads (d.done ++ event_of (Failed f) ++ clearing options (Failed f)) [] old new
-  failed-log manner None d is = Leads-silent (d.done ++ event_of (Failed f) ++ clearing options (Failed f)) [] old
-  failed-log manner (Some after) d is =
-      let o = d.log.told after refl in
-      leads_as (d.done ++ failure_of (Err f) ++ cleared manner (Err f)) (d.done ++ event_of (Failed f) ++ clearing options (Failed f)) [] old (Some after)
-      (ap (λ l. d.done ++ failure_of (Err f) ++ l) (is o.0 (d.all o.0 o.1))) d.log
+-- how this manner delivers is how the options deliver
+record IsManner (options : Options) (texts : List NamedText) (manner : Manner) : Type 0 where
+  delivers : (journal : Journal) → delivery manner (chosen manner texts journal) ≡ delivers options texts journal
+  none : (journal : Journal) → [] ≡ stale_texts options texts journal
+  clears : (f : Failure) (done left : List Event) (journal : Journal) → done ++ left ≡ delivery manner (chosen manner texts journal) → StopsBefore left (Err f) → cleared manner (Err f) ≡ clearing options (Failed f)
 
-  -- a delivery that failed
-  pub BreaksEnd-delivered : (manner : Manner) (new : Log) → ((journal : Journal) → delivery manner (chosen manner texts journal) ≡ delivers options texts journal) →
-      (d : Delivered manner texts old new (Err f)) →
-      ((journal : Journal) → d.done ++ d.left ≡ delivery manner (chosen manner texts journal) → cleared manner (Err f) ≡ clearing options (Failed f)) → BreaksEnd options [] [] texts (Failed f) old new
-  BreaksEnd-delivered manner new is d clears = record {
-    done = d.done;
-    front = [];
-    stops = in_delivery f d.done
-        (Tells-still (λ journal. (left : List Event) × (d.done ++ left ≡ delivers options texts journal) × StopsBefore left (Err f)) old new
-        (λ journal after e e'. (d.left, d.all journal e ∙ is journal, d.stops)));
-    log = failed-log manner new d clears;
-  }
+whole-delivery : (done left : List Event) {all : List Event} → StopsBefore left (Ok tt) → done ++ left ≡ all → done ≡ all
+whole-delivery done [] stops e = sym (append-nil done) ∙ e
+whole-delivery done (event ∷ left) stops e = absurd stops
+
+Ends-handed : (options : Options) (texts : List NamedText) (manner : Manner) (old new : Log) → IsManner options texts manner → (result : Result Status Stop) → HandsBy manner texts old new result →
+    Ends options [] texts Done result old new
+Ends-handed options texts manner old new by (Ok status) (is, d) = record {
+  made = d.done;
+  stale = [];
+  of_old = Tells-still _ old new (λ journal after e e'. (whole-delivery d.done d.left d.stops (d.all journal e) ∙ by.delivers journal, by.none journal));
+  log = Leads-as (append-nil (d.done ++ []) ∙ append-nil d.done) refl d.log;
+  status_is = is;
+  only_checked = inl refl;
+}
+Ends-handed options texts manner old new by (Err OutOfMemory) d = absurd d
+Ends-handed options texts manner old new by (Err (Failed f)) d = record {
+  done = d.done;
+  front = [];
+  stops = in_delivery f d.done (Tells-still _ old new (λ journal after e e'. (d.left, d.all journal e ∙ by.delivers journal, d.stops)));
+  log = cleared-log new d;
+}
+  where
+    cleared-log : (new : Log) (d : Delivered manner texts old new (Err f)) → Leads (d.done ++ event_of (Failed f) ++ clearing options (Failed f)) [] old new
+    cleared-log None d = Leads-silent (d.done ++ event_of (Failed f) ++ clearing options (Failed f)) [] old
+    cleared-log (Some after) d =
+        let o = d.log.told after refl in Leads-as (ap (λ l. d.done ++ failure_of (Err f) ++ l) (by.clears f d.done d.left o.0 (d.all o.0 o.1) d.stops)) refl d.log
 
 -- texts that are written
-pub Ends-written : (options : Options) (texts : List NamedText) (old new : Log) (result : Result Status Stop) → options.delivery ≡ Write → HandsBy InPlace texts old new result →
-    Ends options [] [] texts Done result old new
-Ends-written options texts old new (Ok status) write (done, d) =
-    subst (λ (s : Status). IsEnded options [] [] texts Done old new s) (sym done)
-    (IsEnded-delivered options InPlace texts old new (λ journal. ap (λ (by : Delivery). delivered_by by texts journal) (sym write)) (λ journal. ap (λ (by : Delivery). stale_by by texts journal) (sym write)) d)
-Ends-written options texts old new (Err OutOfMemory) write d = absurd d
-Ends-written options texts old new (Err (Failed f)) write d =
-    BreaksEnd-delivered options texts old f InPlace new (λ journal. ap (λ (by : Delivery). delivered_by by texts journal) (sym write)) d
-    (λ journal all. ap (λ (by : Delivery). cleared_by by f.action) (sym write))
+pub Ends-written : (options : Options) (texts : List NamedText) (old new : Log) (result : Result Status Stop) → options.delivery ≡ Write → HandsBy InPlace texts old new result → Ends options [] texts Done result old new
+Ends-written options texts old new result write d =
+    Ends-handed options texts InPlace old new (record {
+      delivers = λ journal. ap (λ by. delivered_by by texts journal) (sym write);
+      none = λ journal. ap (λ by. stale_by by texts journal) (sym write);
+      clears = λ f done left journal all stops. ap (λ by. cleared_by by f.action) (sym write);
+    }) result d
 
 -- texts that take their places at the end
-pub Ends-replaced : (options : Options) (texts : List NamedText) (old new : Log) (result : Result Status Stop) → options.delivery ≡ Replace → HandsBy Replacing texts old new result →
-    Ends options [] [] texts Done result old new
-Ends-replaced options texts old new (Ok status) replace (done, d) =
-    subst (λ (s : Status). IsEnded options [] [] texts Done old new s) (sym done)
-    (IsEnded-delivered options Replacing texts old new (λ journal. ap (λ (by : Delivery). delivered_by by texts journal) (sym replace)) (λ journal. ap (λ (by : Delivery). stale_by by texts journal) (sym replace)) d)
-Ends-replaced options texts old new (Err OutOfMemory) replace d = absurd d
-Ends-replaced options texts old new (Err (Failed f)) replace d =
-    BreaksEnd-delivered options texts old f Replacing new (λ journal. ap (λ (by : Delivery). delivered_by by texts journal) (sym replace)) d
-    (λ journal all. sym (clears-failed d.done d.left (chosen Replacing texts journal) f all d.stops) ∙ ap (λ (by : Delivery). cleared_by by f.action) (sym replace))
+pub Ends-replaced : (options : Options) (texts : List NamedText) (old new : Log) (result : Result Status Stop) → options.delivery ≡ Replace → HandsBy Replacing texts old new result → Ends options [] texts Done result old new
+Ends-replaced options texts old new result replace d =
+    Ends-handed options texts Replacing old new (record {
+      delivers = λ journal. ap (λ by. delivered_by by texts journal) (sym replace);
+      none = λ journal. ap (λ by. stale_by by texts journal) (sym replace);
+      clears = λ f done left journal all stops. sym (clears-failed done left (chosen Replacing texts journal) f all stops) ∙ ap (λ by. cleared_by by f.action) (sym replace);
+    }) result d
 
 -- ---- texts that are compared
 
@@ -320,21 +279,16 @@ AreLines-stale options (text ∷ texts) =
     )
     (AreLines-stale options texts)
 
-pub IsChecked-nothing : (options : Options) (log : Log) → IsChecked options [] log log Done
-IsChecked-nothing options log = record { found = []; of_old = λ journal e. refl; log = leads_nothing log; status_is = refl }
-
 -- what a device tells now, of what it told at first
-Tells-now : (P : Journal → Type 0) (old mid : Log) (text : List ℕ) → ((j k : Journal) → ((name : List ℕ) → held j name ≡ held k name) → P j → P k) → Leads [] text old mid → Tells mid P →
-    Tells (still_told old mid) P
-Tells-now P old mid text of_files h tells =
-    Tells-first P old mid mid [] [] text [] refl of_files h (leads_nothing mid) (λ journal e. tells journal (still-known mid mid journal e).0)
+Tells-now : {old mid : Log} {text : List ℕ} (P : Journal → Type 0) → IsOfFiles P → Leads [] text old mid → Tells mid P → Tells (still_told old mid) P
+Tells-now {mid = mid} P of_files h tells = Tells-recalled P of_files (Recalls-first refl h (leads_nothing mid)) (λ journal e. tells journal (still-known mid mid journal e).0)
 
 status-more : (found : List NamedText) (text : NamedText) → status_with (found ++ text ∷ []) Done ≡ Refused
 status-more [] text = refl
 status-more (first ∷ found) text = refl
 
 module _ (options : Options) (old mid : Log) (front : List NamedText) (status : Status) (so_far : IsChecked options front old mid status) (text : NamedText) where
-  same-held : (b : Bool) (j k : Journal) → ((name : List ℕ) → held j name ≡ held k name) → b ≡ is_held j text.name text.bytes → b ≡ is_held k text.name text.bytes
+  same-held : (b : Bool) → IsOfFiles (λ journal. b ≡ is_held journal text.name text.bytes)
   same-held b j k same e = e ∙ ap (λ found. option_map_or (λ held_bytes. bytes_eq held_bytes text.bytes) found false) (same text.name)
 
   -- a file that holds its text
@@ -342,95 +296,52 @@ module _ (options : Options) (old mid : Log) (front : List NamedText) (status : 
   IsChecked-fresh fresh = record {
     found = so_far.found;
     of_old = λ journal e.
-        so_far.of_old journal e ∙ sym (append-nil (stale front journal))
-        ∙ ap (λ l. stale front journal ++ l)
-        (sym (stale-fresh text journal (Tells-now (λ j. true ≡ is_held j text.name text.bytes) old mid (stale_lines options so_far.found) (same-held true) so_far.log fresh journal e)))
+        so_far.of_old journal e ∙ sym (append-nil (stale front journal)) ∙ ap (λ l. stale front journal ++ l) (sym (stale-fresh text journal (Tells-now _ (same-held true) so_far.log fresh journal e)))
         ∙ sym (stale-append front (text ∷ []) journal);
     log = so_far.log;
     status_is = so_far.status_is;
   }
 
   module _ (is_old : Tells mid (λ journal. false ≡ is_held journal text.name text.bytes)) where
-    old-now : Tells (still_told old mid) (λ journal. false ≡ is_held journal text.name text.bytes)
-    old-now = Tells-now (λ j. false ≡ is_held j text.name text.bytes) old mid (stale_lines options so_far.found) (same-held false) so_far.log is_old
+    -- what is stale in all
+    found-old : (behind : List NamedText) → Tells (still_told old mid) (λ journal. stale (front ++ text ∷ behind) journal ≡ so_far.found ++ text ∷ stale behind journal)
+    found-old behind = λ journal e.
+        stale-append front (text ∷ behind) journal ∙ ap (λ l. stale front journal ++ l) (stale-old text behind journal (Tells-now _ (same-held false) so_far.log is_old journal e))
+        ∙ ap (λ l. l ++ text ∷ stale behind journal) (sym (so_far.of_old journal e))
 
     -- one that does not, which is told
     pub IsChecked-old : (new : Log) → Leads [] (lead options ++ stale_line text.name) mid new → IsChecked options (front ++ text ∷ []) old new Refused
     IsChecked-old new said = record {
       found = so_far.found ++ text ∷ [];
-      of_old =
-          Tells-later (λ journal. so_far.found ++ text ∷ [] ≡ stale (front ++ text ∷ []) journal) old mid new [] (lead options ++ stale_line text.name) said
-          (λ journal e.
-          ap (λ l. l ++ text ∷ []) (so_far.of_old journal e) ∙ ap (λ l. stale front journal ++ l) (sym (stale-old text [] journal (old-now journal e)))
-          ∙ sym (stale-append front (text ∷ []) journal));
-      log = leads_said [] (stale_lines options so_far.found ++ (lead options ++ stale_line text.name)) (stale_lines options (so_far.found ++ text ∷ [])) old new
+      of_old = Tells-later _ old said (λ journal e. sym (found-old [] journal e));
+      log = Leads-as refl
           (ap (λ l. stale_lines options so_far.found ++ l) (sym (append-nil (lead options ++ stale_line text.name)))
           ∙ sym (flat_map-append (λ (t : NamedText). lead options ++ stale_line t.name) so_far.found (text ∷ [])))
-          (leads_both [] [] (stale_lines options so_far.found) (lead options ++ stale_line text.name) old mid new so_far.log said);
+          (Leads-then so_far.log said);
       status_is = sym (status-more so_far.found text);
     }
 
     -- or cannot be told
-    pub BreaksEnd-old : options.delivery ≡ Check → (behind : List NamedText) (stop : Stop) (new : Log) → IsReportStop stop → Leads (event_of stop) [] mid new →
-        BreaksEnd options [] [] (front ++ text ∷ behind) stop old new
+    pub BreaksEnd-old : options.delivery ≡ Check → (behind : List NamedText) (stop : Stop) (new : Log) → IsReportStop stop → Leads (event_of stop) [] mid new → BreaksEnd options [] (front ++ text ∷ behind) stop old new
     BreaksEnd-old checks behind OutOfMemory new never said = absurd never
     BreaksEnd-old checks behind (Failed f) new (report, name) said = record {
       done = [];
       front = stale_lines options so_far.found;
       stops = in_diagnostics f (stale_lines options so_far.found) report name (AreLines-stale options so_far.found)
-          (Tells-later (λ journal. GoesBeyond (stale_lines options (stale_texts options (front ++ text ∷ behind) journal)) (stale_lines options so_far.found)) old mid new
-          (event_of (Failed f)) [] said (λ journal e. goes journal (so_far.of_old journal e) (old-now journal e)));
-      log = leads_said (event_of (Failed f) ++ clearing options (Failed f)) (stale_lines options so_far.found ++ []) (stale_lines options so_far.found) old new (append-nil (stale_lines options so_far.found))
-          (leads_both [] (event_of (Failed f) ++ clearing options (Failed f)) (stale_lines options so_far.found) [] old mid new so_far.log (report-log options (Failed f) mid new (report, name) said));
+          (Tells-later _ old said (λ journal e.
+          let (b, rest, is) = beyond-nothing (lead options ++ stale_line text.name) (stale_lines options (stale behind journal)) (some-error (lead options) (NotUpToDate text.name)) in (
+            b,
+            rest,
+            ap (λ (by : Delivery). stale_lines options (stale_by by (front ++ text ∷ behind) journal)) checks
+                ∙ ap (stale_lines options) (found-old behind journal e)
+                ∙ flat_map-append (λ (t : NamedText). lead options ++ stale_line t.name) so_far.found (text ∷ stale behind journal)
+                ∙ ap (λ l. stale_lines options so_far.found ++ l) is,
+          )));
+      log = Leads-as refl (append-nil (stale_lines options so_far.found)) (Leads-then so_far.log (report-log options (Failed f) (report, name) said));
     }
-      where
-        goes : (journal : Journal) → so_far.found ≡ stale front journal → false ≡ is_held journal text.name text.bytes →
-            GoesBeyond (stale_lines options (stale_texts options (front ++ text ∷ behind) journal)) (stale_lines options so_far.found)
-        goes journal found old_here =
-            let here = lead options ++ stale_line text.name in
-            let (b, rest, is) = beyond-nothing here (stale_lines options (stale behind journal)) (some-after (lead options) (stale_line text.name) (λ e. some-after (codes "error E22: " ++ text.name ++ codes " is not up to date") (codes "\n") (λ e. cc) e)) in (
-              b,
-              rest,
-              ap (λ (by : Delivery). stale_lines options (stale_by by (front ++ text ∷ behind) journal)) checks
-                  ∙ ap (stale_lines options) (stale-append front (text ∷ behind) journal ∙ ap (λ l. stale front journal ++ l) (stale-old text behind journal old_here) ∙ ap (λ l. l ++ text ∷ stale behind journal) (sym found))
-                  ∙ flat_map-append (λ (t : NamedText). lead options ++ stale_line t.name) so_far.found (text ∷ stale behind journal)
-                  ∙ ap (λ l. stale_lines options so_far.found ++ l) is,
-            )
-
--- all were compared
-pub IsEnded-checked : (options : Options) (texts : List NamedText) (old new : Log) (status : Status) → options.delivery ≡ Check → IsChecked options texts old new status →
-    IsEnded options [] [] texts Done old new status
-IsEnded-checked options texts old new status checks c = record {
-  made = [];
-  stale = c.found;
-  of_old = λ journal e. (
-    ap (λ (by : Delivery). delivered_by by texts journal) (sym checks),
-    c.of_old journal e ∙ ap (λ (by : Delivery). stale_by by texts journal) (sym checks),
-  );
-  log = c.log;
-  status_is = c.status_is;
-  only_checked = inr (checks, refl);
-}
-
--- ---- whole lines
-
--- text of lines ends with a line feed, where there is any
-pub lines-end : (lines : List (List ℕ)) → lines_text lines ≢ [] → (front : List ℕ) × (lines_text lines ≡ front ++ codes "\n")
-lines-end [] some = absurd (some refl)
-lines-end (line ∷ []) some = (line, append-nil (line ++ codes "\n"))
-lines-end (line ∷ next ∷ lines) some =
-    let (front, is) = lines-end (next ∷ lines) (λ e. some-behind-line next (lines_text lines) e) in
-    ((line ++ codes "\n") ++ front, ap (λ l. (line ++ codes "\n") ++ l) is ∙ sym (append_assoc (line ++ codes "\n") front (codes "\n")))
-  where
-    some-behind-line : (l rest : List ℕ) → (l ++ codes "\n") ++ rest ≢ []
-    some-behind-line l rest e = some-before (l ++ codes "\n") rest (some-behind l 10 []) e
-
-pub are_lines-end : (text : List ℕ) → AreLines text → text ≢ [] → (front : List ℕ) × (text ≡ front ++ codes "\n")
-are_lines-end text (lines, is) some =
-    let (front, ends) = lines-end lines (λ e. some (is ∙ e)) in (front, is ∙ ends)
 
 -- what the end of a run did and said
-pub Ends-log : (options : Options) (waits line : List ℕ) (texts : List NamedText) (ended : Status) (result : Result Status Stop) (old new : Log) → Ends options waits line texts ended result old new →
+pub Finishes-log : {options : Options} {diagnostics : List ℕ} {texts : List NamedText} {ended : Status} (result : Result Status Stop) {old new : Log} → Finishes options diagnostics texts ended result old new →
     (events : List Event) × (text : List ℕ) × Leads events text old new
-Ends-log options waits line texts ended (Ok status) old new e = (e.made, (waits ++ line) ++ stale_lines options e.stale, e.log)
-Ends-log options waits line texts ended (Err stop) old new b = (b.done ++ event_of stop ++ clearing options stop, b.front, b.log)
+Finishes-log (Ok status) f = (_, _, Leads-then f.log f.ends.log)
+Finishes-log (Err stop) f = (_, _, Leads-then f.log f.ends.log)

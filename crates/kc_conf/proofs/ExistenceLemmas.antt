@@ -1,16 +1,17 @@
 -- There is an outcome.
 use Rattle.std.proofs.Common.{◌≡◌, ◌⊎◌, ℕ, ◌<◌, List, [], length, map, Option, Some, None, Result, Ok, Err, refl, sym, ◌∙◌, arith, inl, inr, ◌++◌}
 use Rattle.std.specs.List.{range_with_len}
-use Rattle.std.specs.Prelude.{◌||◌, is_some}
+use Rattle.std.specs.Prelude.{◌||◌}
+use Rattle.kc_outcome.specs.declared.outcome.Output.{Output}
 use Rattle.kc_language.specs.declared.expressions.SymId.{SymId}
 use Rattle.std.proofs.lemmas.List.FromFn.{get_or-map-range_with_len, length-map-range_with_len}
 use Rattle.kc_language.specs.Expressions.{SymbolValue, TextValue}
 use Rattle.kc_language.specs.declared.expressions.SymbolType.TheVariants.{Undefined}
-use Rattle.kc_language.specs.Expansion.{AreOpened, ReadSoFar, Refused, Files, numbered_lines}
+use Rattle.kc_language.specs.Expansion.{AreOpened, Refused, Files}
 use Rattle.kc_read.specs.OpenedFiles.{OpenedAreOneList}
 use Rattle.kc_read.specs.Existing.{HasOneExpansion}
 use Rattle.kc_language.specs.Symbols.{TreeFacts, IsTreeOf}
-use Rattle.kc_read.specs.PartsOfSymbols.{tree_of_log}
+use Rattle.kc_entries.specs.PartsOfSymbols.{tree_of_log}
 use Rattle.kc_build.specs.Trees.{TreesAreWellFormed}
 use Rattle.kc_user.specs.Places.{ArePlaces}
 use Rattle.kc_language.specs.ConfigFile.{Places, place_at, StreamLocation}
@@ -19,13 +20,12 @@ use Rattle.kc_language.specs.Values.{IsOnlySolution, Solves, equations, name_cou
 use Rattle.kc_values.specs.Laws.{AcceptedHaveOneSolution, EquationsReadNeeds, NeedingAreDefined, NeedsAreSymbols}
 use Rattle.kc_language.specs.Needs.{needs, needs_of, loop_text, loop_refused}
 use Rattle.kc_language.specs.Texts.{Solution, value_of}
-use Rattle.kc_config_file.specs.Streams.{StreamsLeavePlaces}
-use Rattle.kc_language.specs.Outcome.{Options, fresh_input, lead, refusal_line, IsAcceptedTree, IsLenientOutcome, IsOutcome, IsOutcomeOfReading, IsRefusedTree, Outcome, accepted_tree, lines_text, long_line, looped, input_names, no_tree, reported, read_of, refused_outcome, refused_name, refused_tree, root_file, streams, strictly, unknown_name, unknown_symbol, unreadable_name, whole, with_rule}
+use Rattle.kc_input.specs.Streams.{StreamsLeavePlaces}
+use Rattle.kc_outcome.specs.Outcome.{Options, fresh_input, lead, refusal_line, IsAcceptedTree, IsLenientOutcome, IsOutcome, IsOutcomeOfReading, IsRefusedTree, Outcome, accepted_tree, lines_text, long_line, looped, input_names, no_tree, reported, read_of, refused_outcome, refused_name, refused_tree, root_file, streams, strictly, unknown_name, unknown_symbol, unreadable_name, wants, whole}
 use Rattle.kc_conf.specs.PartsOfOutcome.{too_long_line, unknown_line, unreadable_line}
 use Rattle.kc_conf.specs.PartsOfOutcome.{outcome_of}
 use Rattle.kc_conf.specs.LawSteps.{SolutionExists}
 use Rattle.kc_conf.specs.LawSteps.{AcceptedHaveAnOutcome, AnswerExists, OutcomeExists}
-use Rattle.kc_conf.proofs.Once.{expansion_of}
 
 -- ---- a solution
 
@@ -86,22 +86,22 @@ module _ (expands : HasOneExpansion) (either : order.AcceptedOrUnordered) (named
 
 -- ---- an outcome
 
--- with warnings refused and the rule for make written, where that is asked for
+-- with warnings refused, where that is asked for
 ended : (files : Files) (options : Options) (opened all : List (List ℕ)) (lenient : Outcome) → AreOpened files (root_file options) opened →
     IsLenientOutcome files options opened all lenient → (outcome : Outcome) × IsOutcome files options all outcome
 ended files options opened all lenient are is =
-    (with_rule options opened (strictly options lenient), (lenient, opened, is, are, refl))
+    (strictly options lenient, (lenient, opened, is, are, refl))
 
 module _ (opens : OpenedAreOneList) (formed : TreesAreWellFormed) (leaves : StreamsLeavePlaces) (solved : SolutionExists) where
-  of_stop : (files : Files) (options : Options) (all : List (List ℕ)) (tree : TreeFacts) (log : ReadSoFar) → IsAcceptedTree files (root_file options) tree →
+  of_stop : (files : Files) (options : Options) (opened all : List (List ℕ)) (tree : TreeFacts) → IsAcceptedTree files (root_file options) tree →
       (stopped : Option StreamLocation) → (read_of options tree all).stopped ≡ stopped →
-      (rest : Outcome) × IsOutcomeOfReading files options tree (numbered_lines log.lines) (read_of options tree all) rest
-  of_stop files options all tree log accepted (Some stop) is = (reported (read_of options tree all).warned (refused_outcome (too_long_line stop)), long_line stop is refl)
-  of_stop files options all tree log accepted None is =
+      (rest : Outcome) × IsOutcomeOfReading files options opened tree (read_of options tree all) rest
+  of_stop files options opened all tree accepted (Some stop) is = (reported (read_of options tree all).warned (refused_outcome (too_long_line stop)), long_line stop is refl)
+  of_stop files options opened all tree accepted None is =
       let held : ArePlaces tree (read_of options tree all).input.places =
-      leaves tree options.prefix (options.warn_lost || is_some options.explanation) (fresh_input options tree).gone options.warn_lost (lead options) (streams (input_names options) all) (formed files (root_file options) tree accepted.built) in
+      leaves tree options.prefix (options.warn_lost || wants options Output.Explanation) (fresh_input options tree).gone options.warn_lost (lead options) (streams (input_names options) all) (formed files (root_file options) tree accepted.built) in
       let (solution, for) = solved tree (read_of options tree all).input.places accepted.accepted held.there in (
-        reported (read_of options tree all).warned (outcome_of files options tree (numbered_lines log.lines) (read_of options tree all).input solution),
+        reported (read_of options tree all).warned (outcome_of files options opened (read_of options tree all).input solution),
         whole solution is for refl,
       )
 
@@ -116,9 +116,8 @@ module _ (opens : OpenedAreOneList) (formed : TreesAreWellFormed) (leaves : Stre
       by opened are None (Some asked) read is =
           ended files options opened all (refused_outcome (lead options ++ unknown_line tree asked)) are (unknown_symbol tree asked accepted read is refl)
       by opened are None None read known =
-          let (log, expands) = expansion_of files (root_file options) tree accepted in
-          let (rest, part) = of_stop files options all tree log accepted (read_of options tree all).stopped refl in
-          ended files options opened all (reported (lines_text tree.warnings) rest) are (accepted_tree tree log accepted expands read known (rest, part, refl))
+          let (rest, part) = of_stop files options opened all tree accepted (read_of options tree all).stopped refl in
+          ended files options opened all (reported (lines_text tree.warnings) rest) are (accepted_tree tree accepted read known (rest, part, refl))
 
   pub outcome_exists : AnswerExists → OutcomeExists
   outcome_exists answer files options all = elim (answer files (root_file options)) [

@@ -1,18 +1,21 @@
 -- Over files that expand alike, trees, refusals, outcomes and runs are the same.
 use Rattle.std.proofs.Common.{◌≡◌, ◌⊎◌, inl, inr, ℕ, suc, Bool, List, Result, Ok, ap, subst, sym, ◌∙◌}
-use Rattle.kc_language.specs.Expansion.{AreOpened, Expands, Files, ReadSoFar as TreeLog, Refused, numbered_lines}
+use Rattle.std.specs.Prelude.{All}
+use Rattle.kc_language.specs.Expansion.{AreOpened, Files, Refused}
+use Rattle.kc_language.specs.Statements.{Located, Numbered}
 use Rattle.kc_language.specs.Symbols.{TreeFacts, IsTreeOf}
 use Rattle.kc_io.specs.Log.{Event, Log}
 use Rattle.kc_load.specs.Loading.{ExpandsAlike}
-use Rattle.kc_language.specs.declared.outcome.Status.{Status}
+use Rattle.kc_outcome.specs.declared.outcome.Status.{Status}
 use Rattle.kc_conf.specs.declared.stop.Stop.{Stop}
 use Rattle.kc_conf.specs.Faults.{AreFirstReads, AreReads, Breaks, Broken, Completes, Runs, in_delivery, in_input, in_diagnostics, no_memory, nothing, of_accepted, of_tree, refused_name as reads_no_name, refused_tree as reads_no_tree}
 use Rattle.kc_io.specs.Inputs.{InputFile}
 use Rattle.kc_conf.specs.Many.{AreRootedAt, EndsTurn, IsPart, RunsEach, RunsTurn, StopsAtTree, TakeTurns, TakesTurn}
 use Rattle.kc_conf.specs.Many as many
-use Rattle.kc_language.specs.Outcome.{Options, IsAcceptedTree, IsLenientOutcome, IsOutcome, IsOutcomeOfReading, IsRefusedTree, Outcome, accepted_tree, long_line, looped, no_tree, read_of, refused_if, refused_name, refused_tree, refuses_input, reported, root_file, unknown_symbol, whole}
+use Rattle.kc_outcome.specs.Outcome.{Options, IsAcceptedTree, IsLenientOutcome, IsOutcome, IsOutcomeOfReading, IsRefusedTree, Outcome, accepted_tree, long_line, looped, no_tree, read_of, refused_if, refused_name, refused_tree, refuses_input, reported, root_file, unknown_symbol, whole}
 use Rattle.kc_conf.specs.Faults.{IsRefusedName, NamesAreTaken}
-use Rattle.kc_conf.proofs.SourceLemmas.{lines-same, warned_files-same}
+use Rattle.kc_conf.proofs.Once.{lines_of_tree}
+use Rattle.kc_conf.proofs.SourceLemmas.{done_outcome-same, lines-same}
 
 -- in the other direction
 pub flipped : (root : List ℕ) (files others : Files) → ExpandsAlike root files others → ExpandsAlike root others files
@@ -46,23 +49,24 @@ module _ (options : Options) (files others : Files) (alike : ExpandsAlike (root_
   top = root_file options
 
   -- what follows from the input files is made of the lines' files alone
-  rest_over : (tree : TreeFacts) (log : TreeLog) (all : List (List ℕ)) (rest : Outcome) → Expands files (root_file options) (Ok log) →
-      IsOutcomeOfReading files options tree (numbered_lines log.lines) (read_of options tree all) rest →
-      IsOutcomeOfReading others options tree (numbered_lines log.lines) (read_of options tree all) rest
-  rest_over tree log all rest expands (long_line stop stopped is) = long_line stop stopped is
-  rest_over tree log all rest expands (whole solution none solves is) =
+  lines_held : (tree : TreeFacts) → IsAcceptedTree files top tree → All (λ (l : Located Numbered). others.bytes l.file ≡ files.bytes l.file) tree.lines
+  lines_held tree accepted = let (log, expands, is) = lines_of_tree files top tree accepted in rw is (lines-same files others log (alike.holds log expands))
+
+  rest_over : (opened : List (List ℕ)) (tree : TreeFacts) (all : List (List ℕ)) (rest : Outcome) → IsAcceptedTree files top tree →
+      IsOutcomeOfReading files options opened tree (read_of options tree all) rest → IsOutcomeOfReading others options opened tree (read_of options tree all) rest
+  rest_over opened tree all rest accepted (long_line stop stopped is) = long_line stop stopped is
+  rest_over opened tree all rest accepted (whole solution none solves is) =
       let read = read_of options tree all in
+      let same = subst (λ (t : TreeFacts). All (λ (l : Located Numbered). others.bytes l.file ≡ files.bytes l.file) t.lines) (sym solves.tree_is) (lines_held tree accepted) in
       whole solution none solves
-      (is ∙ ap (λ o. reported read.warned (refused_if options (refuses_input options read.input solution) o))
-      (warned_files-same files others (numbered_lines log.lines) (lines-same files others log (alike.holds log expands)) options tree read.input solution))
+      (is ∙ ap (λ o. reported read.warned (refused_if options (refuses_input options read.input solution) o)) (done_outcome-same files others options opened read.input solution same))
 
   lenient_over : (opened all : List (List ℕ)) (outcome : Outcome) → IsLenientOutcome files options opened all outcome → IsLenientOutcome others options opened all outcome
   lenient_over opened all outcome (refused_tree r x e) = refused_tree r (refused_over top files others alike r x) e
   lenient_over opened all outcome (refused_name tree name x unread e) = refused_name tree name (accepted_over top files others alike tree x) unread e
   lenient_over opened all outcome (unknown_symbol tree asked x read unknown e) = unknown_symbol tree asked (accepted_over top files others alike tree x) read unknown e
-  lenient_over opened all outcome (accepted_tree tree log x expands read known y) =
-      accepted_tree tree log (accepted_over top files others alike tree x) ((alike.gives _).0 expands) read known
-      (y.0, rest_over tree log all y.0 expands y.1, y.2)
+  lenient_over opened all outcome (accepted_tree tree x read known y) =
+      accepted_tree tree (accepted_over top files others alike tree x) read known (y.0, rest_over opened tree all y.0 x y.1, y.2)
 
   outcome_over : (all : List (List ℕ)) (outcome : Outcome) → IsOutcome files options all outcome → IsOutcome others options all outcome
   outcome_over all outcome (lenient, opened, is, are, same) = (lenient, opened, lenient_over opened all lenient is, opened_over top files others alike opened are, same)

@@ -1,8 +1,9 @@
 -- The input files, and what reading them does.
-use Rattle.std.proofs.Common.{◌≡◌, ℕ, zero, suc, Bool, true, false, not, List, [], ◌∷◌, ◌++◌, map, take, refl, sym, ap, ◌∙◌, append_assoc, append-nil, Option, None, Some, is_none, unwrap_or, string_bytes}
+use Rattle.std.proofs.Common.{◌≡◌, ℕ, zero, suc, Bool, true, false, not, List, [], ◌∷◌, ◌++◌, map, take, refl, sym, ap, ◌∙◌, append_assoc, append-nil, Option, None, Some, is_none, unwrap_or}
 use Rattle.std.specs.Prelude.{◌&&◌, ◌||◌, is_some, All, slice_get, if◌then◌else◌}
 use Rattle.std.proofs.lemmas.List.Elements.{All-weaker, All-nil, All-cons}
-use Rattle.kc_io.specs.Log.{keeps_files, only_looks, Event, Journal, Log, Leads, did, each_byte, held}
+use Rattle.std.proofs.lemmas.List.Folds.{list_all-append}
+use Rattle.kc_io.specs.Log.{keeps_files, only_looks, Event, Log, did, each_byte, held}
 use Rattle.kc_io.specs.declared.device.Action.{Action}
 use Rattle.kc_io.specs.declared.device.Action.TheVariants.{Open, Miss, Read}
 use Rattle.kc_io.proofs.LogLemmas.{keeps_both, keeps_bytes}
@@ -10,92 +11,48 @@ use Rattle.kc_language.specs.ConfigFile.{StreamLocation}
 use Rattle.kc_language.specs.Expansion.{Files}
 use Rattle.kc_language.specs.Symbols.{TreeFacts}
 use Rattle.kc_conf.specs.Faults.{AreFirstReads, AreReads, nothing, of_accepted, refused_tree, refused_name, of_tree, ReadsUpTo}
-use Rattle.kc_io.specs.Inputs.{AreInputs, AreThere, InputFile, IsAsTold, IsThere, ReadsTo, all, line, reads, reads_one, still_told}
-use Rattle.kc_language.specs.Outcome.{Options}
-use Rattle.kc_conf.proofs.TellingLemmas.{Tells-first, Tells-later}
+use Rattle.kc_io.specs.Inputs.{AreInputs, AreThere, InputFile, IsAsTold, IsThere, ReadsTo, all, line, reads, reads_one}
+use Rattle.kc_outcome.specs.Outcome.{Options, input_files}
+use Rattle.kc_conf.specs.ReadSteps.{AreAsTold}
+use Rattle.kc_conf.proofs.TellingLemmas.{Recalls, Tells-recalled}
 
--- ---- what they are
+-- ---- what is told of them, told again
 
-module _ (old mid new : Log) (a b : List Event) (s t : List ℕ) (keeps : keeps_files a ≡ true) (h : Leads a s old mid) (w : Leads b t mid new) where
-  IsAsTold-before : (may : Bool) (file : InputFile) → IsAsTold (still_told mid new) may file → IsAsTold (still_told old new) may file
-  IsAsTold-before may file is = record {
+module _ {told later : Log} (r : Recalls told later) where
+  pub IsAsTold-recalled : (may : Bool) (file : InputFile) → IsAsTold told may file → IsAsTold later may file
+  IsAsTold-recalled may file is = record {
     missing = is.missing;
-    told = Tells-first (λ journal. (file.bytes ≡ unwrap_or (held journal file.name) []) × (file.is_missing ≡ (may && is_none (held journal file.name)))) old mid new a b s t keeps
-        (λ j k same p. (p.0 ∙ ap (λ found. unwrap_or found []) (same file.name), p.1 ∙ ap (λ (found : Option (List ℕ)). may && is_none found) (same file.name))) h w is.told;
+    told = Tells-recalled (λ journal. (file.bytes ≡ unwrap_or (held journal file.name) []) × (file.is_missing ≡ (may && is_none (held journal file.name))))
+        (λ j k same p. (p.0 ∙ ap (λ found. unwrap_or found []) (same file.name), p.1 ∙ ap (λ (found : Option (List ℕ)). may && is_none found) (same file.name))) r is.told;
   }
 
-  -- input files that are read behind something else are those that were there before it
-  pub AreInputs-before : (options : Options) (inputs : List InputFile) → AreInputs (still_told mid new) options inputs → AreInputs (still_told old new) options inputs
-  AreInputs-before options [] are = are
-  AreInputs-before options (config ∷ fragments) are =
-      (are.0, IsAsTold-before (not options.must_exist) config are.1, All-weaker _ _ (IsAsTold-before false) fragments are.2)
+  pub AreInputs-recalled : (options : Options) (inputs : List InputFile) → AreInputs told options inputs → AreInputs later options inputs
+  AreInputs-recalled options [] are = are
+  AreInputs-recalled options (config ∷ fragments) are =
+      (are.0, IsAsTold-recalled (not options.must_exist) config are.1, All-weaker _ _ (IsAsTold-recalled false) fragments are.2)
 
--- what it tells in between is what it tells later
-pub AreInputs-later : (b : List Event) (t : List ℕ) (old mid new : Log) → Leads b t mid new → (options : Options) (inputs : List InputFile) → AreInputs (still_told old mid) options inputs → AreInputs (still_told old new) options inputs
-AreInputs-later b t old mid new w options [] are = are
-AreInputs-later b t old mid new w options (config ∷ fragments) are =
-    (are.0, as-told (not options.must_exist) config are.1, All-weaker _ _ (as-told false) fragments are.2)
-  where
-    as-told : (may : Bool) (file : InputFile) → IsAsTold (still_told old mid) may file → IsAsTold (still_told old new) may file
-    as-told may file is = record {
-      missing = is.missing;
-      told = Tells-later (λ journal. (file.bytes ≡ unwrap_or (held journal file.name) []) × (file.is_missing ≡ (may && is_none (held journal file.name)))) old mid new b t w is.told;
-    }
+  pub AreAsTold-recalled : (may : Bool) (files : List InputFile) → AreAsTold told may files → AreAsTold later may files
+  AreAsTold-recalled may [] are = tt
+  AreAsTold-recalled may (file ∷ files) are = (IsAsTold-recalled may file are.0, AreAsTold-recalled false files are.1)
 
--- ---- which are there
+  pub IsThere-recalled : (file : InputFile) → IsThere told file → IsThere later file
+  IsThere-recalled file there = λ not_missing. Tells-recalled (λ journal. is_some (held journal file.name) ≡ true) (λ j k same p. ap is_some (sym (same file.name)) ∙ p) r (there not_missing)
 
--- a file that is there behind something else was there before it
-pub IsThere-before : (old mid new : Log) (a b : List Event) (s t : List ℕ) (file : InputFile) → keeps_files a ≡ true → Leads a s old mid → Leads b t mid new →
-    IsThere (still_told mid new) file → IsThere (still_told old new) file
-IsThere-before old mid new a b s t file keeps h w there = λ not_missing.
-    Tells-first (λ journal. is_some (held journal file.name) ≡ true) old mid new a b s t keeps (λ j k same p. ap is_some (sym (same file.name)) ∙ p) h w (there not_missing)
+  pub AreThere-recalled : (inputs : List InputFile) → AreThere told inputs → AreThere later inputs
+  AreThere-recalled inputs are = λ i file is turn. IsThere-recalled file (are i file is turn)
 
--- and one that was found in between is found later
-pub IsThere-later : (old mid new : Log) (b : List Event) (t : List ℕ) (file : InputFile) → Leads b t mid new → IsThere (still_told old mid) file → IsThere (still_told old new) file
-IsThere-later old mid new b t file w there = λ not_missing. Tells-later (λ journal. is_some (held journal file.name) ≡ true) old mid new b t w (there not_missing)
+  pub AreReads-recalled : {files : Files} {options : Options} {inputs : List InputFile} {events : List Event} → AreReads files options inputs told events → AreReads files options inputs later events
+  AreReads-recalled (refused_tree r is) = refused_tree r is
+  AreReads-recalled (refused_name name is) = refused_name name is
+  AreReads-recalled {inputs = inputs} (of_tree tree events accepted named there to) = of_tree tree events accepted named (AreThere-recalled inputs there) to
 
-module _ (old mid new : Log) (a b : List Event) (s t : List ℕ) (keeps : keeps_files a ≡ true) (h : Leads a s old mid) (w : Leads b t mid new) where
-  AreThere-before : (inputs : List InputFile) → AreThere (still_told mid new) inputs → AreThere (still_told old new) inputs
-  AreThere-before inputs are = λ i file is turn. IsThere-before old mid new a b s t file keeps h w (are i file is turn)
-
-  pub AreReads-before : {files : Files} {options : Options} {inputs : List InputFile} {events : List Event} → AreReads files options inputs (still_told mid new) events →
-      AreReads files options inputs (still_told old new) events
-  AreReads-before (refused_tree r is) = refused_tree r is
-  AreReads-before (refused_name name is) = refused_name name is
-  AreReads-before {inputs = inputs} (of_tree tree events accepted named there to) = of_tree tree events accepted named (AreThere-before inputs there) to
-
-  pub ReadsUpTo-before : (options : Options) (tree : TreeFacts) (inputs : List InputFile) (action : Action) (file : InputFile) (done : List Event) (said : List ℕ) →
-      ReadsUpTo (still_told mid new) options tree inputs action file done said → ReadsUpTo (still_told old new) options tree inputs action file done said
-  ReadsUpTo-before options tree inputs action file done said up_to = record {
+  pub ReadsUpTo-recalled : {options : Options} {tree : TreeFacts} {inputs : List InputFile} {action : Action} {file : InputFile} {done : List Event} {said : List ℕ} →
+      ReadsUpTo told options tree inputs action file done said → ReadsUpTo later options tree inputs action file done said
+  ReadsUpTo-recalled {inputs = inputs} up_to = record {
     i = up_to.i;
     is_file = up_to.is_file;
     turn = up_to.turn;
-    there = AreThere-before (take up_to.i inputs) up_to.there;
-    bytes = up_to.bytes;
-    begins = up_to.begins;
-    short = up_to.short;
-    nothing_before = up_to.nothing_before;
-    done_is = up_to.done_is;
-    said_is = up_to.said_is;
-  }
-
-module _ (old mid new : Log) (b : List Event) (t : List ℕ) (w : Leads b t mid new) where
-  pub AreThere-later : (inputs : List InputFile) → AreThere (still_told old mid) inputs → AreThere (still_told old new) inputs
-  AreThere-later inputs are = λ i file is turn. IsThere-later old mid new b t file w (are i file is turn)
-
-  pub AreReads-later : {files : Files} {options : Options} {inputs : List InputFile} {events : List Event} → AreReads files options inputs (still_told old mid) events →
-      AreReads files options inputs (still_told old new) events
-  AreReads-later (refused_tree r is) = refused_tree r is
-  AreReads-later (refused_name name is) = refused_name name is
-  AreReads-later {inputs = inputs} (of_tree tree events accepted named there to) = of_tree tree events accepted named (AreThere-later inputs there) to
-
-  pub ReadsUpTo-later : (options : Options) (tree : TreeFacts) (inputs : List InputFile) (action : Action) (file : InputFile) (done : List Event) (said : List ℕ) →
-      ReadsUpTo (still_told old mid) options tree inputs action file done said → ReadsUpTo (still_told old new) options tree inputs action file done said
-  ReadsUpTo-later options tree inputs action file done said up_to = record {
-    i = up_to.i;
-    is_file = up_to.is_file;
-    turn = up_to.turn;
-    there = AreThere-later (take up_to.i inputs) up_to.there;
+    there = AreThere-recalled (take up_to.i inputs) up_to.there;
     bytes = up_to.bytes;
     begins = up_to.begins;
     short = up_to.short;
@@ -106,58 +63,64 @@ module _ (old mid new : Log) (b : List Event) (t : List ℕ) (w : Leads b t mid 
 
 -- ---- that there are some
 
--- what a device tells of the file of a name
-told_of : Option (List ℕ) → Bool → List ℕ → InputFile
-told_of found may name = record { name = name; is_missing = may && is_none found; bytes = unwrap_or found [] }
+-- what is told of a file of this name
+pub as_told : Log → Bool → List ℕ → InputFile
+as_told None may name = record { name = name; is_missing = false; bytes = [] }
+as_told (Some journal) may name = record { name = name; is_missing = may && is_none (held journal name); bytes = unwrap_or (held journal name) [] }
 
-told_file : Log → Bool → List ℕ → InputFile
-unfolding told_of
-told_file None may name = record { name = name; is_missing = false; bytes = [] }
-told_file (Some journal) may name = told_of (held journal name) may name
+pub named-as_told : (log : Log) (may : Bool) (name : List ℕ) → (as_told log may name).name ≡ name
+unfolding as_told
+named-as_told None may name = refl
+named-as_told (Some journal) may name = refl
 
-is-told : (log : Log) (may : Bool) (name : List ℕ) → IsAsTold log may (told_file log may name)
-unfolding told_file told_of
-is-told None may name = record {
-  missing = λ e. absurd (let clash : false ≡ true = e in cc);
-  told = λ journal e. absurd (let clash : None ≡ Some journal = e in cc);
-}
-is-told (Some journal) may name = record {
-  missing = none may (held journal name);
-  told = λ other e. let same : journal ≡ other = (let both : Some journal ≡ Some other = e in cc) in
-      (ap (λ (j : Journal). unwrap_or (held j name) []) same, ap (λ (j : Journal). may && is_none (held j name)) same);
+pub is-as_told : (log : Log) (may : Bool) (name : List ℕ) → IsAsTold log may (as_told log may name)
+unfolding as_told
+is-as_told None may name = record { missing = λ e. absurd cc; told = λ journal e. absurd cc }
+is-as_told (Some known) may name = record {
+  missing = none may (held known name);
+  told = λ journal e. let same : known ≡ journal = cc in rw same (refl, refl);
 }
   where
     none : (m : Bool) (found : Option (List ℕ)) → (m && is_none found) ≡ true → (m ≡ true) × (unwrap_or found [] ≡ [])
     none true None e = (refl, refl)
-    none true (Some bytes) e = absurd (let clash : false ≡ true = e in cc)
-    none false found e = absurd (let clash : false ≡ true = e in cc)
+    none true (Some bytes) e = absurd cc
+    none false found e = absurd cc
 
-told-name : (log : Log) (may : Bool) (name : List ℕ) → (told_file log may name).name ≡ name
-unfolding told_file told_of
-told-name None may name = refl
-told-name (Some journal) may name = refl
+-- only the first may be missing
+all_told : Log → Bool → List (List ℕ) → List InputFile
+all_told log may [] = []
+all_told log may (name ∷ names) = as_told log may name ∷ all_told log false names
 
-told-names : (log : Log) (names : List (List ℕ)) → map (λ (f : InputFile). f.name) (map (told_file log false) names) ≡ names
-told-names log [] = refl
-told-names log (name ∷ names) = ap (λ n. n ∷ map (λ (f : InputFile). f.name) (map (told_file log false) names)) (told-name log false name) ∙ ap (λ ns. name ∷ ns) (told-names log names)
+are-all_told : (log : Log) (may : Bool) (names : List (List ℕ)) → AreAsTold log may (all_told log may names)
+unfolding all_told
+are-all_told log may [] = tt
+are-all_told log may (name ∷ names) = (is-as_told log may name, are-all_told log false names)
 
-are-told : (log : Log) (names : List (List ℕ)) → All (IsAsTold log false) (map (told_file log false) names)
-are-told log [] = All-nil (IsAsTold log false)
-are-told log (name ∷ names) = All-cons (IsAsTold log false) (told_file log false name) (map (told_file log false) names) (is-told log false name) (are-told log names)
+names-all_told : (log : Log) (may : Bool) (names : List (List ℕ)) → map (λ (file : InputFile). file.name) (all_told log may names) ≡ names
+unfolding all_told
+names-all_told log may [] = refl
+names-all_told log may (name ∷ names) = let first = named-as_told log may name in let others = names-all_told log false names in cc
 
--- there are input files, whatever is told
+-- those of so many names that are left
+pub others-told : (log : Log) (names : List (List ℕ)) → (files : List InputFile) × AreAsTold log false files × (map (λ (file : InputFile). file.name) files ≡ names)
+others-told log names = (all_told log false names, are-all_told log false names, names-all_told log false names)
+
+-- they are the input files
+pub are-inputs : (log : Log) (options : Options) (files : List InputFile) → map (λ (file : InputFile). file.name) files ≡ input_files options → AreAsTold log (not options.must_exist) files →
+    AreInputs log options files
+are-inputs log options [] named are = absurd cc
+are-inputs log options (config ∷ fragments) named are = (named, are.0, each fragments are.1)
+  where
+    each : (files : List InputFile) → AreAsTold log false files → All (IsAsTold log false) files
+    each [] are = All-nil (IsAsTold log false)
+    each (file ∷ files) are = All-cons (IsAsTold log false) file files are.0 (each files are.1)
+
+-- whatever is told
 pub inputs-exist : (log : Log) (options : Options) → (inputs : List InputFile) × AreInputs log options inputs
 inputs-exist log options =
-    let config = told_file log (not options.must_exist) (string_bytes options.config) in
-    let names = map string_bytes options.fragments.items in (
-      config ∷ map (told_file log false) names,
-      (
-        ap (λ n. n ∷ map (λ (f : InputFile). f.name) (map (told_file log false) names)) (told-name log (not options.must_exist) (string_bytes options.config))
-            ∙ ap (λ ns. string_bytes options.config ∷ ns) (told-names log names),
-        is-told log (not options.must_exist) (string_bytes options.config),
-        are-told log names,
-      ),
-    )
+    let may = not options.must_exist in
+    let names = input_files options in
+    (all_told log may names, are-inputs log options (all_told log may names) (names-all_told log may names) (are-all_told log may names))
 
 -- ---- what reading them does
 
@@ -172,18 +135,12 @@ pub keeps-reads : (files : List InputFile) → keeps_files (reads files) ≡ tru
 keeps-reads [] = refl
 keeps-reads (file ∷ files) = keeps_both (reads_one file) (reads files) (keeps-reads_one file) (keeps-reads files)
 
-keeps-front : (a b : List Event) → keeps_files (a ++ b) ≡ true → keeps_files a ≡ true
-keeps-front [] b keeps = refl
-keeps-front (event ∷ a) b keeps =
-    let both = and-both (is_some event.fault || only_looks event.action) (keeps_files (a ++ b)) keeps in and-of (is_some event.fault || only_looks event.action) (keeps_files a) both.0 (keeps-front a b both.1)
-  where
-    and-both : (x y : Bool) → (x && y) ≡ true → (x ≡ true) × (y ≡ true)
-    and-both true y e = (refl, e)
-    and-both false y e = absurd (let clash : false ≡ true = e in cc)
+pub and-both : (x y : Bool) → (x && y) ≡ true → (x ≡ true) × (y ≡ true)
+and-both true y e = (refl, e)
+and-both false y e = absurd (let clash : false ≡ true = e in cc)
 
-    and-of : (x y : Bool) → x ≡ true → y ≡ true → (x && y) ≡ true
-    and-of true y e f = f
-    and-of false y e f = e
+keeps-front : (a b : List Event) → keeps_files (a ++ b) ≡ true → keeps_files a ≡ true
+keeps-front a b keeps = (and-both (keeps_files a) (keeps_files b) (sym (list_all-append (λ (event : Event). is_some event.fault || only_looks event.action) a b) ∙ keeps)).0
 
 -- the reads of one of the files, among all
 reads-split : (files : List InputFile) (i : ℕ) (file : InputFile) → slice_get files i ≡ Some file → (rest : List Event) × (reads files ≡ reads (take i files) ++ (reads_one file ++ rest))
@@ -195,7 +152,7 @@ reads-split (first ∷ files) (suc i) file e =
     let (rest, is) = reads-split files i file e in
     (rest, ap (λ l. reads_one first ++ l) is ∙ sym (append_assoc (reads_one first) (reads (take i files)) (reads_one file ++ rest)))
 
-reads_to-front : {files : List InputFile} {stopped : Option StreamLocation} {events : List Event} → ReadsTo files stopped events → (left : List Event) × (events ++ left ≡ reads files)
+pub reads_to-front : {files : List InputFile} {stopped : Option StreamLocation} {events : List Event} → ReadsTo files stopped events → (left : List Event) × (events ++ left ≡ reads files)
 reads_to-front {files = files} all = ([], append-nil (reads files))
 reads_to-front {files = files} (line stop i file events is turn long into) =
     let (rest, split) = reads-split files i file is in (

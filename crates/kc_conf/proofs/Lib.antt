@@ -1,17 +1,17 @@
 pub mod ExistenceLemmas
 pub mod EffectLemmas
 pub mod AccountedLemmas
-pub mod ListLemmas
 pub mod MoreLemmas
+pub mod CauseLemmas
 pub mod LostLemmas
 pub mod PromptLemmas
 pub mod PartLemmas
 pub mod ExplainedLemmas
 pub mod ComputedLemmas
 pub mod RefusedNames
-pub mod HeldLemmas
 pub mod SourceLemmas
 pub mod OutcomeLemmas
+pub mod DecideLemmas
 pub mod DiagnosticLemmas
 pub mod Once
 pub mod RerunLemmas
@@ -30,3 +30,4 @@ pub mod ManyLemmas
 pub mod SeparateLemmas
 pub mod AmongLemmas
 pub mod FolderLemmas
+pub mod DeadLemmas

@@ -1,11 +1,11 @@
 -- A run has one outcome.
-use Rattle.std.proofs.Common.{◌≡◌, ℕ, ◌<◌, List, [], ◌++◌, length, map, Option, Some, None, Result, Ok, Err, true, false, sym, ap, subst, ◌∙◌}
+use Rattle.std.proofs.Common.{◌≡◌, ℕ, ◌<◌, List, [], ◌∷◌, ◌++◌, length, map, Option, Some, None, Result, Ok, Err, true, false, sym, ap, subst, ◌∙◌}
 use Rattle.kc_language.specs.declared.expressions.SymId.{SymId}
-use Rattle.kc_language.specs.Expansion.{AreOpened, Expands, ReadSoFar, Refused, Files, numbered_lines}
-use Rattle.kc_language.specs.Statements.{Located, Numbered}
+use Rattle.kc_language.specs.Expansion.{AreOpened, Expands, ReadSoFar, Refused, Files, mentioned_names, numbered_lines}
 use Rattle.kc_read.specs.Existing.{HasOneExpansion}
-use Rattle.kc_language.specs.Symbols.{TreeFacts, IsTreeOf}
-use Rattle.kc_read.specs.PartsOfSymbols.{tree_of_log}
+use Rattle.kc_language.specs.Statements.{statements}
+use Rattle.kc_language.specs.Symbols.{TreeFacts, IsTreeOf, facts_with}
+use Rattle.kc_entries.specs.PartsOfSymbols.{tree_of_log, unless_refused, whole_list_refusals}
 use Rattle.kc_build.specs.Trees.{OneTree}
 use Rattle.kc_language.specs.ConfigFile.{Places, place_at, ReadResult}
 use Rattle.kc_language.specs.Expressions.{TextValue}
@@ -14,7 +14,8 @@ use Rattle.kc_order.specs.Laws.{NamedAreUnordered, OneNamedLoop}
 use Rattle.kc_language.specs.Values.{Solves, equations, name_count}
 use Rattle.kc_language.specs.Needs.{IsAccepted, needs, loop_text, IsLoopText, loop_refused}
 use Rattle.kc_language.specs.Texts.{Solution, value_of}
-use Rattle.kc_language.specs.Outcome.{Options, lead, refusal_line, Outcome, IsLenientOutcome, strictly, reported, lines_text, refused_outcome, read_of, root_file, IsRefusedTree, no_tree, looped, IsAcceptedTree, IsSolutionFor, refused_tree, refused_name, unknown_name, unknown_symbol, unreadable_name, accepted_tree, IsOutcomeOfReading, long_line, whole, with_rule}
+use Rattle.kc_outcome.specs.Outcome.{Options, lead, refusal_line, Outcome, IsLenientOutcome, strictly, reported, lines_text, refused_outcome, read_of, root_file, IsRefusedTree, no_tree, looped, IsAcceptedTree, refused_tree, refused_name, unknown_name, unknown_symbol, unreadable_name, accepted_tree, IsOutcomeOfReading, long_line, whole}
+use Rattle.kc_language.specs.Texts.{IsSolutionFor}
 use Rattle.kc_conf.specs.PartsOfOutcome.{too_long_line, unknown_line, unreadable_line}
 use Rattle.kc_conf.specs.PartsOfOutcome.{outcome_of}
 use Rattle.kc_conf.specs.LawSteps.{OneAnswer, OneOutcome}
@@ -62,15 +63,8 @@ module _ (law : OneTree) (loops : OneNamedLoop) (stuck : NamedAreUnordered) (fil
   not_both_law r tree (looped other text a named is) b =
       never_both stuck tree text (subst (λ t. IsLoopText t text) (same_tree other tree a b.built) named) b.accepted
 
--- a root file has one list of lines
-one_log_law : HasOneExpansion → (files : Files) (root : List ℕ) (log other : ReadSoFar) → Expands files root (Ok log) → Expands files root (Ok other) → log ≡ other
-one_log_law has files root log other a b =
-    let (r, is, only) = has files root in
-    ap (ok_or log) (sym (only (Ok log) a) ∙ only (Ok other) b)
-
 pub one_answer_law : HasOneExpansion → OneTree → OneNamedLoop → NamedAreUnordered → OneAnswer
 one_answer_law has law loops stuck = record {
-  one_log = one_log_law has;
   one_refusal = one_refusal_law law loops stuck;
   one_accepted = one_accepted_law law loops stuck;
   not_both = not_both_law law loops stuck;
@@ -100,14 +94,14 @@ abbrev some_or : {A : Type 0} → A → Option A → A
 some_or d None = d
 some_or d (Some x) = x
 
-one_rest : (files : Files) (options : Options) (tree : TreeFacts) (lines : List (Located Numbered)) (read : ReadResult) (a b : Outcome) →
-    IsOutcomeOfReading files options tree lines read a → IsOutcomeOfReading files options tree lines read b → a ≡ b
-one_rest files options tree lines read a b (long_line stop long is) (long_line other long' is') =
+one_rest : (files : Files) (options : Options) (opened : List (List ℕ)) (tree : TreeFacts) (read : ReadResult) (a b : Outcome) →
+    IsOutcomeOfReading files options opened tree read a → IsOutcomeOfReading files options opened tree read b → a ≡ b
+one_rest files options opened tree read a b (long_line stop long is) (long_line other long' is') =
     is ∙ ap (λ s. reported read.warned (refused_outcome (too_long_line s))) (ap (some_or stop) (sym long ∙ long')) ∙ sym is'
-one_rest files options tree lines read a b (long_line stop long is) (whole s none solves is') = absurd (let e : Some stop ≡ None = sym long ∙ none in cc)
-one_rest files options tree lines read a b (whole s none solves is) (long_line stop long is') = absurd (let e : Some stop ≡ None = sym long ∙ none in cc)
-one_rest files options tree lines read a b (whole s none solves is) (whole t none' solves' is') =
-    is ∙ ap (λ x. reported read.warned (outcome_of files options tree lines read.input x)) (one_solution tree read.input.places s t solves solves') ∙ sym is'
+one_rest files options opened tree read a b (long_line stop long is) (whole s none solves is') = absurd (let e : Some stop ≡ None = sym long ∙ none in cc)
+one_rest files options opened tree read a b (whole s none solves is) (long_line stop long is') = absurd (let e : Some stop ≡ None = sym long ∙ none in cc)
+one_rest files options opened tree read a b (whole s none solves is) (whole t none' solves' is') =
+    is ∙ ap (λ x. reported read.warned (outcome_of files options opened read.input x)) (one_solution tree read.input.places s t solves solves') ∙ sym is'
 
 -- over a refused tree it is the refusal
 lenient_refused : OneAnswer → (files : Files) (options : Options) (opened all : List (List ℕ)) (a : Outcome) (r : Refused) → IsRefusedTree files (root_file options) r →
@@ -115,15 +109,15 @@ lenient_refused : OneAnswer → (files : Files) (options : Options) (opened all 
 lenient_refused law files options opened all a r why (refused_tree s first is) = is ∙ ap (λ x. refused_outcome (refusal_line x)) (law.one_refusal files (root_file options) s r first why)
 lenient_refused law files options opened all a r why (refused_name tree name accepted unread is) = absurd (law.not_both files (root_file options) r tree why accepted)
 lenient_refused law files options opened all a r why (unknown_symbol tree asked accepted read unknown is) = absurd (law.not_both files (root_file options) r tree why accepted)
-lenient_refused law files options opened all a r why (accepted_tree tree log accepted expands read known rest) = absurd (law.not_both files (root_file options) r tree why accepted)
+lenient_refused law files options opened all a r why (accepted_tree tree accepted read known rest) = absurd (law.not_both files (root_file options) r tree why accepted)
 
 module _ (law : OneAnswer) (files : Files) (options : Options) (opened all : List (List ℕ)) (tree : TreeFacts) (accepted : IsAcceptedTree files (root_file options) tree) where
   -- over an accepted tree: a name that make cannot read, a name that no symbol has, or what follows from the input files
-  abbrev AreOf : Option (List ℕ) → Option (List ℕ) → Outcome → Type 0
+  abbrev pub AreOf : Option (List ℕ) → Option (List ℕ) → Outcome → Type 0
   AreOf (Some name) unknown outcome = outcome ≡ refused_outcome (lead options ++ unreadable_line name)
   AreOf None (Some asked) outcome = outcome ≡ refused_outcome (lead options ++ unknown_line tree asked)
-  AreOf None None outcome = (log : ReadSoFar) × Expands files (root_file options) (Ok log)
-      × ((rest : Outcome) × IsOutcomeOfReading files options tree (numbered_lines log.lines) (read_of options tree all) rest × (outcome ≡ reported (lines_text tree.warnings) rest))
+  AreOf None None outcome = (rest : Outcome) × IsOutcomeOfReading files options opened tree (read_of options tree all) rest
+      × (outcome ≡ reported (lines_text tree.warnings) rest)
 
   pub lenient_is : (a : Outcome) → IsLenientOutcome files options opened all a → AreOf (unreadable_name options opened) (unknown_name options tree) a
   lenient_is a (refused_tree r why is) = absurd (law.not_both files (root_file options) r tree why accepted)
@@ -133,44 +127,46 @@ module _ (law : OneAnswer) (files : Files) (options : Options) (opened all : Lis
       subst (λ u. AreOf u (unknown_name options tree) a) (sym read)
       (subst (λ u. AreOf None u a) (sym unknown ∙ ap (unknown_name options) same)
       (is ∙ ap (λ (t : TreeFacts). refused_outcome (lead options ++ unknown_line t asked)) same))
-  lenient_is a (accepted_tree other log second expands read known (rest, part, is)) =
+  lenient_is a (accepted_tree other second read known (rest, part, is)) =
       let same : other ≡ tree = law.one_accepted files (root_file options) other tree second accepted in
       subst (λ u. AreOf u (unknown_name options tree) a) (sym read)
       (subst (λ u. AreOf None u a) (sym known ∙ ap (unknown_name options) same) (
-        log,
-        expands,
-        (
-          rest,
-          subst (λ (t : TreeFacts). IsOutcomeOfReading files options t (numbered_lines log.lines) (read_of options t all) rest) same part,
-          is ∙ ap (λ (t : TreeFacts). reported (lines_text t.warnings) rest) same,
-        ),
+        rest,
+        subst (λ (t : TreeFacts). IsOutcomeOfReading files options opened t (read_of options t all) rest) same part,
+        is ∙ ap (λ (t : TreeFacts). reported (lines_text t.warnings) rest) same,
       ))
 
   one_of : (unread unknown : Option (List ℕ)) (a b : Outcome) → AreOf unread unknown a → AreOf unread unknown b → a ≡ b
   one_of (Some name) unknown a b is is' = is ∙ sym is'
   one_of None (Some asked) a b is is' = is ∙ sym is'
-  one_of None None a b (log, expands, (rest, part, is)) (other, expands', (more, part', is')) =
-      let same : other ≡ log = law.one_log files (root_file options) other log expands' expands in
-      let part'' : IsOutcomeOfReading files options tree (numbered_lines log.lines) (read_of options tree all) more =
-      subst (λ (l : ReadSoFar). IsOutcomeOfReading files options tree (numbered_lines l.lines) (read_of options tree all) more) same part' in
-      is ∙ ap (reported (lines_text tree.warnings)) (one_rest files options tree (numbered_lines log.lines) (read_of options tree all) rest more part part'') ∙ sym is'
+  one_of None None a b (rest, part, is) (more, part', is') =
+      is ∙ ap (reported (lines_text tree.warnings)) (one_rest files options opened tree (read_of options tree all) rest more part part') ∙ sym is'
 
   one_accepted_outcome : (a b : Outcome) → IsLenientOutcome files options opened all a → IsLenientOutcome files options opened all b → a ≡ b
   one_accepted_outcome a b first second = one_of (unreadable_name options opened) (unknown_name options tree) a b (lenient_is a first) (lenient_is b second)
 
--- an accepted tree is that of an expansion that is accepted
-pub expansion_of : (files : Files) (root : List ℕ) (tree : TreeFacts) → IsAcceptedTree files root tree → (log : ReadSoFar) × Expands files root (Ok log)
-expansion_of files root tree accepted = by accepted.built.0 accepted.built.1 accepted.built.2
+-- an accepted tree is that of an expansion that is accepted, and has its lines
+ok_if : (refusals : List Refused) (tree said : TreeFacts) → Ok tree ≡ unless_refused refusals said → tree ≡ said
+ok_if [] tree said is = ap (ok_or tree) is
+ok_if (r ∷ rs) tree said is = absurd (let clash : Ok tree ≡ Err r = is in cc)
+
+pub lines_of_tree : (files : Files) (root : List ℕ) (tree : TreeFacts) → IsAcceptedTree files root tree →
+    (log : ReadSoFar) × Expands files root (Ok log) × (tree.lines ≡ numbered_lines log.lines)
+lines_of_tree files root tree accepted = by accepted.built.0 accepted.built.1 accepted.built.2
   where
-    by : (e : Result ReadSoFar Refused) → Expands files root e → Ok tree ≡ tree_of_log e → (log : ReadSoFar) × Expands files root (Ok log)
-    by (Ok log) expands is = (log, expands)
+    by : (e : Result ReadSoFar Refused) → Expands files root e → Ok tree ≡ tree_of_log e →
+        (log : ReadSoFar) × Expands files root (Ok log) × (tree.lines ≡ numbered_lines log.lines)
+    by (Ok log) expands is =
+        let names = mentioned_names (statements log.lines) in
+        let lines = numbered_lines log.lines in
+        (log, expands, ap (λ (t : TreeFacts). t.lines) (ok_if (whole_list_refusals names lines) tree (facts_with names lines) is))
     by (Err r) expands is = absurd (let clash : Ok tree ≡ Err r = is in cc)
 
 -- so the files that it opens are one list
 pub one_opened : (files : Files) (root : List ℕ) (tree : TreeFacts) (opened others : List (List ℕ)) → IsAcceptedTree files root tree →
     AreOpened files root opened → AreOpened files root others → opened ≡ others
 one_opened files root tree opened others accepted are are' =
-    let (log, expands) = expansion_of files root tree accepted in are log expands ∙ sym (are' log expands)
+    let (log, expands, is) = lines_of_tree files root tree accepted in are log expands ∙ sym (are' log expands)
 
 pub one_outcome_law : OneAnswer → OneOutcome
 one_outcome_law law files options all a b (lenient, opened, first, are, is) (other, others, second, are', is') = by first
@@ -179,13 +175,11 @@ one_outcome_law law files options all a b (lenient, opened, first, are, is) (oth
     accepts tree accepted =
         let same : opened ≡ others = one_opened files (root_file options) tree opened others accepted are are' in
         let second' : IsLenientOutcome files options opened all other = subst (λ l. IsLenientOutcome files options l all other) (sym same) second in
-        is ∙ ap (λ l. with_rule options l (strictly options lenient)) same
-        ∙ ap (λ o. with_rule options others (strictly options o)) (one_accepted_outcome law files options opened all tree accepted lenient other first second') ∙ sym is'
+        is ∙ ap (strictly options) (one_accepted_outcome law files options opened all tree accepted lenient other first second') ∙ sym is'
 
     by : IsLenientOutcome files options opened all lenient → a ≡ b
     by (refused_tree r why was) =
-        is ∙ ap (λ o. with_rule options opened (strictly options o)) was
-        ∙ ap (λ o. with_rule options others (strictly options o)) (sym (lenient_refused law files options others all other r why second)) ∙ sym is'
+        is ∙ ap (strictly options) was ∙ ap (strictly options) (sym (lenient_refused law files options others all other r why second)) ∙ sym is'
     by (refused_name tree name accepted unread was) = accepts tree accepted
     by (unknown_symbol tree asked accepted read unknown was) = accepts tree accepted
-    by (accepted_tree tree log accepted expands read known part) = accepts tree accepted
+    by (accepted_tree tree accepted read known part) = accepts tree accepted

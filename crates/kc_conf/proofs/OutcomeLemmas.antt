@@ -1,10 +1,8 @@
 -- What is refused of an outcome, and what its parts have to do with the whole.
-use Rattle.std.proofs.Common.{◌≡◌, ℕ, Bool, true, false, List, [], ◌∷◌, ◌++◌, refl, sym, ap, ◌∙◌, append_assoc, length, map, not, Option, Some, None, is_some, Vec, Global, arith}
-use Rattle.std.specs.Prelude.{◌&&◌, ◌||◌, ◌==◌, if◌then◌else◌}
-use Rattle.kc_language.specs.Outcome.{Options, Outcome, is_not_empty, is_done, lines_text, reported, refused_if, strictly, with_rule}
-use Rattle.kc_language.specs.declared.outcome.Status.{Status}
-use Rattle.kc_conf.specs.Faults.{diagnostics_of}
-use Rattle.kc_conf.specs.PartsOfOutcome.{depfile_text}
+use Rattle.std.proofs.Common.{◌≡◌, ℕ, Bool, true, false, List, [], ◌∷◌, ◌++◌, refl, sym, ap, ◌∙◌, append_assoc, length, map, not, Vec, Global, arith}
+use Rattle.std.specs.Prelude.{◌&&◌, ◌||◌, ◌==◌}
+use Rattle.kc_outcome.specs.Outcome.{Options, Outcome, is_not_empty, is_done, lines_text, reported, refused_if, strictly}
+use Rattle.kc_outcome.specs.declared.outcome.Status.{Status}
 use Rattle.kc_conf.specs.PartRuns.{strictly_after}
 
 pub and_never : (b : Bool) → (b && false) ≡ false
@@ -12,9 +10,6 @@ and_never true = refl
 and_never false = refl
 
 -- ---- text before an outcome
-
-pub diagnostics-reported : (text : List ℕ) (outcome : Outcome) → text ++ diagnostics_of outcome ≡ diagnostics_of (reported text outcome)
-diagnostics-reported text outcome = sym (append_assoc text outcome.warned outcome.refusal)
 
 reported_if : (options : Options) (text : List ℕ) (part : Outcome) (b : Bool) → reported text (refused_if options b part) ≡ refused_if options b (reported text part)
 reported_if options text part true = refl
@@ -45,55 +40,6 @@ pub lines_some : (lines : List (Vec ℕ Global)) → not (length lines == 0) ≡
 lines_some [] = refl
 lines_some (line ∷ lines) =
     let e : (length (line ∷ lines) == 0) ≡ false = grind arith in ap not e ∙ sym (told_lines line.items (map (λ l. l.items) lines))
-
--- ---- the rule for make
-
-module _ (options : Options) (opened : List (List ℕ)) where
-  abbrev ruled_if : Bool → Outcome → Outcome
-  ruled_if b o = if b then record o { depfile = depfile_text options opened } else o
-
-  ruled-reported : (text : List ℕ) (o : Outcome) (b : Bool) → reported text (ruled_if b o) ≡ ruled_if b (reported text o)
-  ruled-reported text o true = refl
-  ruled-reported text o false = refl
-
-  -- it is no note
-  pub with_rule-reported : (text : List ℕ) (o : Outcome) → reported text (with_rule options opened o) ≡ with_rule options opened (reported text o)
-  with_rule-reported text o = ruled-reported text o (is_done o.status)
-
-  config_ruled : (b : Bool) (o : Outcome) → (ruled_if b o).config ≡ o.config
-  config_ruled true o = refl
-  config_ruled false o = refl
-
-  pub rule-config : (o : Outcome) → (with_rule options opened o).config ≡ o.config
-  rule-config o = config_ruled (is_done o.status) o
-
-  header_ruled : (b : Bool) (o : Outcome) → (ruled_if b o).header ≡ o.header
-  header_ruled true o = refl
-  header_ruled false o = refl
-
-  pub rule-header : (o : Outcome) → (with_rule options opened o).header ≡ o.header
-  rule-header o = header_ruled (is_done o.status) o
-
-  status_ruled : (b : Bool) (o : Outcome) → (ruled_if b o).status ≡ o.status
-  status_ruled true o = refl
-  status_ruled false o = refl
-
-  pub rule-status : (o : Outcome) → (with_rule options opened o).status ≡ o.status
-  rule-status o = status_ruled (is_done o.status) o
-
-  minimal_ruled : (b : Bool) (o : Outcome) → (ruled_if b o).minimal ≡ o.minimal
-  minimal_ruled true o = refl
-  minimal_ruled false o = refl
-
-  pub rule-minimal : (o : Outcome) → (with_rule options opened o).minimal ≡ o.minimal
-  rule-minimal o = minimal_ruled (is_done o.status) o
-
-  warned_ruled : (b : Bool) (o : Outcome) → (ruled_if b o).warned ≡ o.warned
-  warned_ruled true o = refl
-  warned_ruled false o = refl
-
-  pub rule-warned : (o : Outcome) → (with_rule options opened o).warned ≡ o.warned
-  rule-warned o = warned_ruled (is_done o.status) o
 
 pub warned_if : (options : Options) (part : Outcome) (b : Bool) → (refused_if options b part).warned ≡ part.warned
 warned_if options part true = refl

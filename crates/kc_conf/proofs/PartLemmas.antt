@@ -14,13 +14,13 @@ use Rattle.kc_language.specs.Symbols.{TreeFacts, Warning, located_warning}
 use Rattle.kc_language.specs.declared.expressions.SymbolType.{SymbolType}
 use Rattle.kc_language.specs.Values.{GivenValue, SymbolPlace, same_given, name as name_of}
 use Rattle.kc_language.specs.ConfigFile.{Notation, place_at, plain_line, StreamLocation, change_text, value_text, Effect, Silent, Warns, Assigns, located_warning_line, UserInput, Line, ReadResult, effect, effect_warning, is_within, lines_from, lines_in_stream, input_after, reading, stream_location, warning, warnings}
-use Rattle.kc_config_file.specs.PartsOfConfigFile.{change_line}
-use Rattle.kc_config_file.specs.PartsOfConfigFile.{type_of, before_too_long, effect_change, effect_text, last_line, line, warning_line_if}
+use Rattle.kc_input.specs.PartsOfConfigFile.{change_line}
+use Rattle.kc_input.specs.PartsOfConfigFile.{type_of, before_too_long, effect_change, effect_text, last_line, line, warning_line_if}
 use Rattle.kc_language.specs.declared.diagnostics.Warning.TheVariants.{Changed}
-use Rattle.kc_config_file.specs.Feeding.{StreamPosition, stream_start, ReadsPiece}
+use Rattle.kc_input.specs.Feeding.{StreamPosition, stream_start, ReadsPiece}
 use Rattle.kc_language.specs.Texts.{HasShortLines}
-use Rattle.kc_config_file.specs.Reading.{with_warnings}
-use Rattle.kc_language.specs.Outcome.{lines_text}
+use Rattle.kc_input.specs.Reading.{with_warnings}
+use Rattle.kc_outcome.specs.Outcome.{lines_text}
 use Rattle.kc_conf.specs.Faults.{AreLines}
 use Rattle.kc_conf.specs.PartsOfFaults.{ended_lines}
 
@@ -205,11 +205,6 @@ module _ (tree : TreeFacts) (prefix : Notation) (name : List ℕ) where
       ∙ ap (λ w. warned ++ w) (warned-long_end tree prefix [] after last last_long ∙ warned-none tree prefix after) ∙ append-nil warned in
       sym right ∙ sym (ap (λ (r : ReadResult). r.warned) (goes tail [])) ∙ left
 
-  pub AreLines-piece : (bytes : List ℕ) (new : StreamPosition) (before after : UserInput) (warned : List ℕ) → HoldsNoLineFeed new.pending →
-      ReadsPiece tree prefix name bytes stream_start new before after warned → AreLines warned
-  AreLines-piece bytes new before after warned one goes =
-      subst AreLines (sym (warned-ended bytes new before after warned one goes)) (AreLines-reading tree prefix (ended_lines name bytes) before)
-
 -- ---- short lines
 
 abbrev AreShort : List Line → Type 0
@@ -313,11 +308,3 @@ module _ (tree : TreeFacts) (prefix : Notation) where
       let clash : Some stop ≡ None =
       sym (stops []) ∙ ap (λ ls. (reading tree prefix before ls).stopped) (append-nil lines) ∙ unstopped-short lines before (short name) in
       cc
-
-  -- the warnings of lines that were read to their end are whole lines
-  pub AreLines-reads : (lines : List Line) (before after : UserInput) (warned : List ℕ) →
-      ((more : List Line) → reading tree prefix before (lines ++ more) ≡ with_warnings warned (reading tree prefix after more)) → AreLines warned
-  AreLines-reads lines before after warned reads =
-      let is : (reading tree prefix before (lines ++ [])).warned ≡ warned =
-      ap (λ (r : ReadResult). r.warned) (reads []) ∙ ap (λ w. warned ++ w) (warned-none tree prefix after) ∙ append-nil warned in
-      subst AreLines is (AreLines-reading tree prefix (lines ++ []) before)

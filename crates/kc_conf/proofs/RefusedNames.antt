@@ -1,11 +1,14 @@
 -- The names that are refused, and their lines.
-use Rattle.std.proofs.Common.{◌≡◌, ℕ, List, ◌++◌, Option, Some, None, refl, sym, ap}
-use Rattle.std.specs.Option.{option_or}
+use Rattle.std.proofs.Common.{◌≡◌, ◌∙◌, ℕ, Bool, true, false, List, ◌∷◌, ◌++◌, Option, Some, None, refl, sym, ap}
+use Rattle.std.specs.Option.{option_map_or, option_or}
+use Rattle.std.specs.Prelude.{find, if◌then◌else◌, not}
 use Rattle.kc_language.specs.Expansion.{Files}
 use Rattle.kc_language.specs.Symbols.{TreeFacts}
-use Rattle.kc_language.specs.Outcome.{IsAcceptedTree, IsLenientOutcome, Options, lead, refused_outcome, refused_name, root_file, unknown_name, unknown_symbol, unreadable_name}
+use Rattle.kc_outcome.specs.Outcome.{IsAcceptedTree, IsLenientOutcome, Options, lead, names_listed, refused_outcome, refused_name, root_file, target, unknown_name, unknown_symbol, unreadable_name, wants}
+use Rattle.kc_language.specs.Files.{is_read_by_make}
+use Rattle.kc_outcome.specs.declared.outcome.Output.{Output}
 use Rattle.kc_conf.specs.Faults.{refused_name_of}
-use Rattle.kc_conf.specs.PartsOfOutcome.{name_refusal, refusal_by, unknown_line, unreadable_line}
+use Rattle.kc_conf.specs.PartsOfOutcome.{name_refusal, names_if, refusal_by, unknown_line, unreadable_line}
 
 -- where a line refuses a name, there is a name that is refused
 name_of_line : (tree : TreeFacts) (unread unknown : Option (List ℕ)) (line : List ℕ) → refusal_by tree unread unknown ≡ Some line →
@@ -26,6 +29,18 @@ no_name tree None None e = refl
 
 pub none_refused : (options : Options) (opened : List (List ℕ)) (tree : TreeFacts) → name_refusal options opened tree ≡ None → refused_name_of options opened tree ≡ None
 none_refused options opened tree e = no_name tree (unreadable_name options opened) (unknown_name options tree) e
+
+-- the first name that make cannot read, among the names that are listed
+pub unread_is : (options : Options) (opened : List (List ℕ)) (names : Option (List (List ℕ))) → names ≡ names_if options opened →
+    option_map_or (λ names. find (λ name. not (is_read_by_make name)) (target options ∷ names)) names None ≡ unreadable_name options opened
+unread_is options opened names e =
+    ap (λ (names : Option (List (List ℕ))). option_map_or (λ names. find (λ name. not (is_read_by_make name)) (target options ∷ names)) names None) e
+    ∙ by (wants options Output.DependencyFile)
+  where
+    by : (b : Bool) → option_map_or (λ names. find (λ name. not (is_read_by_make name)) (target options ∷ names)) (if b then Some (names_listed options opened) else None) None
+        ≡ (if b then find (λ name. not (is_read_by_make name)) (target options ∷ names_listed options opened) else None)
+    by true = refl
+    by false = refl
 
 -- the outcome is that line
 module _ (files : Files) (options : Options) (opened all : List (List ℕ)) (tree : TreeFacts) (accepted : IsAcceptedTree files (root_file options) tree) where

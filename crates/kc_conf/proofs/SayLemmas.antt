@@ -1,19 +1,20 @@
 -- What is said is whole lines.
-use Rattle.std.proofs.Common.{◌≡◌, ℕ, ◌+◌, ◌<◌, length, take, drop, get_or, Bool, true, false, List, [], ◌∷◌, ◌++◌, codes, refl, sym, ap, subst, ◌∙◌, append_assoc, append-nil, arith, Bor, Option, Some, None, inl, inr, ◌⊎◌, map}
+use Rattle.std.proofs.Common.{◌≡◌, ◌≢◌, ℕ, ◌+◌, ◌<◌, length, take, drop, get_or, Bool, true, false, List, [], ◌∷◌, ◌++◌, codes, refl, sym, ap, subst, ◌∙◌, append_assoc, append-nil, arith, Bor, Option, Some, None, inl, inr, ◌⊎◌, map}
 use Rattle.std.specs.Prelude.{◌==◌, if◌then◌else◌}
 use Rattle.std.specs.List.{flat_map, last_or}
 use Rattle.std.proofs.lemmas.List.{append_cancel_left, drop_more, take_more}
 use Rattle.kc_language.specs.Text.{byte}
-use Rattle.kc_io.specs.Log.{Log, is_whole_lines}
+use Rattle.kc_io.specs.Log.{Log}
+use Rattle.kc_language.specs.Lines.{is_whole_lines}
 use Rattle.kc_io.specs.declared.device.Action.{Action}
 use Rattle.kc_io.specs.declared.device.Action.TheVariants.{Open, Read}
 use Rattle.kc_io.specs.declared.device.Fault.{Fault}
 use Rattle.kc_io.specs.declared.device.Fault.TheVariants.{Refused, Memory}
 use Rattle.kc_io.specs.declared.steps.Failure.{Failure}
-use Rattle.kc_io.specs.PartsOfLog.{ends_line}
-use Rattle.kc_config_file.specs.WholeLines.{AddsWholeLines}
-use Rattle.kc_language.specs.Outcome.{Options, first_line, lines_text, lead}
-use Rattle.kc_language.specs.Outcome.{cannot_read_line}
+use Rattle.kc_text.specs.PartsOfLines.{ends_line}
+use Rattle.kc_input.specs.WholeLines.{AddsWholeLines}
+use Rattle.kc_outcome.specs.Outcome.{Options, first_line, lines_text, lead}
+use Rattle.kc_language.specs.Statements.{cannot_read_line}
 use Rattle.kc_conf.specs.Faults.{AreLines}
 use Rattle.kc_conf.specs.Reads.{IsWholeEnd, LastEndsLine, SaysIf, failure_line}
 use Rattle.kc_conf.specs.Endings.{Reports}
@@ -24,11 +25,6 @@ use Rattle.kc_conf.specs.declared.stop.Stop.TheVariants.{Failed}
 module _ (name : List ℕ) (i : ℕ) (within : i < length name) where
   line_at : take i name ++ first_line (drop i name) ≡ take i name ++ (if get_or name i 0 == byte "\n" then [] else get_or name i 0 ∷ first_line (drop (i + 1) name))
   line_at = ap (λ l. take i name ++ first_line l) (drop_more name i 0 within)
-
-  -- a line feed ends them
-  pub line_here : (get_or name i 0 == byte "\n") ≡ true → take i name ++ first_line (drop i name) ≡ take i name
-  line_here is =
-      line_at ∙ ap (λ b. take i name ++ (if b then [] else get_or name i 0 ∷ first_line (drop (i + 1) name))) is ∙ append-nil (take i name)
 
   -- another byte is one of them
   pub line_more : (get_or name i 0 == byte "\n") ≡ false → take i name ++ first_line (drop i name) ≡ take (i + 1) name ++ first_line (drop (i + 1) name)
@@ -48,6 +44,11 @@ last_or-append o (x ∷ a) b = last_or-append (Some x) a b
 pub whole-ends : (text : List ℕ) → IsWholeEnd text → is_whole_lines text ≡ true
 whole-ends text (front, is) = ap is_whole_lines is ∙ ap ends_line (last_or-append None front (codes "\n"))
 
+-- and are some
+pub some-end : (text : List ℕ) → IsWholeEnd text → text ≢ []
+some-end text ([], is) e = absurd cc
+some-end text (b ∷ front, is) e = absurd cc
+
 -- with anything before them
 pub ends-behind : (front text : List ℕ) → IsWholeEnd text → IsWholeEnd (front ++ text)
 ends-behind front text (before, is) = (front ++ before, ap (λ t. front ++ t) is ∙ sym (append_assoc front before (codes "\n")))
@@ -66,9 +67,9 @@ whole-of_lines text (lines, is) = ap is_whole_lines is ∙ all lines
     all (line ∷ lines) = whole-ends (lines_text (line ∷ lines)) (lines-end line lines)
 
 -- and end a line, where there is anything
-pub ends-of_lines : (b : ℕ) (text : List ℕ) → AreLines (b ∷ text) → IsWholeEnd (b ∷ text)
-ends-of_lines b text ([], is) = absurd cc
-ends-of_lines b text (line ∷ lines, is) = subst IsWholeEnd (sym is) (lines-end line lines)
+pub whole-end : (text : List ℕ) → AreLines text → text ≢ [] → IsWholeEnd text
+whole-end text ([], is) some = absurd (some is)
+whole-end text (line ∷ lines, is) some = subst IsWholeEnd (sym is) (lines-end line lines)
 
 pub ends-some : {X : Type 0} (f : X → List ℕ) (lines : List X) → false ≡ (length lines == 0) → IsWholeEnd (lines_text (map f lines))
 ends-some f [] some = absurd cc

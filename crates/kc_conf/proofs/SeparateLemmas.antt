@@ -1,10 +1,9 @@
 -- Which files a turn leaves as they are, and what a whole one makes of the others.
-use Rattle.std.proofs.Common.{◌≡◌, ◌⊎◌, inl, inr, ℕ, Bool, true, false, not, ◌||◌, ◌&&◌, cond, List, [], ◌∷◌, ◌++◌, fold, take, refl, sym, ap, subst, ◌∙◌, Option, None, Some, String, bytes_eq, is_some, if◌then◌else◌}
+use Rattle.std.proofs.Common.{◌≡◌, ◌⊎◌, inl, inr, ℕ, Bool, true, false, not, ◌||◌, ◌&&◌, cond, List, [], ◌∷◌, ◌++◌, fold, take, refl, sym, ap, subst, ◌∙◌, Option, None, Some, map, string_bytes, bytes_eq, is_some, if◌then◌else◌}
 use Rattle.std.specs.List.{flat_map, list_all, list_any}
 use Rattle.std.specs.Option.{option_map_or}
-use Rattle.std.specs.declared.alloc.Global.{Global}
 use Rattle.std.proofs.lemmas.Grind.{fold-append}
-use Rattle.std.proofs.lemmas.List.Folds.{list_all-append, list_any-append}
+use Rattle.std.proofs.lemmas.List.Folds.{list_all-append}
 use Rattle.std.proofs.lemmas.Slice.Eq.{bytes_eq-Decides}
 use Rattle.kc_io.specs.Log.{keeps_files, only_looks, Event, Journal, Leads, Spot, acted, after, did, each_byte, held, is_held, reported}
 use Rattle.kc_io.specs.Delivery.{last_of, NamedText, chosen, delivery, moved, put, share_name, stale}
@@ -19,22 +18,19 @@ use Rattle.kc_io.proofs.LogLemmas.{keeps_both, keeps_bytes, keeps_reported, look
 use Rattle.kc_language.specs.Expansion.{Files}
 use Rattle.kc_language.specs.Symbols.{TreeFacts}
 use Rattle.kc_conf.specs.Faults.{Breaks, Broken, Completes, in_delivery, in_input, in_diagnostics, no_memory, clearing, event_of}
-use Rattle.kc_io.specs.Delivery.{delivers, text_at, texts_of, cleared_by}
+use Rattle.kc_io.specs.Delivery.{delivers, texts_of, with_names, cleared_by}
 use Rattle.kc_io.specs.Inputs.{InputFile, begun, reads}
 use Rattle.kc_conf.specs.PartsOfFaults.{delivered_by}
-use Rattle.kc_language.specs.Outcome.{Options, Outcome}
-use Rattle.kc_language.specs.declared.outcome.Delivery.{Delivery}
-use Rattle.kc_language.specs.declared.outcome.Delivery.TheVariants as delivered
-use Rattle.kc_language.specs.declared.outcome.Status.{Status}
+use Rattle.kc_outcome.specs.Outcome.{Options, Outcome}
+use Rattle.kc_outcome.specs.declared.outcome.Delivery.{Delivery}
+use Rattle.kc_outcome.specs.declared.outcome.Delivery.TheVariants as delivered
+use Rattle.kc_outcome.specs.declared.outcome.Status.{Status}
+use Rattle.kc_outcome.specs.declared.outcome.WantedOutput.{WantedOutput}
 use Rattle.kc_conf.specs.declared.stop.Stop.{Stop}
 use Rattle.kc_conf.specs.declared.stop.Stop.TheVariants.{OutOfMemory, Failed}
-use Rattle.kc_conf.proofs.GivenLemmas.{first-begin, keeps-are_reads, keeps-reads}
-use Rattle.kc_conf.specs.Many.{is_among, name_if, output_files, written_files}
+use Rattle.kc_conf.proofs.GivenLemmas.{and-both, first-begin, keeps-are_reads, keeps-reads}
+use Rattle.kc_conf.specs.Many.{is_among, output_files, written_files}
 use Rattle.kc_conf.specs.PartsOfMany.{written_by}
-
-and-both : (a b : Bool) → (a && b) ≡ true → (a ≡ true) × (b ≡ true)
-and-both true b h = (refl, h)
-and-both false b h = absurd (let clash : false ≡ true = h in cc)
 
 and-of : (a b : Bool) → a ≡ true → b ≡ true → (a && b) ≡ true
 and-of true b h w = w
@@ -164,44 +160,15 @@ module _ (name : List ℕ) where
 
   -- ---- the texts of an outcome
 
-  at_lacks : (file : Option (String Global)) (text : Option (List ℕ)) → is_among name (name_if file) ≡ false → has (text_at file text) ≡ false
-  at_lacks None text e = refl
-  at_lacks (Some n) None e = refl
-  at_lacks (Some n) (Some bytes) e = e
-
-  has_both : (a b : List NamedText) → has a ≡ false → has b ≡ false → has (a ++ b) ≡ false
-  has_both a b e e' = list_any-append (λ (text : NamedText). bytes_eq name text.name) a b ∙ or-of (has a) (has b) e e'
-
-  among_neither : (a b : List (List ℕ)) → is_among name (a ++ b) ≡ false → (is_among name a ≡ false) × (is_among name b ≡ false)
-  among_neither a b e = or-neither (is_among name a) (is_among name b) (sym (list_any-append (bytes_eq name) a b) ∙ e)
+  named_lack : (outputs : List WantedOutput) (texts : List (List ℕ)) → is_among name (map (λ wanted. string_bytes wanted.file) outputs) ≡ false → has (with_names outputs texts) ≡ false
+  named_lack [] texts e = refl
+  named_lack (wanted ∷ outputs) [] e = refl
+  named_lack (wanted ∷ outputs) (text ∷ texts) e =
+      let both = or-neither (bytes_eq name (string_bytes wanted.file)) (is_among name (map (λ wanted. string_bytes wanted.file) outputs)) e in
+      or-of (bytes_eq name (string_bytes wanted.file)) (has (with_names outputs texts)) both.0 (named_lack outputs texts both.1)
 
   pub texts_lack : (options : Options) (outcome : Outcome) → is_among name (output_files options) ≡ false → has (texts_of options outcome) ≡ false
-  texts_lack options outcome e =
-      let behind_gone = name_if options.depfile ++ name_if options.explanation in
-      let behind_new = name_if options.list_gone ++ behind_gone in
-      let behind_minimal = name_if options.list_new ++ behind_new in
-      let (out, after_out) = among_neither (name_if options.out) (name_if options.header ++ (name_if options.minimal ++ behind_minimal)) e in
-      let (header, after_header) = among_neither (name_if options.header) (name_if options.minimal ++ behind_minimal) after_out in
-      let (minimal, after_minimal) = among_neither (name_if options.minimal) behind_minimal after_header in
-      let (list_new, after_new) = among_neither (name_if options.list_new) behind_new after_minimal in
-      let (list_gone, after_gone) = among_neither (name_if options.list_gone) behind_gone after_new in
-      let (depfile, explanation) = among_neither (name_if options.depfile) (name_if options.explanation) after_gone in
-      let a = text_at options.out outcome.config in
-      let b = text_at options.header outcome.header in
-      let c = text_at options.minimal outcome.minimal in
-      let d = text_at options.list_new outcome.list_new in
-      let g = text_at options.list_gone outcome.list_gone in
-      let h = text_at options.depfile outcome.depfile in
-      let k = text_at options.explanation outcome.explanation in
-      has_both (a ++ b ++ c ++ d ++ g ++ h) k
-      (has_both (a ++ b ++ c ++ d ++ g) h
-      (has_both (a ++ b ++ c ++ d) g
-      (has_both (a ++ b ++ c) d
-      (has_both (a ++ b) c (has_both a b (at_lacks options.out outcome.config out) (at_lacks options.header outcome.header header)) (at_lacks options.minimal outcome.minimal minimal))
-      (at_lacks options.list_new outcome.list_new list_new))
-      (at_lacks options.list_gone outcome.list_gone list_gone))
-      (at_lacks options.depfile outcome.depfile depfile))
-      (at_lacks options.explanation outcome.explanation explanation)
+  texts_lack options outcome e = named_lack options.outputs.items outcome.texts e
 
   -- ---- a turn
 

@@ -4,19 +4,19 @@ use Rattle.std.specs.Prelude.{◌==◌}
 use Rattle.std.specs.List.{after_last}
 use Rattle.kc_language.specs.Lines.{is_line_feed}
 use Rattle.kc_text.specs.PartsOfLines.{HoldsNoLineFeed}
-use Rattle.kc_io.specs.Log.{Event, Log, Leads, is_whole_lines}
+use Rattle.kc_io.specs.Log.{Event, Log, Leads}
+use Rattle.kc_language.specs.Lines.{is_whole_lines}
 use Rattle.kc_io.specs.declared.device.Action.{Action}
 use Rattle.kc_io.specs.declared.device.Action.TheVariants.{Report}
-use Rattle.kc_io.proofs.LogLemmas.{leads_both, leads_nothing, leads_said}
-use Rattle.kc_config_file.specs.Feeding.{StreamPosition, to_come}
-use Rattle.kc_config_file.specs.ReaderCalls.{AnswersEnd, AnswersFeed}
-use Rattle.kc_config_file.specs.ReaderState.{ReaderState}
+use Rattle.kc_input.specs.Feeding.{StreamPosition, to_come}
+use Rattle.kc_input.specs.ReaderCalls.{AnswersEnd, AnswersFeed}
+use Rattle.kc_input.specs.ReaderState.{ReaderState}
 use Rattle.kc_language.specs.ConfigFile.{Line, ReadResult, UserInput, lines_from, reading}
-use Rattle.kc_config_file.specs.Reading.{with_warnings}
+use Rattle.kc_input.specs.Reading.{with_warnings}
 use Rattle.kc_language.specs.Text.{BeginsWith, GoesBeyond}
-use Rattle.kc_config_file.specs.WholeLines.{AddsWholeLines}
-use Rattle.kc_config_file.specs.declared.fault.InputFault.{InputFault}
-use Rattle.kc_config_file.specs.declared.fault.InputFault.TheVariants.{InputLineTooLong, Memory}
+use Rattle.kc_input.specs.WholeLines.{AddsWholeLines}
+use Rattle.kc_input.specs.declared.fault.InputFault.{InputFault}
+use Rattle.kc_input.specs.declared.fault.InputFault.TheVariants.{InputLineTooLong, Memory}
 use Rattle.kc_conf.specs.Faults.{AreLines}
 use Rattle.kc_conf.specs.Reads.{ended_with}
 use Rattle.kc_conf.specs.ReadSteps.{BreaksEnd, BreaksPiece, EndsFile, FailsAt, OnlyHeldWaits, SaysWaiting, Stand, StopsWarnings, TakesPiece, Warns, held_back, said_now}
@@ -26,6 +26,7 @@ use Rattle.kc_conf.specs.declared.stop.Stop.{Stop}
 use Rattle.kc_conf.specs.declared.stop.Stop.TheVariants.{OutOfMemory, Failed}
 use Rattle.kc_conf.proofs.PartLemmas.{AreLines-append, AreLines-nothing}
 use Rattle.kc_conf.proofs.SayLemmas.{AreLines-added, whole-of_lines}
+use Rattle.kc_conf.proofs.TellingLemmas.{Leads-as, Leads-then}
 
 -- ---- texts
 
@@ -51,23 +52,21 @@ held-nothing false = refl
 -- ---- what is said and waits
 
 -- nothing was warned of, and these events were done
-pub warns-done : (events : List Event) (old new : Stand) → new.waiting ≡ old.waiting → Leads events [] old.log new.log → Warns [] events old new
-warns-done events old new same done = record {
+pub warns-done : {events : List Event} (old new : Stand) → new.waiting ≡ old.waiting → Leads events [] old.log new.log → Warns [] events old new
+warns-done old new same done = record {
   lines = AreLines-nothing;
-  log = leads_said events [] (said_now old.waiting.holds []) old.log new.log (sym (said-nothing old.waiting.holds)) done;
+  log = Leads-as refl (sym (said-nothing old.waiting.holds)) done;
   waits = ap (λ (w : Waiting). w.text.items) same ∙ sym (append-nil old.waiting.text.items) ∙ ap (λ t. old.waiting.text.items ++ t) (sym (held-nothing old.waiting.holds));
   holds = ap (λ (w : Waiting). w.holds) same;
 }
 
 -- warnings after warnings
-pub warns-then : (a b : List ℕ) (es fs : List Event) (old mid new : Stand) → Warns a es old mid → Warns b fs mid new → Warns (a ++ b) (es ++ fs) old new
-warns-then a b es fs old mid new first second =
+pub warns-then : {a b : List ℕ} {es fs : List Event} {old mid new : Stand} → Warns a es old mid → Warns b fs mid new → Warns (a ++ b) (es ++ fs) old new
+warns-then {a = a} {b = b} {old = old} {mid = mid} first second =
     let holds = old.waiting.holds in
     record {
       lines = AreLines-append a b first.lines second.lines;
-      log = leads_said (es ++ fs) (said_now holds a ++ said_now mid.waiting.holds b) (said_now holds (a ++ b)) old.log new.log
-          (ap (λ h. said_now holds a ++ said_now h b) first.holds ∙ said-both holds a b)
-          (leads_both es fs (said_now holds a) (said_now mid.waiting.holds b) old.log mid.log new.log first.log second.log);
+      log = Leads-as refl (ap (λ h. said_now holds a ++ said_now h b) first.holds ∙ said-both holds a b) (Leads-then first.log second.log);
       waits = second.waits ∙ ap (λ t. t ++ held_back mid.waiting.holds b) first.waits
           ∙ append_assoc old.waiting.text.items (held_back holds a) (held_back mid.waiting.holds b)
           ∙ ap (λ h. old.waiting.text.items ++ (held_back holds a ++ held_back h b)) first.holds
@@ -76,19 +75,8 @@ warns-then a b es fs old mid new first second =
     }
 
 -- the same warnings and events, said otherwise
-pub warns-as : (a b : List ℕ) (es fs : List Event) (old new : Stand) → a ≡ b → es ≡ fs → Warns a es old new → Warns b fs old new
-warns-as a b es fs old new same_text same_events warns =
-    subst (λ w. Warns w fs old new) same_text (subst (λ events. Warns a events old new) same_events warns)
-
--- nothing waits after them that is not held back
-pub held-after : (warned : List ℕ) (events : List Event) (old new : Stand) → OnlyHeldWaits old.waiting → Warns warned events old new → OnlyHeldWaits new.waiting
-held-after warned events old new only warns =
-    subst (λ h. new.waiting.text.items ≡ held_back h new.waiting.text.items) (sym warns.holds)
-    (by old.waiting.holds old.waiting.text.items new.waiting.text.items only warns.waits)
-  where
-    by : (holds : Bool) (waits after : List ℕ) → waits ≡ held_back holds waits → after ≡ waits ++ held_back holds warned → after ≡ held_back holds after
-    by true waits after only is = refl
-    by false waits after only is = is ∙ ap (λ t. t ++ []) only
+pub warns-as : {a b : List ℕ} {es fs : List Event} {old new : Stand} → a ≡ b → es ≡ fs → Warns a es old new → Warns b fs old new
+warns-as {a = a} {fs = fs} {old = old} {new = new} same_text same_events warns = subst (λ w. Warns w fs old new) same_text (subst (λ events. Warns a events old new) same_events warns)
 
 -- ---- warnings that broke off
 
@@ -102,15 +90,10 @@ stops-after false OutOfMemory a front whole read lines is (are, (rest, begins)) 
 stops-after false (Failed f) a front whole read lines is (report, are, (b, rest, goes)) =
     (report, AreLines-append a front lines are, (b, rest, ap (λ (r : ReadResult). r.warned) is ∙ ap (λ w. a ++ w) goes ∙ sym (append_assoc a front (b ∷ rest))))
 
-pub stops-behind-warns : (stop : Stop) (warned front : List ℕ) (events : List Event) (old new : Stand) (whole read : ReadResult) → Warns warned events old new → whole ≡ with_warnings warned read →
+pub stops-behind-warns : (stop : Stop) (front : List ℕ) {warned : List ℕ} {events : List Event} {old new : Stand} {whole : ReadResult} → Warns warned events old new → (read : ReadResult) → whole ≡ with_warnings warned read →
     StopsWarnings new.waiting.holds stop read.warned front → StopsWarnings old.waiting.holds stop whole.warned (said_now old.waiting.holds warned ++ front)
-stops-behind-warns stop warned front events old new whole read warns is stops =
+stops-behind-warns stop front {warned = warned} {old = old} {whole = whole} warns read is stops =
     stops-after old.waiting.holds stop warned front whole read warns.lines is (subst (λ h. StopsWarnings h stop read.warned front) warns.holds stops)
-
--- there was no memory, and nothing more was said
-pub stops-memory : (holds : Bool) (warned : List ℕ) → StopsWarnings holds OutOfMemory warned []
-stops-memory true warned = refl
-stops-memory false warned = (AreLines-nothing, (warned, refl))
 
 -- there was no memory behind these warnings
 stops-behind : (holds : Bool) (warned whole : List ℕ) → AreLines warned → BeginsWith whole warned → StopsWarnings holds OutOfMemory whole (said_now holds warned)
@@ -142,7 +125,7 @@ said-warns : (warned : List ℕ) (told : Vec ℕ Global) (old new : Stand) → O
     AddsWholeLines old.waiting.text.items told.items → SaysWaiting (Ok tt) (record { holds = old.waiting.holds; text = told }) new.waiting old.log new.log → Warns warned [] old new
 said-warns warned told old new only is added says = record {
   lines = AreLines-added old.waiting.text.items told.items warned is added;
-  log = leads_said [] (said_now old.waiting.holds told.items) (said_now old.waiting.holds warned) old.log new.log (now old.waiting.holds old.waiting.text.items told.items only is) says.said.0;
+  log = Leads-as refl (now old.waiting.holds old.waiting.text.items told.items only is) says.said.0;
   waits = says.said.1 ∙ later old.waiting.holds old.waiting.text.items told.items only is;
   holds = says.holds;
 }
@@ -269,14 +252,6 @@ module _ (reader : ReaderState) where
               ((reading reader.tree reader.prefix new.input more).warned, ap (λ (r : ReadResult). r.warned) (ends more)) says.failed.0 says.failed.1;
           log = fails-log Report [] stop old.log new.log says.failed.0;
         }
-
-  -- there was no memory for it
-  pub ends-memory : (old new : Stand) → new.log ≡ old.log → BreaksEnd reader OutOfMemory old new
-  ends-memory old new same = record {
-    front = [];
-    stops = λ more. stops-memory old.waiting.holds (reading reader.tree reader.prefix old.input (lines_from reader.name reader.position.number reader.position.pending ++ more)).warned;
-    log = subst (λ (l : Log). Leads [] [] old.log l) (sym same) (leads_nothing old.log);
-  }
 
 -- what waits is whole lines, unless warnings are held back
 pub whole-fed : (waiting : Waiting) (told : Vec ℕ Global) → OnlyHeldWaits waiting → AddsWholeLines waiting.text.items told.items → waiting.holds ≡ false → is_whole_lines told.items ≡ true

@@ -1,6 +1,6 @@
 -- That --strict lets no line pass that was not taken as written.
 use Rattle.std.proofs.Common.{◌≡◌, ◌≢◌, ℕ, zero, suc, ◌<◌, Bool, true, false, true≢false, List, [], ◌∷◌, ◌++◌, length, Some, None, refl, sym, ap, subst, ◌∙◌, arith, eqb}
-use Rattle.std.specs.Prelude.{is_some, not, ◌&&◌, ◌||◌, ◌==◌, replicate, slice_index_or, if◌then◌else◌}
+use Rattle.std.specs.Prelude.{not, ◌&&◌, ◌||◌, ◌==◌, replicate, slice_index_or, if◌then◌else◌}
 use Rattle.std.specs.List.{Contains, list_any}
 use Rattle.std.proofs.Math.Dec.{eqb-suc-zero}
 use Rattle.std.proofs.lemmas.Bool.{eqb-false, eqb-true}
@@ -9,16 +9,17 @@ use Rattle.std.proofs.lemmas.Option.{slice_get_within}
 use Rattle.kc_language.specs.declared.expressions.SymId.{SymId}
 use Rattle.kc_language.specs.declared.expressions.SymbolType.TheVariants.{Undefined}
 use Rattle.kc_language.specs.Expansion.{Files}
-use Rattle.kc_tree.specs.TreeFacts.{IsWellFormed}
+use Rattle.kc_entries.specs.WellFormed.{IsWellFormed}
 use Rattle.kc_language.specs.Symbols.{SymbolFacts, TreeFacts, Warning}
 use Rattle.kc_build.specs.Trees.{TreesAreWellFormed}
 use Rattle.kc_language.specs.Values.{GivenValue, SymbolPlace, same_given, given_of, facts}
 use Rattle.kc_language.specs.{ConfigFile.{ArePlacesOf, Assigns, Effect, Line, Notation, Places, Silent, StreamLocation, UserInput, Warns, effect, input_after, is_change, is_reported, is_taken as is_taken_by, lines_of, line_meaning, place_at, places_after, stream_location, untaken, untaken_line}, Texts.{Solution, known, lost_lines, value_warnings}}
-use Rattle.kc_config_file.specs.ReadingLaws.{LinesGiveInTurn, LinesInTurn}
+use Rattle.kc_input.specs.ReadingLaws.{LinesGiveInTurn, LinesInTurn}
 use Rattle.kc_conf.proofs.{EffectLemmas.{assigned_typed, effect_is, silent_says}, RerunLemmas.{has_its_texts}}
-use Rattle.kc_language.specs.Outcome.{Options, Outcome, input_names, read_of, root_file, streams, is_outside, lost_warnings, refuses_input}
+use Rattle.kc_outcome.specs.Outcome.{Options, Outcome, input_names, read_of, root_file, streams, is_outside, lost_warnings, refuses_input, wants}
+use Rattle.kc_outcome.specs.declared.outcome.Output.{Output}
 use Rattle.kc_conf.specs.PartsOfOutcome.{is_taken}
-use Rattle.kc_language.specs.Outcome.{fresh_input}
+use Rattle.kc_outcome.specs.Outcome.{fresh_input}
 use Rattle.kc_conf.proofs.{AccountedLemmas.{given_is, input_is, line_in, lost_if, no_line, number_of, places_are, same_symbol, value_in}}
 use Rattle.kc_conf.specs.{Laws.{DoneAreWhole, IsTakenAsWritten, RefusesNothing, StrictTakesAll}}
 
@@ -199,7 +200,7 @@ module _ (files : Files) (options : Options) (all : List (List ℕ)) (tree : Tre
 
   -- whether the lines of values are kept
   abbrev keeps_lines : Bool
-  keeps_lines = options.warn_lost || is_some options.explanation
+  keeps_lines = options.warn_lost || wants options Output.Explanation
 
   abbrev last : UserInput
   last = input_after tree prefix empty lines
@@ -263,7 +264,7 @@ module _ (files : Files) (options : Options) (all : List (List ℕ)) (tree : Tre
 
       value_is : options.warn_lost ≡ true → given ≡ given_of (known solution s)
       value_is asked =
-          let (at, by_line) = after.1.1 (ap (λ b. b || is_some options.explanation) asked) in
+          let (at, by_line) = after.1.1 (ap (λ b. b || wants options Output.Explanation) asked) in
           lost_if options.prefix.is_raw last.lines solution s f given at (subst (λ (t : TreeFacts). facts t s ≡ Some f) (sym is_whole.solution_is.tree_is) defined)
           (subst (λ (t : TreeFacts). Contains t.defined s) (sym is_whole.solution_is.tree_is) (formed.typed_defined s f defined typed))
           (ap (λ (q : Places). place_at q (SymbolPlace s.0)) (places_are files options all tree solution is_whole) ∙ ap (λ (q : UserInput). place_at q.places (SymbolPlace s.0)) at_end ∙ after.1.0)
@@ -282,11 +283,11 @@ module _ (files : Files) (options : Options) (all : List (List ℕ)) (tree : Tre
 
 pub strict_takes_all : TreesAreWellFormed → DoneAreWhole → LinesGiveInTurn → StrictTakesAll
 strict_takes_all trees wholes turns files options all outcome is_outcome done strict =
-    let (tree, solution, is_whole, (opened, are, log, expands, is), passed) = wholes files options all outcome is_outcome done in (
+    let (tree, solution, is_whole, (opened, are, is), passed) = wholes files options all outcome is_outcome done in (
       tree,
       solution,
       is_whole,
-      has_its_texts files options all outcome tree solution opened log is,
+      has_its_texts files options all outcome tree solution opened is_whole.solution_is.tree_is is,
       none_outside files options all tree solution is_whole (trees files (root_file options) tree is_whole.accepted.built) (turns tree options.prefix) strict passed,
       is_taken_as_written files options all tree solution is_whole (trees files (root_file options) tree is_whole.accepted.built) (turns tree options.prefix) strict passed,
     )

@@ -1,62 +1,56 @@
 -- For proofs: A tree that was read, and one that was accepted.
 use Rattle.kc_read.specs.Files.{files_in}
+use Rattle.kc_read.specs.declared.file_map.FileMap.{FileMap}
 use Rattle.std.specs.Borrow.{Bor}
-use Rattle.std.specs.Prelude.{◌≡◌, ◌≢◌, ℕ, Bool, false, List, Option, None, Some, Result, Ok, Err, IfOk, IfErr}
-use Rattle.kc_language.specs.Statements.{Located, Numbered}
+use Rattle.std.specs.Prelude.{◌≡◌, ◌≢◌, ℕ, Bool, false, List, Option, None, Some, Result, Ok, Err, option_map}
 use Rattle.kc_language.specs.Symbols.{IsTreeOf}
-use Rattle.kc_language.specs.Expansion.{AreOpened, Expands, Files, ReadSoFar, numbered_lines}
-use Rattle.kc_read.specs.Entries.{lines_in}
+use Rattle.kc_language.specs.Expansion.{AreOpened, Files}
 use Rattle.kc_read.specs.RefusalView.{refusal_view}
 use Rattle.kc_language.specs.declared.diagnostics.Cause.TheVariants.{Memory}
 use Rattle.kc_read.specs.declared.refusal.Refusal.{Refusal}
 use Rattle.kc_options.specs.PartsOfOutcome.{wants_sources}
-use Rattle.kc_solve.specs.Graphs.{IsGraphOf}
-use Rattle.kc_language.specs.Outcome.{Options, root_file, IsAcceptedTree}
+use Rattle.kc_solve.specs.Orders.{IsOrderOf}
+use Rattle.kc_outcome.specs.Outcome.{Options, root_file, IsAcceptedTree, IsRefusedTree}
 use Rattle.kc_conf.specs.declared.accepted.OrderedTree.{OrderedTree}
 use Rattle.kc_conf.specs.declared.accepted.TreeReading.{TreeReading}
-use Rattle.kc_conf.specs.declared.accepted.TreeSources.{TreeSources}
 
--- the files of a tree, and its lines
-abbrev pub IsSources : Files → List (Located Numbered) → TreeSources → Type 0
-IsSources files lines sources = (files_in sources.files ≡ files) × (lines_in sources.entries ≡ lines)
-
--- they were kept, or were not wanted
-abbrev pub AreKept : Files → List (Located Numbered) → Bool → Option TreeSources → Type 0
-AreKept files lines keeps None = keeps ≡ false
-AreKept files lines keeps (Some sources) = IsSources files lines sources
-
-abbrev pub AreHeld : Files → List (Located Numbered) → Bool → Option (Bor TreeSources) → Type 0
-AreHeld files lines keeps None = keeps ≡ false
-AreHeld files lines keeps (Some sources) = IsSources files lines sources.now
+-- these files were kept, or were not wanted
+abbrev pub AreKept : Files → Bool → Option FileMap → Type 0
+AreKept files keeps None = keeps ≡ false
+AreKept files keeps (Some kept) = files_in kept ≡ files
 
 -- they are there, or the options do not want them
-abbrev pub AreSources : Files → List (Located Numbered) → Options → Option (Bor TreeSources) → Type 0
-AreSources files lines options None = wants_sources options ≡ false
-AreSources files lines options (Some sources) = IsSources files lines sources.now
+abbrev pub AreSources : Files → Options → Option (Bor FileMap) → Type 0
+AreSources files options lent = AreKept files (wants_sources options) (option_map (λ map. map.now) lent)
 
--- the result of reading these files: the tree of the root file, the files that it opens, and its sources, if kept
+-- no tree is accepted for this reason, unless there was not enough memory
+abbrev pub IsRefusalOf : Files → List ℕ → Refusal → Type 0
+IsRefusalOf files root r = r.cause ≢ Memory → IsRefusedTree files root (refusal_view r)
+
+-- the result of reading these files: the tree of the root file, the files that it opens, and the files, if kept
 pub record IsReadOf (files : Files) (root : List ℕ) (keeps : Bool) (read : TreeReading) : Type 0 where
   pub built : IsTreeOf files root (Ok read.tree)
   pub opened : AreOpened files root read.opened
-  pub sources : (log : ReadSoFar) × Expands files root (Ok log) × AreKept files (numbered_lines log.lines) keeps read.sources
+  pub kept : AreKept files keeps read.files
 
--- or why there is no tree, unless there was not enough memory
-pub record IsReadingOf (files : Files) (root : List ℕ) (keeps : Bool) (reading : Result TreeReading Refusal) : Type 0 where
-  pub read : IfOk reading (IsReadOf files root keeps)
-  pub refused : IfErr reading (λ r. r.cause ≢ Memory → IsTreeOf files root (Err (refusal_view r)))
+abbrev pub IsReadingOf : Files → List ℕ → Bool → Result TreeReading Refusal → Type 0
+IsReadingOf files root keeps (Ok read) = IsReadOf files root keeps read
+IsReadingOf files root keeps (Err r) = IsRefusalOf files root r
 
 -- its symbols are in order
 abbrev pub IsReady : OrderedTree → Type 0
-IsReady accepted = IsGraphOf accepted.laid accepted.order.now
+IsReady accepted = IsOrderOf accepted.laid accepted.order
 
--- the tree of these files, with the files that it opens, and its sources, if kept
+-- the accepted tree of these files, with the files that it opens, and the files, if kept
 pub record IsOrderedOf (files : Files) (root : List ℕ) (keeps : Bool) (accepted : OrderedTree) : Type 0 where
   pub tree : IsAcceptedTree files root accepted.laid.tree.now
   pub opened : AreOpened files root accepted.opened.now
-  pub sources : (log : ReadSoFar) × Expands files root (Ok log) × AreHeld files (numbered_lines log.lines) keeps accepted.sources
+  pub kept : AreKept files keeps (option_map (λ map. map.now) accepted.files)
 
--- the same, if the options want them
-pub record IsAcceptedOf (files : Files) (options : Options) (accepted : OrderedTree) : Type 0 where
-  pub tree : IsAcceptedTree files (root_file options) accepted.laid.tree.now
-  pub opened : AreOpened files (root_file options) accepted.opened.now
-  pub sources : (log : ReadSoFar) × Expands files (root_file options) (Ok log) × AreSources files (numbered_lines log.lines) options accepted.sources
+abbrev pub IsOrderingOf : Files → List ℕ → Bool → Result OrderedTree Refusal → Type 0
+IsOrderingOf files root keeps (Ok accepted) = IsOrderedOf files root keeps accepted
+IsOrderingOf files root keeps (Err r) = IsRefusalOf files root r
+
+-- the same, with the files, if the options want them
+abbrev pub IsAcceptedOf : Files → Options → OrderedTree → Type 0
+IsAcceptedOf files options = IsOrderedOf files (root_file options) (wants_sources options)

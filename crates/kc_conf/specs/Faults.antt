@@ -2,7 +2,8 @@
 -- Our own. It ends in `Runs` and, for the tree of a folder, `FolderRuns`. Claims about files are for devices that record what files hold (kc_io).
 use Rattle.std.specs.Prelude.{◌≡◌, ◌⊎◌, ℕ, if◌then◌else◌, List, [], ◌++◌, ◌||◌, take, filter, slice_get, slice_index_or, string_bytes, Option, None, Some, Result, Ok, Err, ⊤}
 use Rattle.std.specs.Option.{option_or}
-use Rattle.kc_language.specs.{ConfigFile.{lines_from, lines_of, reading}, Expansion.{AreOpened, Files, Refused}, Symbols.TreeFacts, Text.{BeginsWith, GoesBeyond}, Texts.HasShortLines, Outcome.{IsAcceptedTree, IsOutcome, IsRefusedTree, Options, Outcome, cannot_read_line, fresh_input, lead, lines_text, input_names, out_of_memory_line, read_of, root_file, run_error_text, streams, unknown_name, unreadable_name}, Statements.error_line, declared.{diagnostics.RunError.RunError, outcome.{Delivery.Delivery, Status.Status}}}
+use Rattle.kc_language.specs.{ConfigFile.{lines_from, lines_of, reading}, Expansion.{AreOpened, Files, Refused}, Symbols.{TreeFacts}, Text.{BeginsWith, GoesBeyond}, Texts.{HasShortLines}, Statements.{cannot_read_line, out_of_memory_line, run_error_text, error_line}, declared.diagnostics.RunError.{RunError}}
+use Rattle.kc_outcome.specs.{Outcome.{IsAcceptedTree, IsOutcome, IsRefusedTree, Options, Outcome, fresh_input, lead, lines_text, input_names, read_of, root_file, streams, unknown_name, unreadable_name}, declared.outcome.{Delivery.{Delivery}, Status.{Status}}}
 use Rattle.kc_io.specs.{Delivery.{NamedText, StopsBefore, cleared_by, delivers, stale_lines, stale_texts, status_with, texts_of}, Inputs.{AreInputs, AreThere, HasTurn, InputFile, ReadsTo, begun, bytes_of, reads, still_told}, Log.{Event, Leads, Log, Tells, TriesToSay, failed, reported, said}, declared.{device.{Action.{Action, TheVariants.{Open, Read, Report}}, Fault.Fault}, steps.Failure.Failure}}
 use Rattle.kc_load.specs.{Folder.{AreFilesOf, IsLoadFault, failed_load, FolderState, Leads as FolderLeads, files_told}, declared.fault.LoadFault.LoadFault}
 use Rattle.kc_conf.specs.declared.stop.Stop.{Stop}

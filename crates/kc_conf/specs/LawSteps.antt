@@ -1,11 +1,12 @@
 -- For proofs: Laws from which the laws of `Laws` follow.
-use Rattle.std.specs.Prelude.{◌≡◌, ◌⊎◌, ℕ, List, Ok}
-use Rattle.kc_language.specs.Expansion.{Expands, Files, ReadSoFar, Refused}
+use Rattle.std.specs.Prelude.{◌≡◌, ◌⊎◌, ℕ, List}
+use Rattle.kc_language.specs.Expansion.{Files, Refused}
 use Rattle.kc_language.specs.Symbols.{TreeFacts}
 use Rattle.kc_language.specs.ConfigFile.{ArePlacesOf, Places}
 use Rattle.kc_language.specs.Needs.{IsAccepted}
 use Rattle.kc_language.specs.Texts.{Solution}
-use Rattle.kc_language.specs.Outcome.{IsAcceptedTree, IsOutcome, IsRefusedTree, IsSolutionFor, Options, Outcome, root_file}
+use Rattle.kc_outcome.specs.Outcome.{IsAcceptedTree, IsOutcome, IsRefusedTree, Options, Outcome, root_file}
+use Rattle.kc_language.specs.Texts.{IsSolutionFor}
 
 -- An accepted tree has a solution for any user values.
 abbrev pub SolutionExists : Type 0
@@ -31,9 +32,8 @@ abbrev pub OneOutcome : Type 0
 OneOutcome =
     (files : Files) (options : Options) (all : List (List ℕ)) (a b : Outcome) → IsOutcome files options all a → IsOutcome files options all b → a ≡ b
 
--- a root file has at most one refusal, at most one accepted tree, and not both, and at most one list of lines
+-- a root file has at most one refusal, at most one accepted tree, and not both
 pub record OneAnswer : Type 0 where
   pub one_refusal : (files : Files) (root : List ℕ) (r s : Refused) → IsRefusedTree files root r → IsRefusedTree files root s → r ≡ s
   pub one_accepted : (files : Files) (root : List ℕ) (tree other : TreeFacts) → IsAcceptedTree files root tree → IsAcceptedTree files root other → tree ≡ other
   pub not_both : (files : Files) (root : List ℕ) (r : Refused) (tree : TreeFacts) → IsRefusedTree files root r → IsAcceptedTree files root tree → ⊥
-  pub one_log : (files : Files) (root : List ℕ) (log other : ReadSoFar) → Expands files root (Ok log) → Expands files root (Ok other) → log ≡ other

@@ -1,7 +1,8 @@
--- Trusted: Laws of outcomes: there is exactly one, its texts restore the values, no line is lost, --strict passes only lines taken as written.
+-- Trusted: Laws of outcomes: there is exactly one, its texts restore the values, no line is lost, --strict passes only lines taken as written, explanations decide.
 -- Our own. Each law is the contract of a function that does nothing (src/laws.rt).
-use Rattle.kc_language.specs.{ConfigFile.{Assigns, Effect, Line, Notation, Nothing, Silent, StreamLocation, Warns, effect, is_prefix, is_reported, lines_of, line_meaning, plain_location, stream_location, value_text, located_warning_line}, Expansion.{AreOpened, Expands, Files, ReadSoFar, Refused, numbered_lines}, Outcome.{IsAcceptedTree, IsOutcome, IsRefusedTree, IsSolutionFor, Options, Outcome, is_outside, lead, lines_text, input_names, read_of, refuses_input, reported, root_file, streams, warned_files, with_rule}, Symbols.{SymbolFacts, TreeFacts}, Texts.{ConfigGivesBack, HasShortLines, MinimalGivesBack, MinimalNeedsEach, Solution, config_text, has_prompt, header_text, known, lost_warning, minimal_text, solution_view, value_of, value_warnings}, Values.{GivenValue, facts, given_of, name, same_given}, declared.{diagnostics.{Warning.{TheVariants.{Changed, SetAgain}}}, expressions.{SymId.{SymId}, SymbolType.{SymbolType}}, outcome.{Status.{Status}}}}
-use Rattle.std.specs.{List.{list_any}, Prelude.{All, Bool, Contains, List, None, Ok, Some, [], false, option_map, true, ℕ, ◌++◌, ◌∷◌, ◌≡◌, ◌⊎◌}}
+use Rattle.kc_language.specs.{ConfigFile.{Assigns, Effect, Line, Notation, Nothing, Silent, StreamLocation, Warns, effect, is_prefix, is_reported, lines_of, line_meaning, plain_location, stream_location, value_text, located_warning_line}, Expansion.{AreOpened, Files, Refused}, Texts.{IsSolutionFor, ConfigGivesBack, HasShortLines, MinimalGivesBack, MinimalNeedsEach, Solution, config_text, has_prompt, header_text, known, lost_warning, minimal_text, solution_view, value_of, value_warnings}, Symbols.{SymbolFacts, TreeFacts}, Values.{GivenValue, facts, given_of, name, same_given}, declared.{diagnostics.Warning.TheVariants.{Changed, SetAgain}, expressions.{SymId.{SymId}, SymbolType.{SymbolType}}}}
+use Rattle.kc_outcome.specs.{Explanations.{facts_in, words_of}, Outcome.{IsAcceptedTree, IsOutcome, IsRefusedTree, Options, Outcome, done_outcome, is_outside, lead, lines_text, input_names, read_of, refuses_input, reported, root_file, streams}, declared.outcome.{Output.{Output}, Status.{Status}, WantedOutput.{WantedOutput}}}
+use Rattle.std.specs.{List.{list_any}, Prelude.{All, Bool, Contains, List, None, Some, [], false, length, map, slice_get, true, ℕ, ◌++◌, ◌<◌, ◌∷◌, ◌≡◌, ◌⊎◌}}
 use Rattle.kc_conf.specs.Faults.{AreLines, NamesAreTaken, diagnostics_of}
 
 -- ---- There is exactly one outcome
@@ -29,20 +30,25 @@ pub record RefusesNothing (files : Files) (options : Options) (all : List (List 
   pub read_whole : (read_of options tree all).stopped ≡ None
   pub solution_is : IsSolutionFor tree (read_of options tree all).input.places solution
 
--- The `.config`, the header and the minimal file, if they are wanted, are the texts of this solution.
+-- Each output of this kind has this text.
+abbrev pub HasText : Options → Outcome → Output → List ℕ → Type 0
+HasText options outcome kind text = (i : ℕ) (wanted : WantedOutput) → slice_get options.outputs.items i ≡ Some wanted → wanted.kind ≡ kind →
+    slice_get outcome.texts i ≡ Some text
+
+-- There is one text for each output. The `.config`, the header and the minimal file, if they are wanted, are the texts of this solution.
 pub record HasItsTexts (options : Options) (tree : TreeFacts) (solution : Solution) (outcome : Outcome) : Type 0 where
-  pub config : outcome.config ≡ option_map (λ file. config_text tree options.prefix (solution_view solution)) options.out
-  pub header : outcome.header ≡ option_map (λ file. header_text tree options.prefix (solution_view solution)) options.header
-  pub minimal : outcome.minimal ≡ option_map (λ file. minimal_text tree options.prefix (solution_view solution)) options.minimal
+  pub count : length outcome.texts ≡ length options.outputs.items
+  pub config : HasText options outcome Output.Config (config_text tree options.prefix (solution_view solution))
+  pub header : HasText options outcome Output.Header (header_text tree options.prefix (solution_view solution))
+  pub minimal : HasText options outcome Output.Minimal (minimal_text tree options.prefix (solution_view solution))
 
 -- An outcome of status Done belongs to a run that refuses nothing, and all its texts are those of the values.
 abbrev pub DoneAreWhole : Type 0
 DoneAreWhole = (files : Files) (options : Options) (all : List (List ℕ)) (outcome : Outcome) →
     IsOutcome files options all outcome → outcome.status ≡ Status.Done →
     (tree : TreeFacts) × (solution : Solution) × RefusesNothing files options all tree solution
-    × ((opened : List (List ℕ)) × AreOpened files (root_file options) opened × (log : ReadSoFar) × Expands files (root_file options) (Ok log)
-    × (outcome ≡ with_rule options opened (reported (lines_text tree.warnings)
-    (reported (read_of options tree all).warned (warned_files files options tree (numbered_lines log.lines) (read_of options tree all).input solution)))))
+    × ((opened : List (List ℕ)) × AreOpened files (root_file options) opened × (outcome ≡ reported (lines_text tree.warnings)
+    (reported (read_of options tree all).warned (done_outcome files options opened (read_of options tree all).input solution))))
     × (refuses_input options (read_of options tree all).input solution ≡ false)
 
 -- Each text of such a run is read alone, from no user values. The minimal file restores the values; with any nonempty set of its lines left out it
@@ -75,8 +81,9 @@ pub record HasSameValues (files : Files) (alone : Options) (all : List (List ℕ
   pub again : Solution
   pub is_whole : RefusesNothing files alone all tree again
   pub values : again.values ≡ solution.values
-  pub config : later.config ≡ option_map (λ file. config_text tree alone.prefix (solution_view solution)) alone.out
-  pub header : later.header ≡ option_map (λ file. header_text tree alone.prefix (solution_view solution)) alone.header
+  pub count : length later.texts ≡ length alone.outputs.items
+  pub config : HasText alone later Output.Config (config_text tree alone.prefix (solution_view solution))
+  pub header : HasText alone later Output.Header (header_text tree alone.prefix (solution_view solution))
 
 -- A run on the minimal file alone, which allows warnings and refuses no name, has the values of the outcome to which the file belongs. (A run that
 -- refuses warnings may write nothing: the file's lines may have warnings that the input files did not have.)
@@ -140,3 +147,15 @@ StrictTakesAll = (files : Files) (options : Options) (all : List (List ℕ)) (ou
     × (list_any is_outside (value_warnings solution) ≡ false)
     × ((before later : List Line) (l : Line) → lines_of (streams (input_names options) all) ≡ before ++ l ∷ later →
     IsTakenAsWritten tree options.prefix options.warn_lost solution l later (effect tree options.prefix l))
+
+-- ---- What an explanation prints decides the value
+-- The lines about a symbol in a run's explanation of it, without the first line, the menus and the locations in input files.
+abbrev pub words_about : Options → List (List ℕ) → TreeFacts → Solution → SymId → List (List ℕ)
+words_about options all tree solution s = map (words_of options.prefix.is_raw tree) (facts_in (read_of options tree all).input solution s)
+
+-- Two runs over one tree that refuse nothing, with any options and input files, if both write strings raw or both escaped. If the lines about a symbol are
+-- the same, so is its value.
+abbrev pub ExplanationsDecide : Type 0
+ExplanationsDecide = (files : Files) (a b : Options) (first second : List (List ℕ)) (tree : TreeFacts) (A B : Solution) (s : SymId) →
+    RefusesNothing files a first tree A → RefusesNothing files b second tree B → a.prefix.is_raw ≡ b.prefix.is_raw → s.0 < length tree.names →
+    words_about a first tree A s ≡ words_about b second tree B s → value_of A s.0 ≡ value_of B s.0

@@ -1,14 +1,18 @@
 -- The definitions that the contracts cite.
 pub mod Accepted
+pub mod Causes
 pub mod Computed
+pub mod Dead
+pub mod DeadParts
 pub mod Endings
 pub mod Faults
 pub mod LawSteps
 pub mod Laws
-pub mod LostView
+pub mod Lost
 pub mod Many
 pub mod PartRuns
 pub mod RefusedNames
+pub mod PartsOfExplanations
 pub mod PartsOfFaults
 pub mod PartsOfLaws
 pub mod PartsOfMany

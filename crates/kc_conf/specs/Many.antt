@@ -1,7 +1,8 @@
 -- Trusted: What a run for many configurations of one tree leaves, and that they do not change one another's files.
 -- Our own. It ends in `RunsEach`, and in the law `EachLeavesItsPart` of configurations with separate files.
-use Rattle.std.specs.{List.list_any, Prelude.{◌≡◌, ◌≢◌, ◌⊎◌, ℕ, suc, ◌<◌, Bool, true, false, not, ◌||◌, List, [], ◌∷◌, ◌++◌, Option, None, Some, String, string_bytes, bytes_eq, is_ok}, declared.alloc.Global.Global}
-use Rattle.kc_language.specs.{Expansion.{AreOpened, Files, Refused}, Symbols.TreeFacts, Outcome.{IsAcceptedTree, IsOutcome, IsRefusedTree, Options, Outcome, input_files, lines_text, out_of_memory_line, refusal_line, reported, root_file}, declared.outcome.{Delivery.Delivery, Status.Status}}
+use Rattle.std.specs.{List.list_any, Prelude.{◌≡◌, ◌≢◌, ◌⊎◌, ℕ, suc, ◌<◌, Bool, true, false, not, ◌||◌, List, [], ◌∷◌, ◌++◌, None, Some, map, string_bytes, bytes_eq, is_ok}}
+use Rattle.kc_language.specs.{Expansion.{AreOpened, Files, Refused}, Symbols.{TreeFacts}, Statements.{out_of_memory_line}}
+use Rattle.kc_outcome.specs.{Outcome.{IsAcceptedTree, IsOutcome, IsRefusedTree, Options, Outcome, input_files, lines_text, refusal_line, reported, root_file}, declared.outcome.{Delivery.{Delivery}, Status.{Status}}}
 use Rattle.kc_io.specs.{Delivery.{last_of, stale_texts, status_with, texts_of}, Inputs.{AreInputs, InputFile, bytes_of, still_told}, Log.{Journal, Leads, Log, Tells, TriesToSay, failed, held}, declared.device.{Action.Action, Fault.Fault}}
 use Rattle.kc_options.specs.PartsOfOutcome.{wants_sources}
 use Rattle.kc_conf.specs.{Faults.{Broken, Completes, IsRefusedName, refused_name_of}, declared.stop.Stop.Stop}
@@ -96,11 +97,8 @@ pub data RunsEach (files : Files) (root : List ℕ) (options : ℕ → Options �
 
 -- ---- Configurations with separate files
 -- the files that a run with these options writes, or compares with --check; those that it writes; and whether a name is one of these
-abbrev pub name_if : Option (String Global) → List (List ℕ)
-name_if file = elim file [ None ↦ [] | Some name ↦ string_bytes name ∷ [] ]
-
 abbrev pub output_files : Options → List (List ℕ)
-output_files options = name_if options.out ++ (name_if options.header ++ (name_if options.minimal ++ (name_if options.list_new ++ (name_if options.list_gone ++ (name_if options.depfile ++ name_if options.explanation)))))
+output_files options = map (λ wanted. string_bytes wanted.file) options.outputs.items
 
 abbrev pub written_files : Options → List (List ℕ)
 written_files options = elim options.delivery [ Delivery.Check ↦ [] | _ ↦ output_files options ]

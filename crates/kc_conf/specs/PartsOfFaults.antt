@@ -2,8 +2,8 @@
 use Rattle.std.specs.Prelude.{List, [], ℕ, filter}
 use Rattle.kc_language.specs.ConfigFile.{Line, lines_from}
 use Rattle.kc_language.specs.Symbols.{TreeFacts}
-use Rattle.kc_language.specs.Outcome.{lines_text}
-use Rattle.kc_language.specs.declared.outcome.Delivery.{Delivery}
+use Rattle.kc_outcome.specs.Outcome.{lines_text}
+use Rattle.kc_outcome.specs.declared.outcome.Delivery.{Delivery}
 use Rattle.kc_io.specs.Delivery.{NamedText, chosen, delivery, stale}
 use Rattle.kc_io.specs.Log.{Event, Journal}
 use Rattle.kc_io.specs.declared.delivery.Manner.TheVariants.{InPlace, Replacing}

@@ -1,19 +1,10 @@
 -- For proofs: Names for parts of the definitions of Many.
-use Rattle.std.specs.Prelude.{◌≡◌, ◌⊎◌, ℕ, List, [], Option, None}
-use Rattle.kc_language.specs.Expansion.{Files}
-use Rattle.kc_language.specs.Outcome.{Options, Outcome, lines_text, reported}
-use Rattle.kc_conf.specs.Faults.{IsRefusedName}
-use Rattle.kc_language.specs.Symbols.{TreeFacts}
-use Rattle.kc_language.specs.declared.outcome.Delivery.{Delivery}
+use Rattle.std.specs.Prelude.{ℕ, List, [], Option, None}
+use Rattle.kc_outcome.specs.declared.outcome.Delivery.{Delivery}
 
--- what is reported before a part
-abbrev pub warned_before : TreeFacts → Option (List ℕ) → List ℕ
-warned_before tree refused = elim refused [ None ↦ lines_text tree.warnings | _ ↦ [] ]
-
--- the outcome of a run is the tree's warnings and its part, or only its part
-abbrev pub IsWholeOf : Files → TreeFacts → Options → Outcome → Outcome → Type 0
-IsWholeOf files tree options part outcome = (outcome ≡ reported (lines_text tree.warnings) part)
-    ⊎ ((name : List ℕ) × IsRefusedName files options name × (outcome ≡ part))
+-- what was reported before the rest of an outcome: this, unless a name is refused
+abbrev pub told_before : List ℕ → Option (List ℕ) → List ℕ
+told_before told refused = elim refused [ None ↦ told | _ ↦ [] ]
 
 -- which of these files are written
 abbrev pub written_by : Delivery → List (List ℕ) → List (List ℕ)

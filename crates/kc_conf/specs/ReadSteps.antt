@@ -7,12 +7,12 @@ use Rattle.kc_io.specs.Log.{Event, Log, Leads, did, each_byte, IsFound, IsOpened
 use Rattle.kc_io.specs.declared.device.Action.{Action}
 use Rattle.kc_io.specs.declared.device.Action.TheVariants.{Open, Miss, Read, Report}
 use Rattle.kc_io.specs.declared.steps.Failure.{Failure}
-use Rattle.kc_config_file.specs.Feeding.{EndsStream, ReadsPiece, StreamPosition, stream_start, to_come}
+use Rattle.kc_input.specs.Feeding.{EndsStream, ReadsPiece, StreamPosition, stream_start, to_come}
 use Rattle.kc_language.specs.Texts.{HasShortLines}
-use Rattle.kc_config_file.specs.ReaderState.{ReaderState}
-use Rattle.kc_config_file.specs.Reading.{with_warnings}
+use Rattle.kc_input.specs.ReaderState.{ReaderState}
+use Rattle.kc_input.specs.Reading.{with_warnings}
 use Rattle.kc_language.specs.Text.{BeginsWith, GoesBeyond}
-use Rattle.kc_language.specs.Outcome.{Options, input_files, input_names, streams}
+use Rattle.kc_outcome.specs.Outcome.{Options, input_files, input_names, streams}
 use Rattle.kc_conf.specs.Faults.{AreLines}
 use Rattle.kc_conf.specs.Faults.{event_of}
 use Rattle.kc_io.specs.Inputs.{InputFile, IsAsTold, IsThere, ReadsInto, begun, bytes_of, reads, reads_one, still_told}

@@ -10,8 +10,8 @@ use Rattle.kc_io.specs.declared.device.Fault.TheVariants as fault
 use Rattle.kc_io.specs.declared.steps.Failure.{Failure}
 use Rattle.kc_language.specs.ConfigFile.{ReadResult, StreamLocation, UserInput, lines_of, reading}
 use Rattle.kc_language.specs.Text.{BeginsWith, GoesBeyond}
-use Rattle.kc_language.specs.Outcome.{Options, input_names, streams}
-use Rattle.kc_language.specs.Outcome.{out_of_memory_line}
+use Rattle.kc_outcome.specs.Outcome.{Options, input_names, streams}
+use Rattle.kc_language.specs.Statements.{out_of_memory_line}
 use Rattle.kc_conf.specs.Faults.{AreLines}
 use Rattle.kc_conf.specs.Faults.{event_of, ReadsUpTo}
 use Rattle.kc_io.specs.Inputs.{AreInputs, AreThere, InputFile, ReadsTo, bytes_of, reads, still_told}
@@ -75,11 +75,6 @@ abbrev pub LastEndsLine : List (Bor (List ℕ)) → Type 0
 LastEndsLine [] = ⊤
 LastEndsLine (part ∷ []) = IsWholeEnd part.now
 LastEndsLine (part ∷ next ∷ parts) = LastEndsLine (next ∷ parts)
-
--- the diagnostics failed, or there was not enough memory
-abbrev pub IsReportOrMemory : Stop → Type 0
-IsReportOrMemory OutOfMemory = ⊤
-IsReportOrMemory (Failed f) = IsReportStop (Failed f)
 
 -- if this holds, the text was reported; otherwise the diagnostics failed
 abbrev pub SaysIf : List ℕ → Bool → Log → Log → Type 0

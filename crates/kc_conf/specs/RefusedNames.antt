@@ -1,6 +1,7 @@
 -- For proofs: A refused name.
 use Rattle.std.specs.Prelude.{ℕ, List}
-use Rattle.kc_language.specs.Outcome.{first_line, run_error_text}
+use Rattle.kc_outcome.specs.Outcome.{first_line}
+use Rattle.kc_language.specs.Statements.{run_error_text}
 use Rattle.kc_language.specs.Statements.{error_line}
 use Rattle.kc_language.specs.declared.diagnostics.RunError.TheVariants as run
 use Rattle.kc_conf.specs.PartsOfOutcome.{unreadable_line}

@@ -1,13 +1,11 @@
-//! The result of reading a tree, and an accepted tree.
+//! A tree that was read, and an accepted tree.
 ghost use Rattle.kc_read.specs.Files.{files_in};
-ghost use Rattle.std.specs.Prelude.{◌≡◌, ℕ, List, true, false, option_map};
-ghost use Rattle.kc_language.specs.Expansion.{AreOpened, Files};
-ghost use Rattle.kc_build.specs.Listings.{IsListingOf};
-ghost use Rattle.kc_conf.specs.Accepted.{IsReadingOf};
+ghost use Rattle.std.specs.Prelude.{◌≡◌, ℕ, Bool, List, IfOk};
+ghost use Rattle.kc_language.specs.Expansion.{Files};
+ghost use Rattle.kc_conf.specs.Accepted.{AreKept, IsOrderingOf, IsReadOf, IsReadingOf, IsReady};
 
-use kc_build::{Listing, RootReading, built_tree, read_listing, tree_of};
+use kc_build::{RootReading, read_listing, tree_of};
 use kc_expr::names::Names;
-use kc_read::entries::Entries;
 use kc_read::file_map::FileMap;
 use kc_read::refusal::Refusal;
 use kc_solve::evaluation_order::EvaluationOrder;
@@ -15,95 +13,72 @@ use kc_tree::laid_tree::LaidTree;
 use kc_tree::tree::Tree;
 use std::alloc::Global;
 
-/// The sources of a tree: its lines, and the files of the run.
-#[derive(Drop)]
-pub(crate) struct TreeSources {
-    pub entries: Entries,
-    pub files: FileMap,
-}
-
-/// A tree that was read, the names of the files that it opens, and its sources, if kept.
+/// A tree that was read, the names of the files that it opens, and the files of the run, if kept.
 #[derive(Drop)]
 pub(crate) struct TreeReading {
     pub tree: Tree,
     pub opened: Names,
-    pub sources: Option<TreeSources>,
+    pub files: Option<FileMap>,
 }
 
-/// An accepted tree with an order of its symbols, the names of the files that it opens, and its sources, if kept.
-#[derive(Clone, Copy)]
+/// An accepted tree with an order of its symbols, the names of the files that it opens, and the files of the run, if kept.
+#[derive(Drop)]
 pub(crate) struct OrderedTree<'t> {
     pub laid: LaidTree<'t>,
-    pub order: &'t EvaluationOrder,
+    pub order: EvaluationOrder,
     pub opened: &'t Names,
-    pub sources: Option<&'t TreeSources>,
+    pub files: Option<&'t FileMap>,
 }
 
-/// The tree that a run accepted, with the order that the run used, and its sources, if kept (our own).
+/// The tree that a run accepted, with the order that the run used, and the files of the run, if kept (our own).
 ///
 /// Freeing it takes time. A program that is about to exit can leak it instead.
 #[derive(Drop)]
 pub struct AcceptedTree {
-    pub(crate) tree: Tree,
+    pub(crate) reading: TreeReading,
     pub(crate) order: EvaluationOrder,
-    pub(crate) sources: Option<TreeSources>,
 }
 
 impl AcceptedTree {
     /// The tree.
     pub fn tree(&self) -> &Tree
-        ensures { result.now ≡ self.now.tree }
+        ensures { result.now ≡ self.now.reading.tree }
     {
-        &self.tree
+        &self.reading.tree
     }
 }
 
-/// The sources of a tree, if kept.
-pub(crate) fn borrowed(sources: &Option<TreeSources>) -> Option<&TreeSources>
-    ensures { option_map (λ s. s.now) result ≡ sources.now }
-{
-    sources.as_ref()
-}
-
-// Builds the tree of a listing.
-fn read_alone(alloc: Global, listing: Listing, opened: Names) -> Result<TreeReading, Refusal>
-    requires { (files : Files) × (root : List ℕ) × IsListingOf files root listing }
-    ensures { (files : Files) (root : List ℕ) → IsListingOf files root listing → AreOpened files root opened → IsReadingOf files root false result }
-{
-    match tree_of(alloc, listing) {
-        Ok(tree) => Ok(TreeReading {
-            tree,
-            opened,
-            sources: None,
-        }),
-        Err(refusal) => Err(refusal),
-    }
-}
-
-// Builds the tree of a listing, and keeps its lines and these files.
-fn read_with_sources(
-    alloc: Global,
-    listing: Listing,
-    opened: Names,
-    files: FileMap,
-) -> Result<TreeReading, Refusal>
-    requires { (root : List ℕ) × IsListingOf (files_in files) root listing }
-    ensures { (root : List ℕ) → IsListingOf (files_in files) root listing → AreOpened (files_in files) root opened → IsReadingOf (files_in files) root true result }
-{
-    match built_tree(alloc, listing) {
-        Ok(built) => Ok(TreeReading {
-            tree: built.tree,
-            opened,
-            sources: Some(TreeSources {
-                entries: built.entries,
-                files,
+impl TreeReading {
+    /// Orders the symbols of the tree.
+    ///
+    /// # Errors
+    ///
+    /// E15 if symbols need one another in a loop, or E20 if there is not enough memory.
+    pub fn ordered(&self, alloc: Global) -> Result<OrderedTree<'_>, Refusal>
+        ensures ready { IfOk result IsReady }
+        ensures ordered { (files : Files) (root : List ℕ) (keeps : Bool) → IsReadOf files root keeps self.now → IsOrderingOf files root keeps result }
+    {
+        let laid = self.tree.laid();
+        match EvaluationOrder::of(alloc, &laid) {
+            Ok(order) => Ok(OrderedTree {
+                laid,
+                order,
+                opened: &self.opened,
+                files: self.files.as_ref(),
             }),
-        }),
-        Err(refusal) => Err(refusal),
+            Err(refusal) => Err(refusal),
+        }
     }
 }
 
-/// Reads the tree of these files. The files are freed before the tree is built, unless the sources are kept.
+// These files, if they are kept; otherwise they are freed.
+fn kept_if(files: FileMap, keeps: bool) -> Option<FileMap>
+    ensures { AreKept (files_in files) keeps result }
+{
+    if keeps { Some(files) } else { None }
+}
+
+/// Reads the tree of these files. The files are freed before the tree is built, unless they are kept.
 ///
 /// # Errors
 ///
@@ -120,9 +95,13 @@ pub(crate) fn read_tree(
         Ok(reading) => reading,
         Err(refusal) => return Err(refusal),
     };
-    if keeps {
-        return read_with_sources(alloc, listing, opened, files);
+    let kept = kept_if(files, keeps);
+    match tree_of(alloc, listing) {
+        Ok(tree) => Ok(TreeReading {
+            tree,
+            opened,
+            files: kept,
+        }),
+        Err(refusal) => Err(refusal),
     }
-    drop(files);
-    read_alone(alloc, listing, opened)
 }

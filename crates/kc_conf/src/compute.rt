@@ -1,76 +1,39 @@
 //! Computes the result of a run in memory: its warnings and texts.
-ghost use Rattle.std.specs.Prelude.{◌≡◌, ◌++◌, ◌||◌, ◌&&◌, List, [], ◌∷◌, map, IfOk, OnOk, option_map};
+ghost use Rattle.std.specs.Prelude.{◌≡◌, ◌++◌, ◌||◌, ◌&&◌, ◌==◌, ℕ, List, [], ◌∷◌, length, map, IfOk, OnOk, option_map};
 ghost use Rattle.std.specs.List.{flat_map, list_any};
-ghost use Rattle.std.specs.Option.{option_map_or};
 ghost use Rattle.kc_diagnostics.specs.Warnings.{owned_warning};
 ghost use Rattle.kc_language.specs.Symbols.{warning_line};
 ghost use Rattle.kc_language.specs.ConfigFile.{ArePlacesOf};
-ghost use Rattle.kc_language.specs.Texts.{warnings, solution_view};
-ghost use Rattle.kc_language.specs.Texts as whole;
 ghost use Rattle.kc_io.specs.Delivered.{text_view};
-ghost use Rattle.kc_language.specs.Outcome as rules;
 ghost use Rattle.kc_language.specs.Expansion.{Files};
-ghost use Rattle.kc_language.specs.Statements.{Located, Numbered};
 ghost use Rattle.kc_conf.specs.Accepted.{AreSources, IsReady};
 ghost use Rattle.kc_conf.specs.Faults.{AreLines};
-ghost use Rattle.kc_language.specs.Outcome.{lead, target, is_not_empty, lines_text, names_listed, is_outside, lost_warnings, refuses_input};
-ghost use Rattle.kc_conf.specs.PartsOfOutcome.{text_if};
-ghost use Rattle.kc_conf.specs.Computed.{Computes, explained_by, explained_lost, explanation_lead, files_from, lost_by, lost_from, new_by, new_from, sources_if};
-ghost use Rattle.kc_read.specs.Entries.{lines_in};
-ghost use Rattle.kc_io.specs.Delivery.{text_at, texts_of};
+ghost use Rattle.kc_outcome.specs.Outcome.{is_not_empty, lines_text, is_outside, lost_warnings, refuses_input};
+ghost use Rattle.kc_conf.specs.PartsOfOutcome.{names_if};
+ghost use Rattle.kc_conf.specs.Computed.{Computes, named_from, new_by, new_from, rule_by, text_from, value_lines};
+ghost use Rattle.kc_conf.specs.Lost.{lost_values, lost_view};
 
-use crate::accepted::{OrderedTree, TreeSources};
-use crate::explained::{add_explained_lost, explained_text, explanation_lead};
-use crate::lost::lost_warnings;
+use crate::accepted::OrderedTree;
+use crate::explained::explained_text;
+use crate::lost::{LostValue, lost_values};
+use crate::lost_text::add_lost;
+use crate::new_symbols::new_text_with_help;
 use kc_config_file::config::config_text;
 use kc_config_file::header::{header_text, list_of_new, minimal_text};
-use kc_config_file::user_input::UserInput;
 use kc_diagnostics::{Warning, add_warning, borrowed};
-use kc_explain::{Lines, new_text_with_help};
 use kc_expr::names::Names;
+use kc_input::text::add_parts;
+use kc_input::user_input::UserInput;
 use kc_io::Text;
 use kc_load::{prerequisites_of, rule_text};
-use kc_options::{Options, lead, target};
+use kc_options::{Options, Output, lead, target, wants};
+use kc_read::file_map::FileMap;
 use kc_solve::solve::solve;
 use kc_solve::solved::Solved;
 use kc_tree::tree::Tree;
 use std::alloc::{AllocError, Global};
 
 // ---- warnings
-
-// Adds these parts.
-fn add_parts(parts: &[&[u8]], text: &mut Vec<u8>) -> Result<(), AllocError>
-    ensures { OnOk result (text.new.items ≡ text.old.items ++ flat_map (λ part. part.now) parts.now) }
-{
-    for part in parts {
-        text.extend_from_slice(part)?;
-    }
-    Ok(())
-}
-
-// Adds a line after these parts.
-fn add_line(lead: &[&[u8]], line: &[u8], text: &mut Vec<u8>) -> Result<(), AllocError>
-    ensures { OnOk result (text.new.items ≡ text.old.items ++ lines_text ((flat_map (λ part. part.now) lead.now ++ line.now) ∷ [])) }
-{
-    add_parts(lead, text)?;
-    text.extend_from_slice(line)?;
-    text.push(b'\n')?;
-    Ok(())
-}
-
-/// Adds these lines, each after these parts.
-pub(crate) fn add_lines(
-    lead: &[&[u8]],
-    lines: &[Vec<u8>],
-    text: &mut Vec<u8>,
-) -> Result<(), AllocError>
-    ensures { OnOk result (text.new.items ≡ text.old.items ++ lines_text (map (λ line. flat_map (λ part. part.now) lead.now ++ line.items) lines.now)) }
-{
-    for line in lines {
-        add_line(lead, line, text)?;
-    }
-    Ok(())
-}
 
 // Adds the line of a warning after these parts.
 fn add_warning_line(
@@ -102,96 +65,20 @@ fn add_warnings(
     Ok(())
 }
 
-// The sources, if they are wanted.
-fn sources_if<'s>(is_wanted: bool, sources: Option<&'s TreeSources>) -> Option<&'s TreeSources>
-    ensures { result ≡ sources_if is_wanted sources.entry }
-{
-    if is_wanted { sources } else { None }
-}
-
-// Whether lost values are explained.
-fn explains_lost(options: &Options) -> bool
-    ensures { result ≡ (options.now.explain_lost && options.now.warn_lost) }
-{
-    options.explain_lost && options.warn_lost
-}
-
-// Adds the lines of lost values, each with the explanation of its symbol.
-fn add_explained(
-    alloc: Global,
-    options: &Options,
-    sources: &TreeSources,
-    input: &UserInput<'_>,
-    solved: &Solved<'_>,
-    text: &mut Vec<u8>,
-) -> Result<(), AllocError>
-    ensures { OnOk result (text.new.items ≡ text.old.items ++ explained_lost options.now.prefix.is_raw (explanation_lead options.now) (lines_in sources.now.entries) input.now solved.now) }
-{
-    let lines = Lines::of(alloc, &sources.entries)?;
-    let front = explanation_lead(alloc, options)?;
-    add_explained_lost(
-        alloc,
-        options.prefix.is_raw(),
-        &lines,
-        input,
-        solved,
-        &front,
-        text,
-    )
-}
-
-// Adds these lines of lost values, with explanations from these sources, if there are any.
-fn add_lost_by(
-    alloc: Global,
-    options: &Options,
-    sources: Option<&TreeSources>,
-    input: &UserInput<'_>,
-    solved: &Solved<'_>,
-    lost: &[Vec<u8>],
-    text: &mut Vec<u8>,
-) -> Result<(), AllocError>
-    requires { map (λ line. line.items) lost.now ≡ lost_warnings options.now input.now solved.now }
-    ensures { OnOk result (text.new.items ≡ text.old.items ++ lost_by sources.entry options.now input.now solved.now) }
-{
-    match sources {
-        Some(sources) => add_explained(alloc, options, sources, input, solved, text),
-        None => add_lines(&[], lost, text),
-    }
-}
-
-// Adds the lines of lost values, with explanations if they are wanted.
-fn add_lost(
-    alloc: Global,
-    options: &Options,
-    sources: Option<&TreeSources>,
-    input: &UserInput<'_>,
-    solved: &Solved<'_>,
-    lost: &[Vec<u8>],
-    text: &mut Vec<u8>,
-) -> Result<(), AllocError>
-    requires { map (λ line. line.items) lost.now ≡ lost_warnings options.now input.now solved.now }
-    ensures { OnOk result (text.new.items ≡ text.old.items ++ lost_from options.now sources.entry input.now solved.now) }
-{
-    let wanted = sources_if(explains_lost(options), sources);
-    add_lost_by(alloc, options, wanted, input, solved, lost, text)
-}
-
 // Adds the warnings about values, and the lines of lost values.
 fn add_value_lines(
     alloc: Global,
     options: &Options,
-    sources: Option<&TreeSources>,
     input: &UserInput<'_>,
     solved: &Solved<'_>,
-    lost: &[Vec<u8>],
+    lost: &[LostValue],
     text: &mut Vec<u8>,
 ) -> Result<(), AllocError>
-    requires { map (λ line. line.items) lost.now ≡ lost_warnings options.now input.now solved.now }
-    ensures { OnOk result (text.new.items ≡ text.old.items
-        ++ (lines_text (map (λ line. lead options.now ++ line) (warnings solved.now)) ++ lost_from options.now sources.entry input.now solved.now)) }
+    requires { map lost_view lost.now ≡ lost_values options.now input.now solved.now }
+    ensures { OnOk result (text.new.items ≡ text.old.items ++ value_lines options.now input.now solved.now) }
 {
     add_warnings(&lead(options), solved.value_warnings(), text)?;
-    add_lost(alloc, options, sources, input, solved, lost, text)?;
+    add_lost(alloc, options, input, solved, lost, text)?;
     Ok(())
 }
 
@@ -216,18 +103,40 @@ fn is_any_outside(warnings: &[Warning<Vec<u8>>]) -> bool
     false
 }
 
-// Whether --strict refuses the user's input, given the lines of lost values.
+// Whether no value is lost that is warned of.
+fn is_none_lost(
+    options: &Options,
+    input: &UserInput<'_>,
+    solved: &Solved<'_>,
+    lost: &[LostValue],
+) -> bool
+    requires { map lost_view lost.now ≡ lost_values options.now input.now solved.now }
+    ensures { result ≡ (length (lost_warnings options.now input.now solved.now) == 0) }
+{
+    lost.is_empty()
+}
+
+// Whether --strict refuses the user's input, given the lost values.
 fn refuses_input(
     options: &Options,
     input: &UserInput<'_>,
     solved: &Solved<'_>,
-    lost: &[Vec<u8>],
+    lost: &[LostValue],
 ) -> bool
-    requires { map (λ line. line.items) lost.now ≡ lost_warnings options.now input.now solved.now }
+    requires { map lost_view lost.now ≡ lost_values options.now input.now solved.now }
     ensures { result ≡ refuses_input options.now input.now solved.now }
 {
     options.strict
-        && !(input.all_taken() && !is_any_outside(solved.value_warnings()) && lost.is_empty())
+        && !(input.all_taken()
+            && !is_any_outside(solved.value_warnings())
+            && is_none_lost(options, input, solved, lost))
+}
+
+// Whether the tree has warnings.
+fn has_warnings(tree: &Tree) -> bool
+    ensures { result ≡ is_not_empty (lines_text tree.now.warnings) }
+{
+    !tree.parse_warnings().is_empty()
 }
 
 // Whether there was an earlier warning, or this text is one.
@@ -243,10 +152,10 @@ fn is_refused(
     options: &Options,
     input: &UserInput<'_>,
     solved: &Solved<'_>,
-    lost: &[Vec<u8>],
+    lost: &[LostValue],
     is_warned: bool,
 ) -> bool
-    requires { map (λ line. line.items) lost.now ≡ lost_warnings options.now input.now solved.now }
+    requires { map lost_view lost.now ≡ lost_values options.now input.now solved.now }
     ensures { result ≡ (refuses_input options.now input.now solved.now || (options.now.strict_tree && is_warned)) }
 {
     refuses_input(options, input, solved, lost) || options.strict_tree && is_warned
@@ -255,14 +164,14 @@ fn is_refused(
 // ---- the texts
 
 /// The names in the dependency file, if it is wanted.
-pub(crate) fn names_listed(
+pub(crate) fn names_if(
     alloc: Global,
     options: &Options,
     opened: &Names,
 ) -> Result<Option<Names>, AllocError>
-    ensures { IfOk result (λ names. names ≡ names_listed options.now opened.now) }
+    ensures { IfOk result (λ names. names ≡ names_if options.now opened.now) }
 {
-    if options.depfile.is_none() {
+    if !wants(options, Output::DependencyFile) {
         return Ok(None);
     }
     let names = prerequisites_of(
@@ -276,214 +185,98 @@ pub(crate) fn names_listed(
     Ok(Some(names))
 }
 
-// Adds the text of the `.config`, if it is wanted.
-fn add_config<'o>(
-    alloc: Global,
-    options: &'o Options,
-    solved: &Solved<'_>,
-    texts: &mut Vec<Text<'o>>,
-) -> Result<(), AllocError>
-    ensures { OnOk result (map text_view texts.new.items ≡ map text_view texts.old.items
-        ++ text_at options.now.out (text_if options.now.out (whole.config_text solved.now.tree options.now.prefix (solution_view solved.now)))) }
-{
-    let Some(name) = &options.out else {
-        return Ok(());
-    };
-    let bytes = config_text(alloc, solved, &options.prefix)?;
-    texts.push(Text {
-        name: name.as_str(),
-        bytes,
-    })?;
-    Ok(())
-}
-
-// Adds the text of the header, if it is wanted.
-fn add_header<'o>(
-    alloc: Global,
-    options: &'o Options,
-    solved: &Solved<'_>,
-    texts: &mut Vec<Text<'o>>,
-) -> Result<(), AllocError>
-    ensures { OnOk result (map text_view texts.new.items ≡ map text_view texts.old.items
-        ++ text_at options.now.header (text_if options.now.header (whole.header_text solved.now.tree options.now.prefix (solution_view solved.now)))) }
-{
-    let Some(name) = &options.header else {
-        return Ok(());
-    };
-    let bytes = header_text(alloc, solved, &options.prefix)?;
-    texts.push(Text {
-        name: name.as_str(),
-        bytes,
-    })?;
-    Ok(())
-}
-
-// Adds the text of the minimal file, if it is wanted.
-fn add_minimal<'o>(
-    alloc: Global,
-    options: &'o Options,
-    solved: &Solved<'_>,
-    texts: &mut Vec<Text<'o>>,
-) -> Result<(), AllocError>
-    ensures { OnOk result (map text_view texts.new.items ≡ map text_view texts.old.items
-        ++ text_at options.now.minimal (text_if options.now.minimal (whole.minimal_text solved.now.tree options.now.prefix (solution_view solved.now)))) }
-{
-    let Some(name) = &options.minimal else {
-        return Ok(());
-    };
-    let bytes = minimal_text(alloc, solved, &options.prefix)?;
-    texts.push(Text {
-        name: name.as_str(),
-        bytes,
-    })?;
-    Ok(())
-}
-
-// The text of the list of new symbols, with their definitions from these sources, if there are any.
+// The list of new symbols, with their definitions from these files, if there are any.
 fn new_by(
     alloc: Global,
     options: &Options,
-    sources: Option<&TreeSources>,
+    files: Option<&FileMap>,
     solved: &Solved<'_>,
 ) -> Result<Vec<u8>, AllocError>
-    ensures { IfOk result (λ text. text.items ≡ new_by sources.entry solved.now.tree options.now.prefix (solution_view solved.now)) }
+    ensures { IfOk result (λ text. text.items ≡ new_by files.entry options.now.prefix solved.now) }
 {
-    match sources {
-        Some(sources) => {
-            let lines = Lines::of(alloc, &sources.entries)?;
-            new_text_with_help(alloc, &sources.files, &lines, solved, &options.prefix)
+    match files {
+        Some(files) => {
+            let layout = solved.tree().layout();
+            new_text_with_help(alloc, files, layout, solved, &options.prefix)
         }
         None => list_of_new(alloc, solved, &options.prefix),
     }
 }
 
-// The text of the list of new symbols, with their definitions if help is wanted.
+// The list of new symbols, with their definitions if help is wanted.
 fn new_symbols(
     alloc: Global,
     options: &Options,
-    sources: Option<&TreeSources>,
+    files: Option<&FileMap>,
     solved: &Solved<'_>,
 ) -> Result<Vec<u8>, AllocError>
-    ensures { IfOk result (λ text. text.items ≡ new_from options.now sources.entry solved.now) }
+    ensures { IfOk result (λ text. text.items ≡ new_from options.now files.entry solved.now) }
 {
-    let wanted = sources_if(options.with_help, sources);
-    new_by(alloc, options, wanted, solved)
+    if options.with_help {
+        new_by(alloc, options, files, solved)
+    } else {
+        list_of_new(alloc, solved, &options.prefix)
+    }
 }
 
-// Adds the text of the list of new symbols, if it is wanted.
-fn add_new<'o>(
+// The dependency file that lists these names.
+fn rule_by(alloc: Global, options: &Options, names: &Option<Names>) -> Result<Vec<u8>, AllocError>
+    ensures { IfOk result (λ text. text.items ≡ rule_by options.now names.now) }
+{
+    match names {
+        Some(names) => rule_text(alloc, target(options).as_bytes(), names),
+        None => Ok(Vec::new(alloc)),
+    }
+}
+
+// What the texts are made of: the files of the tree, if kept, the names in the dependency file, the user's input and its
+// solution.
+#[derive(Clone, Copy)]
+struct Basis<'b, 'i, 's> {
+    files: Option<&'b FileMap>,
+    names: &'b Option<Names>,
+    input: &'b UserInput<'i>,
+    solved: &'b Solved<'s>,
+}
+
+// The text of an output of this kind.
+fn text_of(
     alloc: Global,
-    options: &'o Options,
-    sources: Option<&TreeSources>,
-    solved: &Solved<'_>,
-    texts: &mut Vec<Text<'o>>,
-) -> Result<(), AllocError>
-    ensures { OnOk result (map text_view texts.new.items ≡ map text_view texts.old.items
-        ++ text_at options.now.list_new (text_if options.now.list_new (new_from options.now sources.entry solved.now))) }
+    options: &Options,
+    basis: &Basis<'_, '_, '_>,
+    kind: Output,
+) -> Result<Vec<u8>, AllocError>
+    ensures { IfOk result (λ text. text.items ≡ text_from options.now basis.now kind) }
 {
-    let Some(name) = &options.list_new else {
-        return Ok(());
-    };
-    let bytes = new_symbols(alloc, options, sources, solved)?;
-    texts.push(Text {
-        name: name.as_str(),
-        bytes,
-    })?;
-    Ok(())
+    let solved = basis.solved;
+    match kind {
+        Output::Config => config_text(alloc, solved, &options.prefix),
+        Output::Header => header_text(alloc, solved, &options.prefix),
+        Output::Minimal => minimal_text(alloc, solved, &options.prefix),
+        Output::NewSymbols => new_symbols(alloc, options, basis.files, solved),
+        Output::GoneLines => basis.input.gone_text(alloc),
+        Output::DependencyFile => rule_by(alloc, options, basis.names),
+        Output::Explanation => explained_text(alloc, options, basis.input, solved),
+    }
 }
 
-// Adds the text of the list of input lines that name no symbol, if it is wanted.
-fn add_gone<'o>(
-    alloc: Global,
-    options: &'o Options,
-    input: &UserInput<'_>,
-    texts: &mut Vec<Text<'o>>,
-) -> Result<(), AllocError>
-    ensures { OnOk result (map text_view texts.new.items ≡ map text_view texts.old.items
-        ++ text_at options.now.list_gone (text_if options.now.list_gone (option_map_or (λ told. told.0 ++ told.1) input.now.gone []))) }
-{
-    let Some(name) = &options.list_gone else {
-        return Ok(());
-    };
-    let bytes = input.gone_text(alloc)?;
-    texts.push(Text {
-        name: name.as_str(),
-        bytes,
-    })?;
-    Ok(())
-}
-
-// Adds the text of the dependency file that lists these names, if it is wanted.
-fn add_rule<'o>(
-    alloc: Global,
-    options: &'o Options,
-    names: &Option<Names>,
-    texts: &mut Vec<Text<'o>>,
-) -> Result<(), AllocError>
-    ensures { OnOk result (map text_view texts.new.items ≡ map text_view texts.old.items
-        ++ text_at options.now.depfile (option_map (rules.rule_text (target options.now)) names.now)) }
-{
-    let Some(name) = &options.depfile else {
-        return Ok(());
-    };
-    let Some(names) = names else {
-        return Ok(());
-    };
-    let bytes = rule_text(alloc, target(options).as_bytes(), names)?;
-    texts.push(Text {
-        name: name.as_str(),
-        bytes,
-    })?;
-    Ok(())
-}
-
-// Adds the text of the explanations, if they are wanted.
-fn add_explanation<'o>(
-    alloc: Global,
-    options: &'o Options,
-    sources: Option<&TreeSources>,
-    input: &UserInput<'_>,
-    solved: &Solved<'_>,
-    texts: &mut Vec<Text<'o>>,
-) -> Result<(), AllocError>
-    ensures { OnOk result (map text_view texts.new.items ≡ map text_view texts.old.items
-        ++ text_at options.now.explanation (explained_by sources.entry options.now input.now solved.now)) }
-{
-    let Some(name) = &options.explanation else {
-        return Ok(());
-    };
-    let Some(sources) = sources else {
-        return Ok(());
-    };
-    let lines = Lines::of(alloc, &sources.entries)?;
-    let bytes = explained_text(alloc, options, &lines, input, solved)?;
-    texts.push(Text {
-        name: name.as_str(),
-        bytes,
-    })?;
-    Ok(())
-}
-
-// The texts of a solution for the user's input, in the order in which they are delivered.
+// The texts of the outputs, in their order.
 fn texts_of<'o>(
     alloc: Global,
     options: &'o Options,
-    sources: Option<&TreeSources>,
-    input: &UserInput<'_>,
-    solved: &Solved<'_>,
-    names: &Option<Names>,
+    basis: &Basis<'_, '_, '_>,
 ) -> Result<Vec<Text<'o>>, AllocError>
     ensures { IfOk result (λ texts. map text_view texts.items
-        ≡ texts_of options.now (files_from options.now sources.entry input.now solved.now names.now)) }
+        ≡ map (named_from options.now basis.now) options.now.outputs.items) }
 {
     let mut texts = Vec::new(alloc);
-    add_config(alloc, options, solved, &mut texts)?;
-    add_header(alloc, options, solved, &mut texts)?;
-    add_minimal(alloc, options, solved, &mut texts)?;
-    add_new(alloc, options, sources, solved, &mut texts)?;
-    add_gone(alloc, options, input, &mut texts)?;
-    add_rule(alloc, options, names, &mut texts)?;
-    add_explanation(alloc, options, sources, input, solved, &mut texts)?;
+    for wanted in &options.outputs {
+        let bytes = text_of(alloc, options, basis, wanted.kind)?;
+        texts.push(Text {
+            name: wanted.file.as_str(),
+            bytes,
+        })?;
+    }
     Ok(texts)
 }
 
@@ -495,25 +288,30 @@ pub(crate) fn compute<'o>(
     accepted: &OrderedTree<'_>,
     names: &Option<Names>,
     input: &UserInput<'_>,
-    is_warned: bool,
     waiting: &mut Vec<u8>,
 ) -> Result<Option<Vec<Text<'o>>>, AllocError>
     requires ready { IsReady accepted.now }
     requires places { ArePlacesOf accepted.now.laid.tree.now input.now.places }
-    ensures computes { (files : Files) (lines : List (Located Numbered)) → AreSources files lines options.now accepted.now.sources
-        → IfOk result (λ texts. Computes files options.now accepted.now.laid.tree.now lines names.now input.now is_warned waiting.old.items waiting.new.items
+    ensures computes { (files : Files) (opened : List (List ℕ)) → names.now ≡ names_if options.now opened
+        → AreSources files options.now accepted.now.files
+        → IfOk result (λ texts. Computes files options.now opened accepted.now.laid.tree.now input.now waiting.old.items waiting.new.items
         (option_map (λ texts. map text_view texts.items) texts)) }
     ensures lines { AreLines waiting.old.items → IfOk result (λ texts. AreLines waiting.new.items) }
 {
-    let solved = solve(alloc, &accepted.laid, accepted.order, input.user())?;
+    let solved = solve(alloc, &accepted.laid, &accepted.order, input.user())?;
     solved.is_solution();
-    let lost = lost_warnings(alloc, options, input, &solved)?;
-    let sources = accepted.sources;
-    add_value_lines(alloc, options, sources, input, &solved, &lost, waiting)?;
-    let is_warned = is_warned_by(is_warned, waiting);
+    let lost = lost_values(alloc, options, input, &solved)?;
+    add_value_lines(alloc, options, input, &solved, &lost, waiting)?;
+    let is_warned = is_warned_by(has_warnings(accepted.laid.tree), waiting);
     if is_refused(options, input, &solved, &lost, is_warned) {
         return Ok(None);
     }
-    let texts = texts_of(alloc, options, sources, input, &solved, names)?;
+    let basis = Basis {
+        files: accepted.files,
+        names,
+        input,
+        solved: &solved,
+    };
+    let texts = texts_of(alloc, options, &basis)?;
     Ok(Some(texts))
 }

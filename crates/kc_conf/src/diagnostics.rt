@@ -1,20 +1,19 @@
 //! The diagnostics of a run, except for warnings.
 
-ghost use Rattle.std.specs.Prelude.{◌≡◌, ◌++◌, [], map, IfErr, OnOk};
+ghost use Rattle.std.specs.Prelude.{◌≡◌, ◌++◌, ◌∷◌, [], map, OnOk};
 ghost use Rattle.std.specs.List.{flat_map};
 ghost use Rattle.kc_language.specs.Statements.{error_at, error_line};
-ghost use Rattle.kc_language.specs.Outcome.{run_error_text, lead, first_line, refusal_line, lines_text};
+ghost use Rattle.kc_language.specs.Statements.{run_error_text};
+ghost use Rattle.kc_outcome.specs.Outcome.{lead, first_line, refusal_line, lines_text};
 ghost use Rattle.kc_conf.specs.PartsOfOutcome.{too_long_line};
-ghost use Rattle.kc_language.specs.Outcome.{out_of_memory_line};
+ghost use Rattle.kc_language.specs.Statements.{out_of_memory_line};
 ghost use Rattle.kc_diagnostics.specs.RunErrors.{shown_run_error};
 ghost use Rattle.kc_read.specs.RefusalView.{refusal_view};
-ghost use Rattle.kc_io.specs.Log.{Leads};
-ghost use Rattle.kc_conf.specs.Reads.{IsReportOrMemory, LastEndsLine, Says, SaysIf, failure_line, stop_of};
-ghost use Rattle.kc_conf.specs.Faults.{event_of};
+ghost use Rattle.kc_conf.specs.PartRuns.{SaysLines};
+ghost use Rattle.kc_conf.specs.Reads.{LastEndsLine, Says, SaysIf, failure_line, stop_of};
 ghost use Rattle.kc_conf.specs.Endings.{Reports};
 ghost use Rattle.kc_io.specs.Log.{TriesToSay};
 
-use crate::compute::add_lines;
 use crate::reading::LongLine;
 use crate::stop::Stop;
 use itoa::Buffer;
@@ -22,7 +21,7 @@ use kc_diagnostics::{RunError, cause_parts, run_error_parts};
 use kc_io::{Action, Device, Failure, Fault};
 use kc_options::{Options, lead};
 use kc_read::refusal::Refusal;
-use std::alloc::Global;
+use std::alloc::{AllocError, Global};
 
 // Reports whole lines, all parts in one call.
 pub(crate) fn say_parts<D: Device>(device: &mut D, parts: &[&[u8]]) -> Result<(), Stop<'static>>
@@ -39,20 +38,38 @@ pub(crate) fn say_parts<D: Device>(device: &mut D, parts: &[&[u8]]) -> Result<()
     }
 }
 
-/// Reports lines, all in one call.
+// Adds a line.
+fn add_line(line: &[u8], text: &mut Vec<u8>) -> Result<(), AllocError>
+    ensures { OnOk result (text.new.items ≡ text.old.items ++ lines_text (line.now ∷ [])) }
+{
+    text.extend_from_slice(line)?;
+    text.push(b'\n')?;
+    Ok(())
+}
+
+/// Adds these lines.
+pub(crate) fn add_lines(lines: &[Vec<u8>], text: &mut Vec<u8>) -> Result<(), AllocError>
+    ensures { OnOk result (text.new.items ≡ text.old.items ++ lines_text (map (λ line. line.items) lines.now)) }
+{
+    for line in lines {
+        add_line(line, text)?;
+    }
+    Ok(())
+}
+
+/// Reports lines, if there are any, all in one call.
 pub(crate) fn say_lines<D: Device>(
     alloc: Global,
     device: &mut D,
     lines: &[Vec<u8>],
 ) -> Result<(), Stop<'static>>
-    ensures ok { OnOk result (Leads [] (lines_text (map (λ line. line.items) lines.now)) (D.log device.old) (D.log device.new)) }
-    ensures err { IfErr result (λ stop. IsReportOrMemory stop × Leads (event_of stop) [] (D.log device.old) (D.log device.new)) }
+    ensures { SaysLines (lines_text (map (λ line. line.items) lines.now)) result (D.log device.old) (D.log device.new) }
 {
     if lines.is_empty() {
         return Ok(());
     }
     let mut text = Vec::new(alloc);
-    add_lines(&[], lines, &mut text)?;
+    add_lines(lines, &mut text)?;
     say_parts(device, &[&text])
 }
 

@@ -1,5 +1,5 @@
 //! Laws of the outcomes of runs, stated as the contracts of functions that do nothing.
-ghost use Rattle.kc_conf.specs.Laws.{ExactlyOneAnswer, ExactlyOneOutcome, NothingIsLost, StrictTakesAll, DiagnosticsAreLines, MinimalIsRunAgain, OutcomesAreReadAgain, TextsAreReadAgain, DoneAreWhole};
+ghost use Rattle.kc_conf.specs.Laws.{ExactlyOneAnswer, ExactlyOneOutcome, NothingIsLost, StrictTakesAll, DiagnosticsAreLines, MinimalIsRunAgain, OutcomesAreReadAgain, TextsAreReadAgain, DoneAreWhole, ExplanationsDecide};
 ghost use Rattle.kc_conf.specs.LawSteps.{SolutionExists};
 ghost use Rattle.kc_conf.specs.LawSteps.{AcceptedHaveAnOutcome, AnswerExists, OutcomeExists, OneAnswer, OneOutcome};
 ghost use Rattle.kc_conf.specs.Many.{ExactlyOnePart, PartsAreOfRuns, EachLeavesItsPart};
@@ -7,9 +7,10 @@ ghost use Rattle.kc_conf.specs.Many.{ExactlyOnePart, PartsAreOfRuns, EachLeavesI
 use crate::many::Configurations;
 use kc_build::laws::{one_tree, trees_are_well_formed};
 use kc_config_file::laws::{
-    config_is_idempotent, config_is_of_values, lines_give_in_turn, minimal_gives_back,
-    reading_leaves_allowed_places, written_texts_are_short,
+    config_is_idempotent, config_is_of_values, minimal_gives_back, written_texts_are_short,
 };
+use kc_explain::laws::words_decide;
+use kc_input::laws::{lines_give_in_turn, reading_leaves_allowed_places};
 use kc_order::{one_named_loop, unordered_have_a_loop};
 use kc_read::laws::{has_one_expansion, opened_are_one_list};
 use kc_values::laws::{
@@ -46,7 +47,7 @@ pub fn diagnostics_are_lines()
 {}
 
 /// With `warn_lost`, if the status is `Done`, no line of the input files is lost silently. Each line is of one of three
-/// kinds. It is a comment or an empty line. Or it has a warning (K7 to K9, K16), which is a line of the diagnostics. Or
+/// kinds. It is a comment or an empty line. Or it has a warning, which is a line of the diagnostics. Or
 /// it gives a symbol a value, and one of three things holds. First: it is the symbol's value, as in the text of the
 /// written `.config`. Second: a line of the diagnostics reports that it is not, with the location of this line, and
 /// says if the symbol has no prompt (K14). Third: the next line that gives the symbol a value is reported to set it
@@ -110,6 +111,15 @@ pub fn minimal_is_run_again()
     done_are_whole();
     texts_are_read_again();
     config_is_of_values();
+}
+
+/// What an explanation prints decides the value. Take two runs over one tree that refuse nothing, with any options and
+/// input files. Both write strings raw, or both escaped. If the lines about a symbol in its explanation are the same,
+/// without its first line, the menus and the locations in input files, the symbol has the same value. (Our own.)
+pub fn explanations_decide()
+    ensures { ExplanationsDecide }
+{
+    words_decide();
 }
 
 /// There is an outcome for any files, options and input files: a root file has an accepted tree or a refusal (such as a

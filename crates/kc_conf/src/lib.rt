@@ -3,28 +3,35 @@
 //!
 //! - [`run`]: one run. [`run_each`]: many [`Configurations`] of one tree. [`run_in_folder`]: one run that loads its
 //!   files.
+//! - [`list_dead`] and [`list_dead_in_folder`]: the prompts that no input makes visible.
 //! - [`AcceptedTree`]: a tree without errors.
 //! - [`Stop`]: why a run stopped early. [`say_load_fault`] reports why files could not be loaded.
 //! - [`laws`]: laws of the outcomes of runs.
 //!
-//! From the crates below: [`Options`], [`Delivery`], [`Status`], [`FileMap`], [`Refusal`], [`Cause`].
+//! From the crates below: [`Options`], [`Output`], [`WantedOutput`], [`Delivery`], [`Status`], [`FileMap`], [`Refusal`], [`Cause`].
 
 mod accepted;
+mod causes;
 mod compute;
+mod dead;
 mod diagnostics;
 mod explained;
 mod folder_run;
+mod groups;
 pub mod laws;
 mod lost;
+mod lost_text;
 mod many;
 mod names;
+mod new_symbols;
 mod reading;
 mod runs;
 mod stop;
 
 pub use accepted::AcceptedTree;
+pub use dead::{list_dead, list_dead_in_folder};
 pub use folder_run::{run_in_folder, say_load_fault};
-pub use kc_options::{Delivery, Options, Status};
+pub use kc_options::{Delivery, Options, Output, Status, WantedOutput};
 pub use kc_read::{Cause, FileMap, Refusal};
 pub use many::{Configurations, run_each};
 pub use runs::run;

@@ -1,30 +1,29 @@
 //! Lost values: user values that are not the values of their symbols.
-ghost use Rattle.std.specs.Prelude.{◌≡◌, ◌++◌, ◌<◌, if◌then◌else◌, length, map, IfOk, OnOk, option_map};
-ghost use Rattle.kc_language.specs.Symbols.{located_warning};
+ghost use Rattle.std.specs.Prelude.{◌≡◌, ◌++◌, ◌<◌, if◌then◌else◌, length, map, flat_map, slice_get, Some, IfOk, OnOk, option_map};
+ghost use Rattle.kc_language.specs.Symbols.{listed, located_warning};
 ghost use Rattle.kc_language.specs.declared.diagnostics.Warning.TheVariants.{Lost, LostWithoutPrompt};
 ghost use Rattle.kc_diagnostics.specs.Warnings.{shown_warning};
 ghost use Rattle.kc_expr.specs.Value.{value_by_type};
 ghost use Rattle.kc_language.specs.Texts.{known};
 ghost use Rattle.std.specs.Option.{option_and_then};
-ghost use Rattle.kc_tree.specs.Layouts.{definition_at, facts_of};
+ghost use Rattle.kc_tree.specs.Layouts.{facts_of};
 ghost use Rattle.kc_language.specs.Values.{SymbolPlace, given_of, name_count};
 ghost use Rattle.kc_language.specs.ConfigFile.{place_at};
 ghost use Rattle.kc_values.specs.User.{given_in};
-ghost use Rattle.kc_config_file.specs.ShownView.{given_by, location_of};
+ghost use Rattle.kc_input.specs.ShownView.{given_by, location_of};
 ghost use Rattle.kc_language.specs.Texts as spec;
 ghost use Rattle.kc_conf.specs.PartsOfTexts as spec_parts;
-ghost use Rattle.kc_conf.specs.LostView.{is_prompted};
-ghost use Rattle.kc_language.specs.Outcome.{lost_warnings};
+ghost use Rattle.kc_conf.specs.Lost.{lost_pairs, lost_values, lost_view};
 
-use kc_config_file::shown::{InputLine, ShownValue, add_value, is_same, shown_given};
-use kc_config_file::user_input::UserInput;
 use kc_diagnostics::{Warning, add_located};
 use kc_expr::expression::{SymId, SymbolType, Tri};
 use kc_expr::values::Values;
+use kc_input::shown::{InputLine, ShownValue, add_value, is_same, shown_given};
+use kc_input::user_input::UserInput;
 use kc_options::Options;
 use kc_solve::solved::Solved;
 use kc_tree::layout::Layout;
-use kc_tree::rows::{DefinitionId, Symbol};
+use kc_tree::rows::Symbol;
 use kc_user::user::User;
 use kc_user::value::UserValue;
 use kc_values::laws::rows_tell_facts;
@@ -75,87 +74,71 @@ fn line_of(alloc: Global, at: InputLine<'_>, warning: Warning<&[u8]>) -> Result<
     Ok(line)
 }
 
+// A symbol whose value is told: its name, its type, whether it has a prompt, and whether strings have no escapes.
+#[derive(Clone, Copy)]
+struct ToldSymbol<'n> {
+    name: &'n [u8],
+    symbol_type: SymbolType,
+    is_prompted: bool,
+    is_raw: bool,
+}
+
 // The line of a lost value.
 fn lost_line(
     alloc: Global,
-    is_raw: bool,
-    is_prompted: bool,
+    symbol: &ToldSymbol<'_>,
     at: InputLine<'_>,
-    name: &[u8],
-    symbol_type: SymbolType,
     given: ShownValue<'_>,
     value: ShownValue<'_>,
 ) -> Result<Vec<u8>, AllocError>
-    ensures { IfOk result (λ line. line.items ≡ spec_parts.lost_line is_raw is_prompted (location_of at.entry) name.now symbol_type (given_by given.entry) (given_by value.entry)) }
+    ensures { let s = symbol.now in
+        IfOk result (λ line. line.items ≡ spec_parts.lost_line s.is_raw s.is_prompted (location_of at.entry) s.name.now s.symbol_type (given_by given.entry) (given_by value.entry)) }
 {
     let mut given_text = Vec::new(alloc);
-    add_value(is_raw, symbol_type, given, &mut given_text)?;
+    add_value(symbol.is_raw, symbol.symbol_type, given, &mut given_text)?;
     let mut value_text = Vec::new(alloc);
-    add_value(is_raw, symbol_type, value, &mut value_text)?;
-    let warning = lost_warning(is_prompted, name, &given_text, &value_text);
+    add_value(symbol.is_raw, symbol.symbol_type, value, &mut value_text)?;
+    let warning = lost_warning(symbol.is_prompted, symbol.name, &given_text, &value_text);
     line_of(alloc, at, warning)
 }
 
-// Adds the line of a symbol's lost value, if it was lost.
+// The line of a symbol's lost value, if it was lost.
 fn lost_by(
     alloc: Global,
-    is_raw: bool,
-    is_prompted: bool,
-    name: &[u8],
-    symbol_type: SymbolType,
+    symbol: &ToldSymbol<'_>,
     at: Option<InputLine<'_>>,
     given: Option<&UserValue>,
     value: ShownValue<'_>,
-    lines: &mut Vec<Vec<u8>>,
-) -> Result<(), AllocError>
-    ensures { OnOk result (map (λ l. l.items) lines.new.items ≡ map (λ l. l.items) lines.old.items
-        ++ spec.lost_by is_raw is_prompted name.now symbol_type (option_map location_of at.entry) (given_in given.entry) (given_by value.entry)) }
+) -> Result<Option<Vec<u8>>, AllocError>
+    ensures { let s = symbol.now in IfOk result (λ line. map (λ l. l.items) (listed line)
+        ≡ spec.lost_by s.is_raw s.is_prompted s.name.now s.symbol_type (option_map location_of at.entry) (given_in given.entry) (given_by value.entry)) }
 {
     let Some(given) = given else {
-        return Ok(());
+        return Ok(None);
     };
     let Some(at) = at else {
-        return Ok(());
+        return Ok(None);
     };
     let given = shown_given(given);
     if is_same(given, value) {
-        return Ok(());
+        return Ok(None);
     }
-    let line = lost_line(
-        alloc,
-        is_raw,
-        is_prompted,
-        at,
-        name,
-        symbol_type,
-        given,
-        value,
-    )?;
-    lines.push(line)?;
-    Ok(())
-}
-
-// Whether a definition has a prompt.
-fn is_prompted(layout: &Layout, id: Option<DefinitionId>) -> bool
-    ensures { result ≡ is_prompted (option_and_then (definition_at layout.now.tables) id) }
-{
-    match id {
-        Some(id) => match layout.definition(id) {
-            Some(definition) => definition.prompt.is_some(),
-            None => false,
-        },
-        None => false,
-    }
+    let line = lost_line(alloc, symbol, at, given, value)?;
+    Ok(Some(line))
 }
 
 // Whether a symbol has a prompt.
-fn has_prompt(layout: &Layout, symbol: &Symbol) -> bool
-    ensures { result ≡ spec.has_prompt (facts_of layout.now 0 symbol.now).prompts }
+fn has_prompt(layout: &Layout, id: SymId, symbol: &Symbol) -> bool
+    requires { slice_get layout.now.symbols.items id.0 ≡ Some symbol.now }
+    ensures { result ≡ spec.has_prompt (facts_of layout.now id.0 symbol.now).prompts }
 {
-    for i in 0..symbol.definition_count() {
-        if is_prompted(layout, symbol.definition(i)) {
+    let mut at = symbol.first;
+    'definitions: while at.is_some() {
+        let place = layout.place(at);
+        if place.prompt.is_some() {
             return true;
         }
+        at = place.next;
     }
     false
 }
@@ -168,71 +151,93 @@ fn given_at<'a>(user: &'a User, id: SymId) -> Option<&'a UserValue>
     user.get(id)
 }
 
-/// Adds the line of the lost value of this symbol, if it was lost. With `is_raw` strings have no escapes.
-pub(crate) fn lost_into(
+// The line of the lost value of this symbol, if it was lost. With `is_raw` strings have no escapes.
+fn lost_at(
     alloc: Global,
     is_raw: bool,
     input: &UserInput<'_>,
     solved: &Solved<'_>,
     id: SymId,
-    lines: &mut Vec<Vec<u8>>,
-) -> Result<(), AllocError>
+) -> Result<Option<Vec<u8>>, AllocError>
     requires { id.0 < name_count solved.now.tree }
-    ensures { OnOk result (map (λ l. l.items) lines.new.items ≡ map (λ l. l.items) lines.old.items ++ spec.lost_at is_raw input.now.lines solved.now id) }
+    ensures { IfOk result (λ line. map (λ l. l.items) (listed line) ≡ spec.lost_at is_raw input.now.lines solved.now id) }
 {
     solved.is_solution();
     rows_tell_facts();
     let tree = solved.tree();
     let layout = tree.layout();
     let Some(symbol) = layout.symbol(id) else {
-        return Ok(());
+        return Ok(None);
     };
-    let is_prompted = has_prompt(layout, symbol);
+    let told = ToldSymbol {
+        name: name(tree, id),
+        symbol_type: symbol.symbol_type,
+        is_prompted: has_prompt(layout, id, symbol),
+        is_raw,
+    };
     let at = input.line(id);
     let given = given_at(solved.user(), id);
     let value = shown_value(solved, id);
-    lost_by(
-        alloc,
-        is_raw,
-        is_prompted,
-        name(tree, id),
-        symbol.symbol_type,
-        at,
-        given,
-        value,
-        lines,
-    )
+    lost_by(alloc, &told, at, given, value)
 }
 
-// The lines of all defined symbols.
-fn lost_lines(
+/// A lost value: its symbol, and the line that warns of it, without its line end.
+#[derive(Drop)]
+pub(crate) struct LostValue {
+    pub symbol: SymId,
+    pub line: Vec<u8>,
+}
+
+// Adds the lost value of this symbol, if it was lost.
+fn add_lost_at(
     alloc: Global,
     is_raw: bool,
     input: &UserInput<'_>,
     solved: &Solved<'_>,
-) -> Result<Vec<Vec<u8>>, AllocError>
-    ensures { IfOk result (λ lines. map (λ l. l.items) lines.items ≡ spec.lost_lines is_raw input.now.lines solved.now) }
+    id: SymId,
+    lost: &mut Vec<LostValue>,
+) -> Result<(), AllocError>
+    requires { id.0 < name_count solved.now.tree }
+    ensures { OnOk result (map lost_view lost.new.items ≡ map lost_view lost.old.items ++ lost_pairs is_raw input.now.lines solved.now id) }
 {
-    let mut lines = Vec::new(alloc);
-    let tree = solved.tree();
-    for i in 0..tree.symbol_count() {
-        lost_into(alloc, is_raw, input, solved, tree.symbol(i), &mut lines)?;
+    match lost_at(alloc, is_raw, input, solved, id)? {
+        None => Ok(()),
+        Some(line) => {
+            lost.push(LostValue { symbol: id, line })?;
+            Ok(())
+        }
     }
-    Ok(lines)
 }
 
-/// Returns the lines of lost values, if they are wanted: whole lines without their line end, in the order of first
-/// definitions, each with the location of the line that gave the value. Fails only if there is not enough memory.
-pub(crate) fn lost_warnings(
+// The lost values of all defined symbols.
+fn all_lost(
+    alloc: Global,
+    is_raw: bool,
+    input: &UserInput<'_>,
+    solved: &Solved<'_>,
+) -> Result<Vec<LostValue>, AllocError>
+    ensures { IfOk result (λ lost. map lost_view lost.items ≡ flat_map (lost_pairs is_raw input.now.lines solved.now) solved.now.tree.defined) }
+{
+    let mut lost = Vec::new(alloc);
+    let tree = solved.tree();
+    for i in 0..tree.symbol_count() {
+        add_lost_at(alloc, is_raw, input, solved, tree.symbol(i), &mut lost)?;
+    }
+    Ok(lost)
+}
+
+/// Returns the lost values, if they are wanted, in the order of first definitions. Each line has the location of the line that
+/// gave the value. Fails only if there is not enough memory.
+pub(crate) fn lost_values(
     alloc: Global,
     options: &Options,
     input: &UserInput<'_>,
     solved: &Solved<'_>,
-) -> Result<Vec<Vec<u8>>, AllocError>
-    ensures { IfOk result (λ lines. map (λ l. l.items) lines.items ≡ lost_warnings options.now input.now solved.now) }
+) -> Result<Vec<LostValue>, AllocError>
+    ensures { IfOk result (λ lost. map lost_view lost.items ≡ lost_values options.now input.now solved.now) }
 {
     if options.warn_lost {
-        lost_lines(alloc, options.prefix.is_raw(), input, solved)
+        all_lost(alloc, options.prefix.is_raw(), input, solved)
     } else {
         Ok(Vec::new(alloc))
     }

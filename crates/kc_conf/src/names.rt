@@ -1,10 +1,12 @@
 //! Refused names: names in the dependency file, and names to be explained.
-ghost use Rattle.std.specs.Prelude.{◌≡◌, ◌++◌, ℕ, List, [], option_map, IfOk};
-ghost use Rattle.kc_language.specs.Outcome.{lead, names_listed, unknown_name, unreadable_name};
-ghost use Rattle.kc_language.specs.declared.outcome.Status.TheVariants.{Refused};
-ghost use Rattle.kc_conf.specs.Endings.{Ends};
-ghost use Rattle.kc_conf.specs.PartsOfOutcome.{name_refusal, unknown_line, unreadable_line};
-ghost use Rattle.kc_conf.specs.RefusedNames.{refused_line, unknown_near};
+ghost use Rattle.std.specs.Prelude.{◌≡◌, ◌++◌, ℕ, List, option_map, IfOk};
+ghost use Rattle.kc_diagnostics.specs.RunErrors.{shown_run_error};
+ghost use Rattle.kc_outcome.specs.Outcome.{lead, unknown_name, unreadable_name};
+ghost use Rattle.kc_language.specs.Statements.{run_error_text};
+ghost use Rattle.kc_language.specs.Statements.{error_line};
+ghost use Rattle.kc_conf.specs.Endings.{Refuses};
+ghost use Rattle.kc_conf.specs.PartsOfOutcome.{name_refusal, names_if, unknown_line};
+ghost use Rattle.kc_conf.specs.RefusedNames.{refused_line};
 
 use crate::diagnostics::{first_line, say_error};
 use crate::stop::Stop;
@@ -27,8 +29,9 @@ pub(crate) enum RefusedName<'n> {
 }
 
 // The first name in the dependency file that make cannot read.
+#[tactic(auto, using(crate::proofs::RefusedNames::unread_is))]
 fn unreadable_among<'n>(options: &'n Options, names: &'n Option<Names>) -> Option<&'n [u8]>
-    ensures { (opened : List (List ℕ)) → names.now ≡ names_listed options.now opened → option_map (λ name. name.now) result ≡ unreadable_name options.now opened }
+    ensures { (opened : List (List ℕ)) → names.now ≡ names_if options.now opened → option_map (λ name. name.now) result ≡ unreadable_name options.now opened }
 {
     match names {
         Some(names) => unreadable_name(target(options).as_bytes(), names),
@@ -71,7 +74,7 @@ pub(crate) fn refused_among<'n>(
     names: &'n Option<Names>,
     tree: &Tree,
 ) -> Result<Option<RefusedName<'n>>, AllocError>
-    ensures { IfOk result (λ refused. (opened : List (List ℕ)) → names.now ≡ names_listed options.now opened →
+    ensures { IfOk result (λ refused. (opened : List (List ℕ)) → names.now ≡ names_if options.now opened →
         option_map refused_line refused ≡ name_refusal options.now opened tree.now) }
 {
     match unreadable_among(options, names) {
@@ -80,36 +83,13 @@ pub(crate) fn refused_among<'n>(
     }
 }
 
-// Refuses a name that make cannot read.
-fn refuse_unreadable<D: Device>(
-    options: &Options,
-    name: &[u8],
-    device: &mut D,
-) -> Result<Status, Stop<'static>>
-    ensures { Ends options.now [] (lead options.now ++ unreadable_line name.now) [] Status.Refused result (D.log device.old) (D.log device.new) }
+// The error of a refused name.
+fn error_of<'a>(name: &'a RefusedName<'_>) -> RunError<&'a [u8]>
+    ensures { error_line (run_error_text (shown_run_error result)) ≡ refused_line name.now }
 {
-    match say_error(device, options, RunError::UnreadableName(first_line(name))) {
-        Ok(()) => Ok(Status::Refused),
-        Err(stop) => Err(stop),
-    }
-}
-
-// Refuses a name that no symbol has.
-fn refuse_unknown<D: Device>(
-    options: &Options,
-    name: &[u8],
-    near: &[u8],
-    device: &mut D,
-) -> Result<Status, Stop<'static>>
-    ensures { Ends options.now [] (lead options.now ++ unknown_near name.now near.now) [] Status.Refused result (D.log device.old) (D.log device.new) }
-{
-    match say_error(
-        device,
-        options,
-        RunError::UnknownName(first_line(name), near),
-    ) {
-        Ok(()) => Ok(Status::Refused),
-        Err(stop) => Err(stop),
+    match name {
+        RefusedName::Unreadable(name) => RunError::UnreadableName(first_line(name)),
+        RefusedName::Unknown(name, near) => RunError::UnknownName(first_line(name), near),
     }
 }
 
@@ -119,10 +99,10 @@ pub(crate) fn refuse_name<D: Device>(
     name: &RefusedName<'_>,
     device: &mut D,
 ) -> Result<Status, Stop<'static>>
-    ensures { Ends options.now [] (lead options.now ++ refused_line name.now) [] Status.Refused result (D.log device.old) (D.log device.new) }
+    ensures { Refuses (lead options.now ++ refused_line name.now) result (D.log device.old) (D.log device.new) }
 {
-    match name {
-        RefusedName::Unreadable(name) => refuse_unreadable(options, name, device),
-        RefusedName::Unknown(name, near) => refuse_unknown(options, name, near, device),
+    match say_error(device, options, error_of(name)) {
+        Ok(()) => Ok(Status::Refused),
+        Err(stop) => Err(stop),
     }
 }

@@ -1,21 +1,22 @@
 //! Reads the input files, in chunks of any size.
 
 ghost use Rattle.std.specs.Prelude.{◌≡◌, ◌≤◌, ◌++◌, [], false, true, length, map, None, IfErr, IfOk, OnOk, option_map};
-ghost use Rattle.kc_io.specs.Log.{Leads, ReadsOn, reading, is_whole_lines};
+ghost use Rattle.kc_io.specs.Log.{Leads, ReadsOn, reading};
+ghost use Rattle.kc_language.specs.Lines.{is_whole_lines};
 ghost use Rattle.kc_language.specs.ConfigFile.{ArePlacesOf};
-ghost use Rattle.kc_config_file.specs.Feeding.{stream_start};
-ghost use Rattle.kc_language.specs.Outcome.{lead, input_names};
+ghost use Rattle.kc_input.specs.Feeding.{stream_start};
+ghost use Rattle.kc_outcome.specs.Outcome.{lead, input_names};
 ghost use Rattle.kc_options.specs.PartsOfOutcome.{holds_warnings};
-ghost use Rattle.kc_language.specs.Outcome.{fresh_input};
+ghost use Rattle.kc_outcome.specs.Outcome.{fresh_input};
 ghost use Rattle.kc_conf.specs.Reads.{BreaksInputs, ReadsInputs, stop_of};
 ghost use Rattle.kc_conf.specs.ReadSteps.{BreaksEnd, BreaksFile, BreaksOpened, BreaksPiece, EndsFile, FailsAt, IsReadyToRead, Opens, ReadsFile, ReadsOpened, SaysWaiting, TakesPiece, stand};
 
 use crate::stop::Stop;
-use kc_config_file::fault::InputFault;
-use kc_config_file::laws::{lines_are_cut, reading_goes_line_by_line};
-use kc_config_file::prefix::Prefix;
-use kc_config_file::reader::InputReader;
-use kc_config_file::user_input::UserInput;
+use kc_input::fault::InputFault;
+use kc_input::laws::{lines_are_cut, reading_goes_line_by_line};
+use kc_input::prefix::Prefix;
+use kc_input::reader::InputReader;
+use kc_input::user_input::UserInput;
 use kc_io::{Action, Device, Failure};
 use kc_options::{Options, input_file, lead, may_be_missing};
 use kc_tree::tree::Tree;
@@ -231,28 +232,37 @@ pub(crate) fn stream_names(alloc: Global, options: &Options) -> Result<Vec<Vec<u
     Ok(names)
 }
 
+/// What input files are read by: their names in diagnostics, the tree, and the notation of names and strings.
+#[derive(Clone, Copy)]
+pub(crate) struct Streams<'a> {
+    pub names: &'a [Vec<u8>],
+    pub tree: &'a Tree,
+    pub prefix: &'a Prefix,
+}
+
 /// Reads the input files one after another, each with a reader of its own, to the end of the last or to a line that is
 /// too long. The caller passes the input before all of them.
 pub(crate) fn read_inputs<'o, 'a, D: Device>(
     alloc: Global,
     options: &'o Options,
-    prefix: &'a Prefix,
-    names: &'a [Vec<u8>],
-    tree: &'a Tree,
+    streams: Streams<'a>,
     device: &mut D,
     user: &mut UserInput<'a>,
     waiting: &mut Waiting,
 ) -> Result<Option<LongLine<'a>>, Stop<'o>>
-    requires prefix { prefix.now ≡ options.now.prefix }
-    requires names { map (λ name. name.items) names.now ≡ input_names options.now }
-    requires user { user.old ≡ fresh_input options.now tree.now }
-    requires waiting { (waiting.old.text.items ≡ []) × (waiting.old.holds ≡ holds_warnings options.now) }
-    ensures ok { IfOk result (λ long. ReadsInputs options.now tree.now (option_map stop_of long) user.old user.new waiting.new (D.log device.old) (D.log device.new)) }
-    ensures err { IfErr result (λ stop. BreaksInputs options.now tree.now stop user.old (D.log device.old) (D.log device.new)) }
-    ensures holds { waiting.new.holds ≡ waiting.old.holds }
-    ensures places { ArePlacesOf tree.now user.new.places }
+    requires prefix { streams.prefix.now ≡ options.now.prefix }
+    requires names { map (λ name. name.items) streams.names.now ≡ input_names options.now }
+    requires fresh { (user.old ≡ fresh_input options.now streams.tree.now) × (waiting.old.text.items ≡ []) × (waiting.old.holds ≡ holds_warnings options.now) }
+    ensures ok { IfOk result (λ long. ReadsInputs options.now streams.entry.tree.now (option_map stop_of long) user.old user.new waiting.new (D.log device.old) (D.log device.new)) }
+    ensures err { IfErr result (λ stop. BreaksInputs options.now streams.entry.tree.now stop user.old (D.log device.old) (D.log device.new)) }
+    ensures kept { (waiting.new.holds ≡ waiting.old.holds) × ArePlacesOf streams.entry.tree.now user.new.places }
 {
     reading_goes_line_by_line();
+    let Streams {
+        names,
+        tree,
+        prefix,
+    } = streams;
     for i in 0..names.len() {
         let stream = names[i].as_slice();
         let mut reader = InputReader::new(alloc, tree, prefix, stream);

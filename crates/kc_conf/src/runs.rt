@@ -1,37 +1,35 @@
 //! One run: it accepts the tree, reads the input files, computes the texts and delivers them.
 ghost use Rattle.kc_read.specs.Files.{files_in};
-ghost use Rattle.std.specs.Prelude.{◌≡◌, ◌≢◌, ◌++◌, ℕ, List, [], map, option_map, Err, IfOk};
+ghost use Rattle.std.specs.Prelude.{◌≡◌, ◌++◌, ℕ, List, [], map, option_map, None, IfOk};
 ghost use Rattle.kc_language.specs.Expansion.{Files};
-ghost use Rattle.kc_read.specs.RefusalView.{refusal_view};
-ghost use Rattle.kc_language.specs.declared.diagnostics.Cause.TheVariants.{Memory};
+ghost use Rattle.kc_language.specs.Symbols.{TreeFacts};
 ghost use Rattle.kc_io.specs.Delivered.{text_view};
-ghost use Rattle.kc_conf.specs.Accepted.{IsAcceptedOf, IsReadOf, IsReady};
-ghost use Rattle.kc_language.specs.Outcome.{Options, fresh_input, lead, refusal_line, root_file, is_not_empty, lines_text, names_listed};
-ghost use Rattle.kc_conf.specs.PartsOfOutcome.{too_long_line};
-ghost use Rattle.kc_conf.specs.Faults.{AreLines};
-ghost use Rattle.kc_conf.specs.PartsOfOutcome.{strict_line};
-ghost use Rattle.kc_conf.specs.Faults.{Runs, refused_name_of};
-ghost use Rattle.kc_options.specs.PartsOfOutcome.{wants_sources};
-ghost use Rattle.kc_conf.specs.Endings.{Answers, Ends, HandsBy, SaysAll, line_if, status_if, texts_or};
-ghost use Rattle.kc_conf.specs.PartRuns.{LeavesPart, LeavesRun, SaysLines};
+ghost use Rattle.kc_io.specs.Log.{Leads, Log};
+ghost use Rattle.kc_conf.specs.Accepted.{IsReady};
+ghost use Rattle.kc_outcome.specs.Outcome.{IsOutcome, Options, fresh_input, lead, lines_text};
+ghost use Rattle.kc_conf.specs.PartsOfOutcome.{names_if, strict_line, too_long_line};
+ghost use Rattle.kc_conf.specs.Faults.{AreLines, Runs, refused_name_of};
+ghost use Rattle.kc_conf.specs.PartsOfFaults.{said_of_tree};
+ghost use Rattle.kc_conf.specs.Many.{ends_all};
+ghost use Rattle.kc_conf.specs.Endings.{Answers, Ends, Finishes, HandsBy, Refuses, RefusesTree, SaysAll, line_if, status_if, texts_or};
+ghost use Rattle.kc_conf.specs.PartRuns.{IsLeft, Leaves, TellsRest};
 ghost use Rattle.kc_conf.specs.Reads.{stop_of};
 
-use crate::accepted::{AcceptedTree, OrderedTree, TreeReading, borrowed, read_tree};
-use crate::compute::{compute, names_listed};
+use crate::accepted::{AcceptedTree, OrderedTree, read_tree};
+use crate::compute::{compute, names_if};
 use crate::diagnostics::{report, say_error, say_lines, say_long_line, say_parts, say_refusal};
 use crate::laws::{exactly_one_outcome, one_answer};
 use crate::names::{refuse_name, refused_among};
-use crate::reading::{LongLine, Waiting, read_inputs, stream_names};
+use crate::reading::{LongLine, Streams, Waiting, read_inputs, stream_names};
 use crate::stop::Stop;
-use kc_config_file::user_input::UserInput;
 use kc_diagnostics::{Cause, RunError};
 use kc_expr::names::Names;
-use kc_io::{Device, Manner, Text, deliver};
-use kc_options::{Delivery, Options, Status, holds_warnings, lead, wants_sources};
+use kc_input::user_input::UserInput;
+use kc_io::{Action, Device, Fault, Manner, Text, deliver};
+use kc_options::{Delivery, Options, Output, Status, holds_warnings, lead, wants, wants_sources};
 use kc_read::file_map::FileMap;
 use kc_read::laws::opened_are_one_list;
 use kc_read::refusal::Refusal;
-use kc_solve::evaluation_order::EvaluationOrder;
 use kc_tree::tree::Tree;
 use std::alloc::{AllocError, Global};
 
@@ -44,7 +42,7 @@ fn check<D: Device>(
     device: &mut D,
 ) -> Result<Status, Stop<'static>>
     requires { options.now.delivery ≡ Delivery.Check }
-    ensures { Ends options.now [] [] (map text_view texts.now) Status.Done result (D.log device.old) (D.log device.new) }
+    ensures { Ends options.now [] (map text_view texts.now) Status.Done result (D.log device.old) (D.log device.new) }
 {
     let mut status = Status::Done;
     for text in texts {
@@ -82,7 +80,7 @@ fn hand_out_by<'o, D: Device>(
     texts: Vec<Text<'o>>,
     device: &mut D,
 ) -> Result<Status, Stop<'o>>
-    ensures { Ends options.now [] [] (map text_view texts.entry.items) Status.Done result (D.log device.old) (D.log device.new) }
+    ensures { Ends options.now [] (map text_view texts.entry.items) Status.Done result (D.log device.old) (D.log device.new) }
 {
     match options.delivery {
         Delivery::Write => hand_out(Manner::InPlace, texts, device),
@@ -95,7 +93,7 @@ fn hand_out_by<'o, D: Device>(
 
 // Refuses warnings.
 fn refuse_warnings<D: Device>(options: &Options, device: &mut D) -> Result<Status, Stop<'static>>
-    ensures { Ends options.now [] (lead options.now ++ strict_line) [] Status.Refused result (D.log device.old) (D.log device.new) }
+    ensures { Refuses (lead options.now ++ strict_line) result (D.log device.old) (D.log device.new) }
 {
     match say_error(device, options, RunError::WarningsRefused) {
         Ok(()) => Ok(Status::Refused),
@@ -105,7 +103,7 @@ fn refuse_warnings<D: Device>(options: &Options, device: &mut D) -> Result<Statu
 
 // Refuses a line that is too long.
 fn refuse_line<D: Device>(long: LongLine<'_>, device: &mut D) -> Result<Status, Stop<'static>>
-    ensures { (options : Options) → Ends options [] (too_long_line (stop_of long.entry)) [] Status.Refused result (D.log device.old) (D.log device.new) }
+    ensures { Refuses (too_long_line (stop_of long.entry)) result (D.log device.old) (D.log device.new) }
 {
     match say_long_line(device, &long) {
         Ok(()) => Ok(Status::Refused),
@@ -113,10 +111,9 @@ fn refuse_line<D: Device>(long: LongLine<'_>, device: &mut D) -> Result<Status, 
     }
 }
 
-// Reports why no tree is accepted.
-fn refuse<D: Device>(refusal: &Refusal, device: &mut D) -> Result<Status, Stop<'static>>
-    ensures memory { refusal.now.cause ≡ Memory → (result ≡ Err Stop.OutOfMemory) × (D.log device.new ≡ D.log device.old) }
-    ensures said { refusal.now.cause ≢ Memory → (options : Options) → Ends options [] (refusal_line (refusal_view refusal.now)) [] Status.Refused result (D.log device.old) (D.log device.new) }
+/// Reports why no tree is accepted.
+pub(crate) fn refuse<D: Device>(refusal: &Refusal, device: &mut D) -> Result<Status, Stop<'static>>
+    ensures { RefusesTree refusal.now result (D.log device.old) (D.log device.new) }
 {
     if let Cause::Memory = refusal.cause {
         return Err(Stop::OutOfMemory);
@@ -145,7 +142,7 @@ fn hand_or_refuse<'o, D: Device>(
     device: &mut D,
 ) -> Result<Status, Stop<'o>>
     ensures { let given = option_map (λ texts. map text_view texts.items) texts.entry in
-        Ends options.now [] (line_if options.now given) (texts_or given) (status_if given) result (D.log device.old) (D.log device.new) }
+        Ends options.now (line_if options.now given) (texts_or given) (status_if given) result (D.log device.old) (D.log device.new) }
 {
     match texts {
         Some(texts) => hand_out_by(options, texts, device),
@@ -153,8 +150,8 @@ fn hand_or_refuse<'o, D: Device>(
     }
 }
 
-// Reports the waiting diagnostics, then delivers the texts or refuses them.
-fn finish<'o, D: Device>(
+/// Reports the waiting diagnostics, then delivers the texts or refuses them.
+pub(crate) fn finish<'o, D: Device>(
     options: &Options,
     waiting: &[u8],
     texts: Option<Vec<Text<'o>>>,
@@ -162,7 +159,7 @@ fn finish<'o, D: Device>(
 ) -> Result<Status, Stop<'o>>
     requires { AreLines waiting.now }
     ensures { let given = option_map (λ texts. map text_view texts.items) texts.entry in
-        Ends options.now waiting.now (line_if options.now given) (texts_or given) (status_if given) result (D.log device.old) (D.log device.new) }
+        Finishes options.now (waiting.now ++ line_if options.now given) (texts_or given) (status_if given) result (D.log device.old) (D.log device.new) }
 {
     match say_waiting(waiting, device) {
         Ok(()) => hand_or_refuse(options, texts, device),
@@ -177,7 +174,7 @@ fn finish_long<D: Device>(
     device: &mut D,
 ) -> Result<Status, Stop<'static>>
     requires { AreLines waiting.now }
-    ensures { (options : Options) → Ends options waiting.now (too_long_line (stop_of long.entry)) [] Status.Refused result (D.log device.old) (D.log device.new) }
+    ensures { (options : Options) → Finishes options (waiting.now ++ too_long_line (stop_of long.entry)) [] Status.Refused result (D.log device.old) (D.log device.new) }
 {
     match say_waiting(waiting, device) {
         Ok(()) => refuse_line(long, device),
@@ -209,154 +206,82 @@ fn fresh_input<'a>(
     let mut input = UserInput::new(
         alloc,
         tree,
-        options.warn_lost || options.explanation.is_some(),
+        options.warn_lost || wants(options, Output::Explanation),
     )?;
     input.ask_unset(options.warn_lost);
     input.lead_with(lead_text(alloc, options)?);
-    match &options.list_gone {
-        None => Ok(input),
-        Some(_) => {
-            input.keep_gone(alloc);
-            Ok(input)
-        }
+    if wants(options, Output::GoneLines) {
+        input.keep_gone(alloc);
     }
+    Ok(input)
 }
 
-/// Runs for one configuration of an accepted tree, after the tree's diagnostics. `is_warned` is whether the tree has
-/// warnings.
-pub(crate) fn run_inputs<'o, D: Device>(
+// Runs for one configuration of an accepted tree, after the tree's warnings.
+fn run_inputs<'o, D: Device>(
     alloc: Global,
     options: &'o Options,
     accepted: &OrderedTree<'_>,
     names: &Option<Names>,
-    is_warned: bool,
     device: &mut D,
 ) -> Result<Status, Stop<'o>>
     requires ready { IsReady accepted.now }
-    requires names { names.now ≡ names_listed options.now accepted.now.opened.now }
+    requires names { names.now ≡ names_if options.now accepted.now.opened.now }
     requires taken { refused_name_of options.now accepted.now.opened.now accepted.now.laid.tree.now ≡ None }
-    requires warned { is_warned ≡ is_not_empty (lines_text accepted.now.laid.tree.now.warnings) }
-    ensures { (files : Files) → IsAcceptedOf files options.now accepted.now → LeavesPart files options.now accepted.now.laid.tree.now result (D.log device.old) (D.log device.new) }
+    ensures { (files : Files) (before : TreeFacts → List ℕ) (told : List ℕ) (start : Log) → TellsRest files options.now accepted.now before told →
+        Leads [] (before accepted.now.laid.tree.now) start (D.log device.old) →
+        Leaves files options.now before (IsLeft files options.now accepted.now.laid.tree.now told) result start (D.log device.new) }
 {
     one_answer();
     exactly_one_outcome();
     let tree = accepted.laid.tree;
-    let streams = stream_names(alloc, options)?;
+    let names_told = stream_names(alloc, options)?;
     let mut user = fresh_input(alloc, options, tree)?;
     let mut waiting = Waiting {
         holds: holds_warnings(options),
         text: Vec::new(alloc),
     };
-    let long = match read_inputs(
-        alloc,
-        options,
-        &options.prefix,
-        &streams,
+    let streams = Streams {
+        names: &names_told,
         tree,
-        device,
-        &mut user,
-        &mut waiting,
-    ) {
+        prefix: &options.prefix,
+    };
+    let long = match read_inputs(alloc, options, streams, device, &mut user, &mut waiting) {
         Ok(long) => long,
         Err(stop) => return Err(stop),
     };
     if let Some(long) = long {
         return finish_long(&waiting.text, long, device);
     }
-    let texts = compute(
-        alloc,
-        options,
-        accepted,
-        names,
-        &user,
-        is_warned,
-        &mut waiting.text,
-    )?;
+    let texts = compute(alloc, options, accepted, names, &user, &mut waiting.text)?;
     finish(options, &waiting.text, texts, device)
 }
 
-/// Reports the tree's warnings, if there are any.
-pub(crate) fn say_tree<D: Device>(
-    alloc: Global,
-    warnings: &[Vec<u8>],
-    device: &mut D,
-) -> Result<(), Stop<'static>>
-    ensures { SaysLines (lines_text (map (λ line. line.items) warnings.now)) result (D.log device.old) (D.log device.new) }
-{
-    if warnings.is_empty() {
-        return Ok(());
-    }
-    say_lines(alloc, device, warnings)
-}
-
-// Runs over an accepted tree: refuses a name, or reports the tree's warnings and goes on to the input files.
-fn run_accepted<'o, D: Device>(
+/// Runs for one configuration of an accepted tree: refuses a name, or reports these of the tree's warnings and goes on to
+/// the input files. A run alone reports all of them. Many configurations report them once, before all turns, so a turn
+/// reports none.
+pub(crate) fn run_accepted<'o, D: Device>(
     alloc: Global,
     options: &'o Options,
     accepted: &OrderedTree<'_>,
+    warnings: &[Vec<u8>],
     device: &mut D,
 ) -> Result<Status, Stop<'o>>
     requires { IsReady accepted.now }
-    ensures { (files : Files) → IsAcceptedOf files options.now accepted.now → LeavesRun files options.now result (D.log device.old) (D.log device.new) }
+    ensures { (files : Files) (before : TreeFacts → List ℕ) (told : List ℕ) → TellsRest files options.now accepted.now before told →
+        before accepted.now.laid.tree.now ≡ lines_text (map (λ line. line.items) warnings.now) →
+        Leaves files options.now before (IsLeft files options.now accepted.now.laid.tree.now told) result (D.log device.old) (D.log device.new) }
 {
     one_answer();
     exactly_one_outcome();
-    let names = names_listed(alloc, options, accepted.opened)?;
+    let names = names_if(alloc, options, accepted.opened)?;
     let refused = refused_among(alloc, options, &names, accepted.laid.tree)?;
     if let Some(name) = refused {
         return refuse_name(options, &name, device);
     }
-    let warnings = accepted.laid.tree.parse_warnings();
-    match say_tree(alloc, warnings, device) {
-        Ok(()) => run_inputs(
-            alloc,
-            options,
-            accepted,
-            &names,
-            !warnings.is_empty(),
-            device,
-        ),
+    match say_lines(alloc, device, warnings) {
+        Ok(()) => run_inputs(alloc, options, accepted, &names, device),
         Err(stop) => Err(stop),
     }
-}
-
-// Runs over a tree that was read, and keeps it if it is accepted.
-fn run_tree<'o, D: Device>(
-    alloc: Global,
-    options: &'o Options,
-    read: TreeReading,
-    device: &mut D,
-    kept: &mut Option<AcceptedTree>,
-) -> Result<Status, Stop<'o>>
-    ensures { (files : Files) → IsReadOf files (root_file options.now) (wants_sources options.now) read → LeavesRun files options.now result (D.log device.old) (D.log device.new) }
-{
-    one_answer();
-    exactly_one_outcome();
-    opened_are_one_list();
-    let TreeReading {
-        tree,
-        opened,
-        sources,
-    } = read;
-    let laid = tree.laid();
-    let order = match EvaluationOrder::of(alloc, &laid) {
-        Ok(order) => order,
-        Err(refusal) => return refuse(&refusal, device),
-    };
-    let lent = borrowed(&sources);
-    let accepted = OrderedTree {
-        laid,
-        order: &order,
-        opened: &opened,
-        sources: lent,
-    };
-    let ended = run_accepted(alloc, options, &accepted, device);
-    *kept = Some(AcceptedTree {
-        tree,
-        order,
-        sources,
-    });
-    ended
 }
 
 // Runs over the files, without reporting why it stopped early.
@@ -367,31 +292,83 @@ fn run_over<'o, D: Device>(
     device: &mut D,
     kept: &mut Option<AcceptedTree>,
 ) -> Result<Status, Stop<'o>>
-    ensures { LeavesRun (files_in files) options.now result (D.log device.old) (D.log device.new) }
+    ensures { Leaves (files_in files) options.now said_of_tree (IsOutcome (files_in files) options.now) result (D.log device.old) (D.log device.new) }
 {
     exactly_one_outcome();
     opened_are_one_list();
-    let read = match read_tree(
+    let reading = match read_tree(
         alloc,
         files,
         options.kconfig.as_bytes(),
         wants_sources(options),
     ) {
-        Ok(read) => read,
+        Ok(reading) => reading,
         Err(refusal) => return refuse(&refusal, device),
     };
-    run_tree(alloc, options, read, device, kept)
+    let accepted = match reading.ordered(alloc) {
+        Ok(accepted) => accepted,
+        Err(refusal) => return refuse(&refusal, device),
+    };
+    let warnings = accepted.laid.tree.parse_warnings();
+    let ended = run_accepted(alloc, options, &accepted, warnings, device);
+    let order = accepted.order;
+    *kept = Some(AcceptedTree { reading, order });
+    ended
 }
 
-// Returns the status of a run. If it stopped early, reports why and returns `Faulted`.
-fn answer<D: Device>(options: &Options, ended: Result<Status, Stop<'_>>, device: &mut D) -> Status
-    ensures { Answers options.now ended.entry result (D.log device.old) (D.log device.new) }
+// ---- how a run is answered
+
+/// How a run ended, and whether that ends the runs for all configurations.
+#[derive(Clone, Copy)]
+pub(crate) struct Turn {
+    pub status: Status,
+    pub is_over: bool,
+}
+
+// Whether a run that stopped early for this reason ends the runs for all configurations.
+fn ends_all(stop: &Stop<'_>) -> bool
+    ensures { result ≡ ends_all stop.now }
+{
+    let failure = match stop {
+        Stop::OutOfMemory => return true,
+        Stop::Failed(failure) => failure,
+    };
+    match failure.action {
+        Action::Report => true,
+        Action::Open
+        | Action::Miss
+        | Action::Read
+        | Action::Create(_)
+        | Action::Write(_)
+        | Action::Close(_)
+        | Action::Move
+        | Action::Clear => match failure.fault {
+            Fault::Memory => true,
+            Fault::Refused => false,
+        },
+    }
+}
+
+/// Answers how a run ended. If it stopped early, this reports why, and the status is `Faulted`.
+pub(crate) fn answer<D: Device>(
+    options: &Options,
+    ended: Result<Status, Stop<'_>>,
+    device: &mut D,
+) -> Turn
+    ensures { Answers options.now ended.entry result.status result.is_over (D.log device.old) (D.log device.new) }
 {
     match ended {
-        Ok(status) => status,
+        Ok(status) => Turn {
+            status,
+            is_over: false,
+        },
         Err(stop) => {
-            report(device, options, stop);
-            Status::Faulted
+            let is_fatal = ends_all(&stop);
+            let is_told = report(device, options, stop);
+            Turn {
+                status: Status::Faulted,
+                is_over: is_fatal || !is_told,
+            }
         }
     }
 }
@@ -407,6 +384,9 @@ fn answer<D: Device>(options: &Options, ended: Result<Status, Stop<'_>>, device:
 /// was not enough memory (E20), or the diagnostics failed. Everything before that is complete: the diagnostics are
 /// whole lines, and no file was created before all diagnostics.
 ///
+/// It is [`run_each`](crate::run_each) of one configuration, except for two things. A refused name (E23, E24) is reported
+/// in place of the tree's warnings, and E20 has the lead of the options wherever memory runs out.
+///
 /// The files are freed when they are read, unless the texts use them. An accepted tree is moved to `kept` and replaces
 /// its content. Freeing it takes time. A program that is about to exit can leak it instead.
 pub fn run<D: Device>(
@@ -419,5 +399,5 @@ pub fn run<D: Device>(
     ensures { Runs (files_in files) options.now (D.log device.old) (D.log device.new) result }
 {
     let ended = run_over(alloc, files, options, device, kept);
-    answer(options, ended, device)
+    answer(options, ended, device).status
 }

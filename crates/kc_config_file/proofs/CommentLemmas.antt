@@ -1,24 +1,9 @@
 -- Lines that begin with `#`: they say nothing, or unset a name.
-use Rattle.std.proofs.Common.{◌≡◌, ℕ, ◌+◌, ◌-◌, ◌≤◌, suc, List, [], ◌∷◌, ◌++◌, Bool, true, false, not, length, take, drop, reverse, get_or, eqb, cond, refl, sym, ap, ◌∙◌, arith, inl, inr, ◌⊎◌, Option, Some, None, append_assoc, codes}
-use Rattle.std.specs.Prelude.{◌==◌, All, nat_lt, slice_index}
-use Rattle.std.specs.List.{suffix_len, prefix_len, list_any}
-use Rattle.std.specs.Option.{option_and_then}
-use Rattle.std.specs.Str.{bytes_eq}
-use Rattle.std.specs.Str.Lines.{strip_carriage_return}
-use Rattle.std.proofs.Math.Seq.{take-append-add}
-use Rattle.std.proofs.lemmas.Bool.{and_parts, true≢false, ne_eqb, not-true, false_from_ne_true}
-use Rattle.std.proofs.lemmas.List.{reverse-append, length-reverse, length-append, take-append-drop}
-use Rattle.std.proofs.lemmas.List.Elements.{All-append}
-use Rattle.std.proofs.lemmas.List.Folds.{list_any_at}
-use Rattle.std.proofs.lemmas.Slice.Eq.{bytes_eq-Decides}
-use Rattle.kc_language.specs.Tokens.{is_blank}
-use Rattle.kc_language.specs.Symbols.{TreeFacts}
-use Rattle.kc_language.specs.ConfigFile.{Nothing, Unset, without_prefix, without_suffix, unset_name, meaning_of, effect_of, is_prefix}
-use Rattle.kc_config_file.specs.PartsOfConfigFile.{trimmed, is_plain, plain, unset_or, meaning_of_text, assignment_of}
-use Rattle.kc_language.specs.Texts.{IsNotUnsetLine}
-use Rattle.kc_config_file.proofs.RoundTripLemmas.{prefix_bytes, name_no_blank}
-use Rattle.kc_config_file.proofs.RoundTripLemmas.{strip_solid}
-use Rattle.kc_config_file.proofs.SymbolLineLemmas.{last_byte}
+use Rattle.std.proofs.{Common.{Bool, List, None, Option, Some, [], ap, append_assoc, arith, codes, cond, drop, eqb, false, get_or, inl, inr, length, not, refl, reverse, suc, sym, take, true, ℕ, ◌++◌, ◌+◌, ◌-◌, ◌∙◌, ◌∷◌, ◌≡◌, ◌≤◌, ◌⊎◌}, Math.Seq.take-append-add, lemmas.{Bool.{and_parts, false_from_ne_true, ne_eqb, not-true, true≢false}, List.{Elements.All-append, Folds.list_any_at, length-append, length-reverse, reverse-append, take-append-drop}, Slice.Eq.bytes_eq-Decides}}
+use Rattle.std.specs.{List.{list_any, prefix_len, suffix_len}, Option.option_and_then, Prelude.{All, nat_lt, slice_index, ◌==◌}, Str.{Lines.strip_carriage_return, bytes_eq}}
+use Rattle.kc_language.specs.{ConfigFile.{Nothing, Unset, effect_of, is_prefix, meaning_of, unset_name, without_prefix, without_suffix}, Symbols.TreeFacts, Texts.IsNotUnsetLine, Tokens.is_blank}
+use Rattle.kc_input.specs.PartsOfConfigFile.{assignment_of, is_plain, meaning_of_text, plain, trimmed, unset_or}
+use Rattle.kc_input.proofs.{RoundTripLemmas.{name_no_blank, prefix_bytes, strip_solid}, SymbolLineLemmas.last_byte}
 
 -- What a byte that is no blank and no carriage return keeps in front of it.
 prefix_stop : (p : ℕ → Bool) (xs : List ℕ) (b : ℕ) (ys : List ℕ) → p b ≡ false → prefix_len p (xs ++ b ∷ ys) ≤ length xs

@@ -1,36 +1,17 @@
 -- What reading the .config that was written leaves in empty places.
-use Rattle.std.proofs.Common.{◌≡◌, ℕ, ◌<◌, zero, suc, List, [], ◌∷◌, ◌++◌, Bool, true, false, length, get_or, cond, refl, sym, ap, ◌∙◌, subst, arith, inl, inr, Option, Some, None}
-use Rattle.std.specs.Prelude.{◌&&◌, slice_get, option_map}
-use Rattle.std.specs.List.{Contains, cons_option, find, flat_map}
-use Rattle.std.specs.Option.{option_and_then}
-use Rattle.std.proofs.lemmas.Bool.{and_parts, and_from, lt-ltb, true≢false}
-use Rattle.std.proofs.lemmas.Option.{slice_get-get_or}
-use Rattle.kc_language.specs.declared.expressions.SymId.{SymId}
-use Rattle.kc_language.specs.declared.expressions.Tri.TheVariants.{N, M, Y}
+use Rattle.std.proofs.{Common.{Bool, List, None, Option, Some, [], ap, arith, cond, false, get_or, inl, inr, length, refl, subst, suc, sym, true, zero, ℕ, ◌++◌, ◌<◌, ◌∙◌, ◌∷◌, ◌≡◌}, lemmas.{Bool.{and_from, and_parts, lt-ltb, true≢false}, Option.slice_get-get_or}}
+use Rattle.std.specs.{List.{Contains, cons_option, find, flat_map}, Option.option_and_then, Prelude.{option_map, slice_get, ◌&&◌}}
+use Rattle.kc_language.specs.{ConfigFile.{Assignment, Notation, Places, is_prefix, place_at, places_given}, Expressions.{SymbolValue, TextValue, Truth, symbol}, Symbols.{ChoiceFacts, CommentShown, EndShown, MenuShown, Shown, SymbolFacts, SymbolShown, TreeFacts}, Texts.{HasPlainTitles, config_file_line, config_text, read_alone, symbol_config, valuation_view}, Values.{ChoicePlace, GivenValue, Member, Solves, SymbolPlace, UserPlace, choice_at, equations, given_of, is_yes, known_from, name as name_of, name_count, user_place}, declared.expressions.{SymId.SymId, Tri.TheVariants.{M, N, Y}}}
 use Rattle.kc_language.specs.declared.expressions.SymbolType.TheVariants as symbol_type
-use Rattle.kc_language.specs.Expressions.{symbol, SymbolValue, Truth, TextValue}
-use Rattle.kc_language.specs.Values.{Solves, GivenValue, Member, UserPlace, SymbolPlace, ChoicePlace, is_yes, given_of, choice_at, name_count, known_from, user_place, equations, name as name_of}
-use Rattle.kc_language.specs.Symbols.{TreeFacts, SymbolFacts, ChoiceFacts, Shown, SymbolShown, MenuShown, EndShown, CommentShown}
-use Rattle.kc_tree.specs.TreeFacts.{IsLineText, IsWellFormed, OfTitles, ShowsEach}
-use Rattle.kc_language.specs.ConfigFile.{Notation, Places, place_at, is_prefix, Assignment, places_given}
-use Rattle.kc_user.specs.PartsOfConfigFile.{no_places}
-use Rattle.kc_user.specs.Places.{allowed, allowed_by, allowed_for, members_of}
-use Rattle.kc_values.specs.GivenLines.{reread_places}
-use Rattle.kc_values.specs.Members.{MembersAreTheirs, MembersAreBools}
+use Rattle.kc_entries.specs.WellFormed.{IsLineText, IsWellFormed, OfTitles, ShowsEach}
+use Rattle.kc_user.specs.{PartsOfConfigFile.no_places, Places.{allowed, allowed_by, allowed_for, members_of}}
+use Rattle.kc_values.specs.{GivenLines.reread_places, Members.{MembersAreBools, MembersAreTheirs}}
 use Rattle.kc_language.specs.Values as ls
 use Rattle.kc_values.specs.PartsOfValues as ls_parts
-use Rattle.kc_values.proofs.FixedLines.{place_cases, place_of_member, Sel}
-use Rattle.kc_values.proofs.Selection.{found}
-use Rattle.kc_language.specs.Texts.{HasPlainTitles, valuation_view, read_alone, config_file_line, config_text, symbol_config}
-use Rattle.kc_config_file.specs.HasNames.{HasNames}
-use Rattle.kc_config_file.proofs.ConfigTextLemmas.{config_gives, entry_given}
-use Rattle.kc_config_file.proofs.FilledLemmas.{Holds, IsCandidate, filled_symbol, filled_member, filled_none, in_flat_map, to_flat_map, contains_here, contains_cases, no_element}
-use Rattle.kc_config_file.proofs.GivesLemmas.{Gives}
-use Rattle.kc_config_file.proofs.MinimalLaws.{alone_whole}
-use Rattle.kc_config_file.proofs.MinimalTextLemmas.{there, choice_by_place, choice_there, yes_selected}
-use Rattle.kc_config_file.proofs.ShapeLemmas.{value_shape}
-use Rattle.kc_config_file.proofs.SolutionLemmas.{allowed_defined, mentioned}
-use Rattle.kc_config_file.proofs.SymbolLineLemmas.{IsOf, FitsLine, symbol_gives}
+use Rattle.kc_values.proofs.{FixedLines.{Sel, place_cases, place_of_member}, Selection.found}
+use Rattle.kc_input.specs.HasNames.{HasNames}
+use Rattle.kc_config_file.proofs.{ConfigTextLemmas.{config_gives, entry_given}, FilledLemmas.{Holds, IsCandidate, contains_cases, contains_here, filled_member, filled_none, filled_symbol, in_flat_map, no_element, to_flat_map}, MinimalLaws.alone_whole, MinimalTextLemmas.{choice_by_place, choice_there, there, yes_selected}, ShapeLemmas.value_shape}
+use Rattle.kc_input.proofs.{DefinedLemmas.{allowed_defined, mentioned}, GivesLemmas.Gives, SymbolLineLemmas.{FitsLine, IsOf, symbol_gives}}
 
 -- what is found nowhere is no element
 missing_at : {X : Type 0} (p : X → Bool) (b : Bool) (x y : X) (xs : List X) → p x ≡ b → (find p xs ≡ None → Contains xs y → p y ≡ false) →

@@ -1,24 +1,12 @@
 -- What the lines of the .config give.
-use Rattle.std.proofs.Common.{◌≡◌, ℕ, ◌+◌, ◌≤◌, List, [], ◌∷◌, ◌++◌, Bool, true, false, length, take, cond, refl, sym, ap, ◌∙◌, subst, arith, Option, Some, None, append_assoc, codes}
-use Rattle.std.specs.Prelude.{slice_get}
-use Rattle.std.specs.List.{Contains, enumerate_from, flat_map}
-use Rattle.std.specs.Str.Lines.{strip_carriage_return}
-use Rattle.std.proofs.lemmas.List.{length-append}
-use Rattle.std.proofs.lemmas.List.Elements.{All-append}
-use Rattle.std.proofs.lemmas.Option.{slice_get-get_or}
-use Rattle.kc_language.specs.Lines.{is_line_feed}
-use Rattle.kc_language.specs.declared.expressions.SymId.{SymId}
-use Rattle.kc_language.specs.Symbols.{TreeFacts, Shown, SymbolShown, MenuShown, EndShown, CommentShown}
-use Rattle.kc_tree.specs.TreeFacts.{IsLineText, OfTitles}
-use Rattle.kc_language.specs.ConfigFile.{Notation, meaning_of, effect_of, is_prefix, Assignment}
-use Rattle.kc_config_file.specs.PartsOfConfigFile.{assignment_of}
-use Rattle.kc_language.specs.Texts.{IsNotUnsetLine, HasPlainTitles, config_text, title_lines, shown_title, symbol_config, end_is_last, entry_text, SolutionView, is_shown}
-use Rattle.kc_config_file.specs.PartsOfTexts.{title_line, config_heading, end_line, title_if, end_if, gap, entries_text}
-use Rattle.kc_config_file.proofs.CommentLemmas.{silent, silent_plain, unset_not_last, end_unsets_nothing}
-use Rattle.kc_config_file.proofs.FilledLemmas.{contains_here, contains_later}
-use Rattle.kc_config_file.proofs.GivesLemmas.{Gives, gives_line, gives_append, gives_nothing}
-use Rattle.kc_config_file.proofs.LineLemmas.{HasNoLf}
-use Rattle.kc_config_file.proofs.SymbolLineLemmas.{no_lf_check}
+use Rattle.std.proofs.{Common.{Bool, List, None, Option, Some, [], ap, append_assoc, arith, codes, cond, false, length, refl, subst, sym, take, true, ℕ, ◌++◌, ◌+◌, ◌∙◌, ◌∷◌, ◌≡◌, ◌≤◌}, lemmas.{List.{Elements.All-append, length-append}, Option.slice_get-get_or}}
+use Rattle.std.specs.{List.{Contains, enumerate_from, flat_map}, Prelude.slice_get, Str.Lines.strip_carriage_return}
+use Rattle.kc_language.specs.{ConfigFile.{Assignment, Notation, effect_of, is_prefix, meaning_of}, Lines.is_line_feed, Symbols.{CommentShown, EndShown, MenuShown, Shown, SymbolShown, TreeFacts}, Texts.{HasPlainTitles, IsNotUnsetLine, SolutionView, config_text, end_is_last, entry_text, is_shown, shown_title, symbol_config, title_lines}, declared.expressions.SymId.SymId}
+use Rattle.kc_entries.specs.WellFormed.{IsLineText, OfTitles}
+use Rattle.kc_input.specs.PartsOfConfigFile.{assignment_of}
+use Rattle.kc_config_file.specs.PartsOfTexts.{config_heading, end_if, end_line, entries_text, gap, title_if, title_line}
+use Rattle.kc_config_file.proofs.{CommentLemmas.{end_unsets_nothing, silent, silent_plain, unset_not_last}, FilledLemmas.{contains_here, contains_later}}
+use Rattle.kc_input.proofs.{GivesLemmas.{Gives, gives_append, gives_line, gives_nothing}, LineLemmas.HasNoLf, SymbolLineLemmas.no_lf_check}
 
 module _ (tree : TreeFacts) (prefix : Notation) (stream : List ℕ) (is_pre : is_prefix prefix.prefix ≡ true) where
   quiet : (body : List ℕ) → HasNoLf body → length body ≤ 65535 → assignment_of (effect_of prefix.is_raw tree (meaning_of prefix.prefix (strip_carriage_return body))) ≡ None → Gives tree prefix stream (body ++ 10 ∷ []) []

@@ -1,19 +1,9 @@
 -- The texts of the entries, one after another.
-use Rattle.std.proofs.Common.{◌≡◌, List, [], ◌∷◌, ◌++◌, Bool, true, false, cond, refl, sym, ap, ◌∙◌, Option, Some, None}
-use Rattle.std.specs.Prelude.{slice_get}
-use Rattle.std.specs.Option.{option_map_or}
-use Rattle.std.specs.List.{filter, last_or}
-use Rattle.std.proofs.lemmas.List.Elements.{filter-append}
-use Rattle.kc_language.specs.ConfigFile.{Notation}
-use Rattle.kc_language.specs.declared.expressions.SymId.{SymId}
-use Rattle.kc_language.specs.declared.expressions.Tri.{Tri}
-use Rattle.kc_language.specs.Expressions.{SymbolValue}
-use Rattle.kc_language.specs.Symbols.{Condition, TreeFacts, Shown, SymbolShown, MenuShown, EndShown, CommentShown}
-use Rattle.kc_config_file.specs.EntryTexts.{ends_after, entries_after}
-use Rattle.kc_language.specs.Texts.{SolutionView, config_text, end_is_last, entry_text, has_lines, shown_title}
-use Rattle.kc_config_file.specs.PartsOfTexts.{config_heading, entries_text, is_end}
-use Rattle.kc_config_file.proofs.InTurnLemmas.{each_after, each_after-cons}
-use Rattle.kc_config_file.proofs.PlaceLemmas.{last_or-append}
+use Rattle.std.proofs.{Common.{Bool, List, None, Option, Some, [], ap, cond, false, refl, sym, true, ◌++◌, ◌∙◌, ◌∷◌, ◌≡◌}, lemmas.List.Elements.filter-append}
+use Rattle.std.specs.{List.{filter, last_or}, Option.option_map_or, Prelude.slice_get}
+use Rattle.kc_language.specs.{ConfigFile.Notation, Expressions.SymbolValue, Symbols.{CommentShown, Condition, EndShown, MenuShown, Shown, SymbolShown, TreeFacts}, Texts.{SolutionView, config_text, end_is_last, entry_text, has_lines, shown_title}, declared.expressions.{SymId.SymId, Tri.Tri}}
+use Rattle.kc_config_file.specs.{EntryTexts.{ends_after, entries_after}, PartsOfTexts.{config_heading, entries_text, is_end}}
+use Rattle.kc_input.proofs.{InTurnLemmas.{each_after, each_after-cons}, PlaceLemmas.last_or-append}
 
 module _ (tree : TreeFacts) (prefix : Notation) (solution : SolutionView) where
   -- one entry more: it is the last with lines, or has none

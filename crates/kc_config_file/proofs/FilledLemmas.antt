@@ -1,18 +1,9 @@
 -- What assignments leave in empty places.
-use Rattle.std.proofs.Common.{◌≡◌, ℕ, ◌+◌, ◌<◌, zero, suc, List, [], ◌∷◌, Bool, true, false, length, get_or, eqb, cond, refl, sym, ap, ◌∙◌, subst, arith, inl, inr, ◌⊎◌, Option, Some, None, replicate}
-use Rattle.std.specs.Prelude.{◌&&◌}
-use Rattle.std.specs.List.{Contains, filter_map, flat_map, last_or, cons_option}
-use Rattle.std.proofs.lemmas.Bool.{eqb-true, eq-eqb, cases_Bool, and_parts}
-use Rattle.std.proofs.lemmas.List.{get_or-replicate, length-replicate}
-use Rattle.std.proofs.lemmas.List.Elements.{Contains-append_left, Contains-append_right, Contains-append_cases}
-use Rattle.kc_language.specs.declared.expressions.SymId.{SymId}
-use Rattle.kc_language.specs.Expressions.{symbol}
-use Rattle.kc_language.specs.Symbols.{TreeFacts}
-use Rattle.kc_language.specs.Values.{GivenValue, Member, SymbolPlace, ChoicePlace, is_yes}
-use Rattle.kc_language.specs.ConfigFile.{Places, place_at, Assignment, each_from, places_given}
-use Rattle.kc_config_file.specs.PartsOfConfigFile.{chosen_in}
-use Rattle.kc_user.specs.PartsOfConfigFile.{no_places, member_place}
-use Rattle.kc_config_file.specs.PartsOfConfigFile.{given_to, is_this_choice, choice_of}
+use Rattle.std.proofs.{Common.{Bool, List, None, Option, Some, [], ap, arith, cond, eqb, false, get_or, inl, inr, length, refl, replicate, subst, suc, sym, true, zero, ℕ, ◌+◌, ◌<◌, ◌∙◌, ◌∷◌, ◌≡◌, ◌⊎◌}, lemmas.{Bool.{and_parts, cases_Bool, eq-eqb, eqb-true}, List.{Elements.{Contains-append_cases, Contains-append_left, Contains-append_right}, get_or-replicate, length-replicate}}}
+use Rattle.std.specs.{List.{Contains, cons_option, filter_map, flat_map, last_or}, Prelude.◌&&◌}
+use Rattle.kc_language.specs.{ConfigFile.{Assignment, Places, each_from, place_at, places_given}, Expressions.symbol, Symbols.TreeFacts, Values.{ChoicePlace, GivenValue, Member, SymbolPlace, is_yes}, declared.expressions.SymId.SymId}
+use Rattle.kc_input.specs.PartsOfConfigFile.{choice_of, chosen_in, given_to, is_this_choice}
+use Rattle.kc_user.specs.PartsOfConfigFile.{member_place, no_places}
 
 -- Elements of a list.
 pub contains_here : {X : Type 0} (x : X) (xs : List X) → Contains (x ∷ xs) x

@@ -1,19 +1,11 @@
 -- When reading the .config that was written gives the values again.
-use Rattle.std.proofs.Common.{◌≡◌, ℕ, ◌<◌, List, true, false, sym, ap, ◌∙◌, subst, ◌↔◌, Option, None}
-use Rattle.kc_language.specs.declared.expressions.SymId.{SymId}
-use Rattle.kc_language.specs.Expressions.{SymbolValue}
-use Rattle.kc_language.specs.Values.{Solves, GivenValue, UserPlace, changes_on_reread, name_count, known_from, user_place, rhs, equations, written}
-use Rattle.kc_language.specs.Symbols.{TreeFacts}
-use Rattle.kc_tree.specs.TreeFacts.{IsLineText, IsWellFormed, OfTitles, ShowsEach}
-use Rattle.kc_language.specs.ConfigFile.{Notation, Places, place_at, is_prefix}
-use Rattle.kc_values.specs.GivenLines.{reread_places}
-use Rattle.kc_values.specs.Laws.{SolutionsAgree}
-use Rattle.kc_values.specs.Members.{MembersAreTheirs, MembersAreBools}
-use Rattle.kc_language.specs.Needs.{IsAccepted}
-use Rattle.kc_language.specs.Texts.{HasPlainTitles, valuation_view, read_alone, IsOneSolution, config_text}
-use Rattle.kc_config_file.specs.HasNames.{HasNames}
-use Rattle.kc_config_file.proofs.ConfigLaws.{Reread, reread_at, config_read}
-use Rattle.kc_config_file.proofs.SymbolLineLemmas.{FitsLine}
+use Rattle.std.proofs.Common.{List, None, Option, ap, false, subst, sym, true, ℕ, ◌<◌, ◌↔◌, ◌∙◌, ◌≡◌}
+use Rattle.kc_language.specs.{ConfigFile.{Notation, Places, is_prefix, place_at}, Expressions.SymbolValue, Needs.IsAccepted, Symbols.TreeFacts, Texts.{HasPlainTitles, IsOneSolution, config_text, read_alone, valuation_view}, Values.{GivenValue, Solves, UserPlace, changes_on_reread, equations, known_from, name_count, rhs, user_place, written}, declared.expressions.SymId.SymId}
+use Rattle.kc_entries.specs.WellFormed.{IsLineText, IsWellFormed, OfTitles, ShowsEach}
+use Rattle.kc_values.specs.{GivenLines.reread_places, Laws.SolutionsAgree, Members.{MembersAreBools, MembersAreTheirs}}
+use Rattle.kc_input.specs.HasNames.{HasNames}
+use Rattle.kc_config_file.proofs.ConfigLaws.{Reread, config_read, reread_at}
+use Rattle.kc_input.proofs.SymbolLineLemmas.{FitsLine}
 
 module _ (tree : TreeFacts) (user : UserPlace → Option GivenValue) (V : ℕ → SymbolValue) (formed : IsWellFormed tree) (theirs : MembersAreTheirs tree)
     (bools : MembersAreBools tree) (named_all : HasNames tree) (shows : ShowsEach tree) (texts : OfTitles IsLineText tree)

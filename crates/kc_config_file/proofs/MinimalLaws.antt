@@ -1,26 +1,16 @@
 -- The minimal file gives the values back, and none of its lines can go.
-use Rattle.std.proofs.Common.{◌≡◌, ℕ, ◌<◌, List, Bool, true, false, cond, refl, sym, ap, ◌∙◌, subst, inl, inr, Option, Some, None, append-nil}
+use Rattle.std.proofs.{Common.{Bool, List, None, Option, Some, ap, append-nil, cond, false, inl, inr, refl, subst, sym, true, ℕ, ◌<◌, ◌∙◌, ◌≡◌}, lemmas.Bool.and_parts}
 use Rattle.std.specs.Prelude.{not}
-use Rattle.std.proofs.lemmas.Bool.{and_parts}
-use Rattle.kc_language.specs.declared.expressions.SymId.{SymId}
-use Rattle.kc_language.specs.Expressions.{SymbolValue}
-use Rattle.kc_order.specs.Minimal.{kept, Restores, NothingCanGo}
-use Rattle.kc_language.specs.Values.{Solves, GivenValue, UserPlace, SymbolPlace, ChoicePlace, differs, default_selection, name_count, user_place, rhs, equations}
-use Rattle.kc_language.specs.Symbols.{TreeFacts, is_symbol_of}
-use Rattle.kc_tree.specs.TreeFacts.{IsWellFormed}
-use Rattle.kc_language.specs.ConfigFile.{Notation, Places, place_at, is_prefix, Assignment, ReadResult, lines_from, no_input, reading, places_given}
-use Rattle.kc_user.specs.PartsOfConfigFile.{no_places}
-use Rattle.kc_user.specs.Places.{AllowedPlaces}
-use Rattle.kc_values.specs.GivenLines.{minimal_line}
-use Rattle.kc_values.specs.Laws.{DifferingAreAllowed}
-use Rattle.kc_values.specs.Members.{MembersAreTheirs, MembersAreBools}
-use Rattle.kc_values.proofs.FixedLines.{place_cases, named, Sel, differs-member}
-use Rattle.kc_language.specs.Texts.{valuation_view, read_alone, IsOneSolution, minimal_text, symbol_config}
-use Rattle.kc_config_file.specs.PartsOfTexts.{HasOtherSolution, IsOneLine}
-use Rattle.kc_config_file.specs.PartsOfTexts.{kept_lines}
-use Rattle.kc_config_file.specs.HasNames.{HasNames}
-use Rattle.kc_config_file.proofs.GivesLemmas.{Gives, gives_whole}
-use Rattle.kc_config_file.proofs.MinimalTextLemmas.{differing_line, keeps_differing, tells_differing, stays, stays_member, all_given, minimal_gives, left_at}
+use Rattle.kc_language.specs.{ConfigFile.{Assignment, Notation, Places, ReadResult, is_prefix, lines_from, no_input, place_at, places_given, reading}, Expressions.SymbolValue, Symbols.{TreeFacts, is_symbol_of}, Texts.{IsOneSolution, minimal_text, read_alone, symbol_config, valuation_view}, Values.{ChoicePlace, GivenValue, Solves, SymbolPlace, UserPlace, default_selection, differs, equations, name_count, rhs, user_place}, declared.expressions.SymId.SymId}
+use Rattle.kc_order.specs.Minimal.{NothingCanGo, Restores, kept}
+use Rattle.kc_entries.specs.WellFormed.{IsWellFormed}
+use Rattle.kc_user.specs.{PartsOfConfigFile.no_places, Places.AllowedPlaces}
+use Rattle.kc_values.specs.{GivenLines.minimal_line, Laws.DifferingAreAllowed, Members.{MembersAreBools, MembersAreTheirs}}
+use Rattle.kc_values.proofs.FixedLines.{Sel, differs-member, named, place_cases}
+use Rattle.kc_config_file.specs.PartsOfTexts.{HasOtherSolution, kept_lines}
+use Rattle.kc_input.specs.{HasNames.HasNames, PartsOfTexts.IsOneLine}
+use Rattle.kc_input.proofs.GivesLemmas.{Gives, gives_whole}
+use Rattle.kc_config_file.proofs.MinimalTextLemmas.{all_given, differing_line, keeps_differing, left_at, minimal_gives, stays, stays_member, tells_differing}
 
 -- a text read alone
 pub read_alone_is : (tree : TreeFacts) (prefix : Notation) (name text : List ℕ) → read_alone tree prefix name text ≡ reading tree prefix (no_input false tree) (lines_from name 1 text)

@@ -1,36 +1,17 @@
 -- What reading the minimal file, or some of its lines, leaves in empty places.
-use Rattle.std.proofs.Common.{◌≡◌, ℕ, ◌<◌, List, [], ◌∷◌, ◌++◌, Bool, true, false, not, length, get_or, cond, refl, sym, ap, ◌∙◌, subst, arith, inl, inr, Option, Some, None}
-use Rattle.std.specs.Prelude.{◌&&◌, slice_get, nat_lt, option_map}
-use Rattle.std.specs.List.{Contains, flat_map, cons_option}
-use Rattle.std.specs.Option.{option_and_then}
-use Rattle.std.proofs.lemmas.Bool.{cases_Bool, and_parts, lt-ltb, ltb-true, true≢false}
-use Rattle.std.proofs.lemmas.Option.{slice_get-get_or, slice_get_within}
-use Rattle.kc_language.specs.declared.expressions.SymId.{SymId}
-use Rattle.kc_language.specs.declared.expressions.Tri.TheVariants.{N, Y}
-use Rattle.kc_language.specs.Expressions.{symbol, SymbolValue, Truth}
+use Rattle.std.proofs.{Common.{Bool, List, None, Option, Some, [], ap, arith, cond, false, get_or, inl, inr, length, not, refl, subst, sym, true, ℕ, ◌++◌, ◌<◌, ◌∙◌, ◌∷◌, ◌≡◌}, lemmas.{Bool.{and_parts, cases_Bool, lt-ltb, ltb-true, true≢false}, Option.{slice_get-get_or, slice_get_within}}}
+use Rattle.std.specs.{List.{Contains, cons_option, flat_map}, Option.option_and_then, Prelude.{nat_lt, option_map, slice_get, ◌&&◌}}
+use Rattle.kc_language.specs.{ConfigFile.{Assignment, Notation, is_prefix, place_at, places_given}, Expressions.{SymbolValue, Truth, symbol}, Symbols.{SymbolFacts, TreeFacts, is_symbol_of}, Texts.{config_file_line, symbol_config, valuation_view}, Values.{ChoicePlace, GivenValue, Member, Solves, SymbolPlace, UserPlace, choice_at, default_selection, differs, equations, facts, given_of, is_yes, known_from, name as name_of, name_count, user_place}, declared.expressions.{SymId.SymId, Tri.TheVariants.{N, Y}}}
 use Rattle.kc_order.specs.Minimal.{kept}
-use Rattle.kc_language.specs.Values.{Solves, GivenValue, Member, UserPlace, SymbolPlace, ChoicePlace, is_yes, given_of, differs, default_selection, facts, choice_at, name_count, known_from, user_place, equations, name as name_of}
-use Rattle.kc_language.specs.Symbols.{TreeFacts, SymbolFacts, is_symbol_of}
-use Rattle.kc_tree.specs.TreeFacts.{IsWellFormed}
-use Rattle.kc_language.specs.ConfigFile.{Notation, place_at, is_prefix, Assignment, places_given}
-use Rattle.kc_user.specs.PartsOfConfigFile.{no_places}
-use Rattle.kc_config_file.specs.PartsOfConfigFile.{choice_of}
-use Rattle.kc_user.specs.Places.{allowed, allowed_by, allowed_for, AllowedPlaces}
-use Rattle.kc_values.specs.GivenLines.{minimal_line, TellsDiffering}
-use Rattle.kc_values.specs.Laws.{DifferingAreAllowed}
-use Rattle.kc_values.specs.Members.{MembersAreTheirs, MembersAreBools}
+use Rattle.kc_entries.specs.WellFormed.{IsWellFormed}
+use Rattle.kc_user.specs.{PartsOfConfigFile.no_places, Places.{AllowedPlaces, allowed, allowed_by, allowed_for}}
+use Rattle.kc_input.specs.{HasNames.HasNames, PartsOfConfigFile.choice_of, PartsOfTexts.IsOneLine}
+use Rattle.kc_values.specs.{GivenLines.{TellsDiffering, minimal_line}, Laws.DifferingAreAllowed, Members.{MembersAreBools, MembersAreTheirs}}
 use Rattle.kc_values.specs.PartsOfValues as sol
-use Rattle.kc_values.proofs.FixedLines.{place_cases, place_of_member, names_itself, named, Sel, member_now, differs-member}
-use Rattle.kc_values.proofs.Selection.{selected_member}
-use Rattle.kc_language.specs.Texts.{valuation_view, symbol_config, config_file_line}
-use Rattle.kc_config_file.specs.PartsOfTexts.{IsOneLine}
+use Rattle.kc_values.proofs.{FixedLines.{Sel, differs-member, member_now, named, names_itself, place_cases, place_of_member}, Selection.selected_member}
 use Rattle.kc_config_file.specs.PartsOfTexts.{kept_lines}
-use Rattle.kc_config_file.specs.HasNames.{HasNames}
-use Rattle.kc_config_file.proofs.FilledLemmas.{Holds, IsCandidate, filled_symbol, filled_member, filled_none, in_flat_map, to_flat_map, contains_here, contains_cases, no_element}
-use Rattle.kc_config_file.proofs.GivesLemmas.{Gives, gives_all, gives_nothing}
-use Rattle.kc_config_file.proofs.ShapeLemmas.{value_shape, allowed_fits, untyped_not}
-use Rattle.kc_config_file.proofs.SolutionLemmas.{allowed_defined, mentioned}
-use Rattle.kc_config_file.proofs.SymbolLineLemmas.{FitsLine, IsOf, symbol_gives, symbol_line, own}
+use Rattle.kc_config_file.proofs.{FilledLemmas.{Holds, IsCandidate, contains_cases, contains_here, filled_member, filled_none, filled_symbol, in_flat_map, no_element, to_flat_map}, ShapeLemmas.{allowed_fits, value_shape}}
+use Rattle.kc_input.proofs.{DefinedLemmas.{allowed_defined, mentioned, untyped_not}, GivesLemmas.{Gives, gives_all, gives_nothing}, SymbolLineLemmas.{FitsLine, IsOf, own, symbol_gives, symbol_line}}
 
 -- Symbols by number.
 pub there : {X : Type 0} (xs : List X) (i : ℕ) → i < length xs → (x : X) × (slice_get xs i ≡ Some x)

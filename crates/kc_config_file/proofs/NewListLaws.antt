@@ -1,56 +1,18 @@
 -- What reading the list of new symbols gives.
-use Rattle.std.proofs.Common.{◌≡◌, ◌↔◌, ℕ, ◌+◌, ◌<◌, ◌≤◌, suc, List, [], ◌∷◌, ◌++◌, Bool, true, false, not, length, get_or, eqb, cond, refl, sym, ap, ◌∙◌, subst, arith, inl, inr, Option, Some, None, append_assoc, append-nil, codes}
-use Rattle.std.specs.Prelude.{◌&&◌, is_some, nat_le, option_map, slice_get, slice_index_or}
-use Rattle.std.specs.List.{Contains, cons_option, filter_map, flat_map, last_or, list_any}
-use Rattle.std.specs.Option.{option_and_then, option_map_or}
-use Rattle.std.specs.Str.Lines.{strip_carriage_return}
-use Rattle.std.proofs.lemmas.Bool.{and_from, and_parts, cases_Bool, eqb-false, eqb-true, eq-eqb, le-leb, lt-ltb, true≢false}
-use Rattle.std.proofs.lemmas.List.{get_or-replicate, get_or-set_other, get_or-set_same, length-append, length-replicate}
-use Rattle.std.proofs.lemmas.List.Elements.{All-append}
-use Rattle.std.proofs.lemmas.List.Folds.{list_any_none}
-use Rattle.std.proofs.lemmas.Option.{slice_get-get_or}
-use Rattle.kc_language.specs.Expressions.{SymbolValue, Truth, TextValue, greater, symbol}
-use Rattle.kc_language.specs.Lines.{is_line_feed}
-use Rattle.kc_language.specs.Text.{escape, hex_of, int_of}
-use Rattle.kc_language.specs.declared.expressions.SymId.{SymId}
-use Rattle.kc_language.specs.declared.expressions.SymbolType.{SymbolType}
+use Rattle.std.proofs.{Common.{Bool, List, None, Option, Some, [], ap, append-nil, append_assoc, arith, codes, cond, eqb, false, get_or, inl, inr, length, not, refl, subst, suc, sym, true, ℕ, ◌++◌, ◌+◌, ◌<◌, ◌↔◌, ◌∙◌, ◌∷◌, ◌≡◌, ◌≤◌}, lemmas.{Bool.{and_from, and_parts, cases_Bool, eq-eqb, eqb-false, eqb-true, le-leb, lt-ltb, true≢false}, List.{Elements.All-append, Folds.list_any_none, get_or-replicate, get_or-set_other, get_or-set_same, length-append, length-replicate}, Option.slice_get-get_or}}
+use Rattle.std.specs.{List.{Contains, cons_option, filter_map, flat_map, last_or, list_any}, Option.{option_and_then, option_map_or}, Prelude.{is_some, nat_le, option_map, slice_get, slice_index_or, ◌&&◌}, Str.Lines.strip_carriage_return}
+use Rattle.kc_language.specs.{ConfigFile.{ArePlacesOf, Assignment, Assigns, Effect, Line, Notation, Places, ReadResult, Silent, UserInput, Warns, effect, effect_of, input_after, is_prefix, is_within, lines_from, no_input, place_at, places_given, reading, reading_of, stream_location, unset_name, warning}, Expressions.{SymbolValue, TextValue, Truth, greater, symbol}, Lines.is_line_feed, Symbols.{SymbolFacts, TreeFacts}, Text.{escape, hex_of, int_of}, Texts.{HasShortStrings, IsOneSolution, config_file_line, has_value, new_text, symbol_new, valuation_view}, Values.{ChoicePlace, GivenText, GivenValue, Member, Solves, SymbolPlace, UserPlace, changes_on_reread, equations, facts, given_of, is_chosen, is_new, is_yes, known_from, name as name_of, name_count, rhs, user_place}, declared.expressions.{SymId.SymId, SymbolType.SymbolType, Tri.TheVariants.{N, Y}}}
 use Rattle.kc_language.specs.declared.expressions.SymbolType.TheVariants as symbol_type
-use Rattle.kc_language.specs.declared.expressions.Tri.TheVariants.{N, Y}
-use Rattle.kc_language.specs.Symbols.{SymbolFacts, TreeFacts}
 use Rattle.kc_language.specs.Values as v
-use Rattle.kc_language.specs.Values.{ChoicePlace, GivenText, GivenValue, Member, Solves, SymbolPlace, UserPlace, changes_on_reread, equations, facts, given_of, is_chosen, is_new, is_yes, known_from, name as name_of, name_count, rhs, user_place}
-use Rattle.kc_language.specs.ConfigFile.{ArePlacesOf, Assignment, Assigns, Effect, Line, Notation, Places, ReadResult, Silent, UserInput, Warns, effect, effect_of, input_after, is_prefix, is_within, lines_from, no_input, place_at, places_given, reading, reading_of, stream_location, unset_name, warning}
-use Rattle.kc_language.specs.Texts.{HasShortStrings, IsOneSolution, config_file_line, has_value, new_text, symbol_new, valuation_view}
 use Rattle.kc_text.specs.PartsOfText.{one_more}
-use Rattle.kc_user.specs.PartsOfConfigFile.{member_place, no_places}
-use Rattle.kc_user.specs.Places.{allowed, allowed_by, allowed_for, is_m}
-use Rattle.kc_values.specs.GivenLines.{is_listed, listed_place}
-use Rattle.kc_values.specs.Laws.{EquationsReadNeeds, NeedsAreSymbols, NewLinesKeep, SolutionsAgree}
-use Rattle.kc_values.specs.Members.{MembersAreBools, MembersAreTheirs}
+use Rattle.kc_user.specs.{PartsOfConfigFile.{member_place, no_places}, Places.{allowed, allowed_by, allowed_for, is_m}}
+use Rattle.kc_values.specs.{GivenLines.{is_listed, listed_place}, Laws.{EquationsReadNeeds, NeedsAreSymbols, NewLinesKeep, SolutionsAgree}, Members.{MembersAreBools, MembersAreTheirs}, PartsOfValues.by_choice}
 use Rattle.kc_values.specs.PartsOfValues as v_parts
-use Rattle.kc_values.specs.PartsOfValues.{by_choice}
-use Rattle.kc_values.proofs.FixedLines.{Sel, place_cases}
-use Rattle.kc_values.proofs.IdempotentLines.{upgrade_allowed}
-use Rattle.kc_values.proofs.ModeLaws.{members_are_bools, members_are_theirs}
-use Rattle.kc_values.proofs.NewLines.{new_from, new_parts}
-use Rattle.kc_config_file.specs.HasNames.{HasNames}
-use Rattle.kc_config_file.specs.PartsOfConfigFile.{assignment_of, chosen_in, choice_of, given_to, is_this_choice, line, trimmed}
-use Rattle.kc_config_file.specs.PartsOfTexts.{IsOneLine}
-use Rattle.kc_config_file.specs.Reading.{with_warnings}
+use Rattle.kc_values.proofs.{FixedLines.{Sel, place_cases}, IdempotentLines.upgrade_allowed, ModeLaws.{members_are_bools, members_are_theirs}, NewLines.{new_from, new_parts}}
+use Rattle.kc_input.specs.{HasNames.HasNames, PartsOfConfigFile.{assignment_of, choice_of, chosen_in, given_to, is_this_choice, line, trimmed}, PartsOfTexts.IsOneLine, Reading.with_warnings}
 use Rattle.kc_config_file.specs.WrittenLaws.{IsSolutionOf, NewListGivesBack}
-use Rattle.kc_config_file.proofs.CommentLemmas.{comment_says, unset_not_last}
-use Rattle.kc_config_file.proofs.EscapeLemmas.{escape_longer}
-use Rattle.kc_config_file.proofs.FilledLemmas.{contains_here, contains_later, contains_cases, get_each, in_flat_map, last_none, last_same, no_element, to_flat_map}
-use Rattle.kc_config_file.proofs.GivesLemmas.{Gives}
-use Rattle.kc_config_file.proofs.LineLemmas.{HasNoLf, is_within-line, lines_from-last, lines_from-lf}
-use Rattle.kc_config_file.proofs.MinimalTextLemmas.{choice_by_place, choice_there, selected_yes, yes_selected}
-use Rattle.kc_config_file.proofs.PlaceLemmas.{places_given-append, places_given-nothing, places_given-one}
-use Rattle.kc_config_file.proofs.ReadingLemmas.{reading-nothing, reading_long, reading_within}
-use Rattle.kc_config_file.proofs.RoundTripLemmas.{strip_solid, trimmed-solid}
-use Rattle.kc_config_file.proofs.ShapeLemmas.{allowed_fits, untyped_not, value_shape}
-use Rattle.kc_config_file.proofs.SolutionLemmas.{has_names, mentioned}
-use Rattle.kc_config_file.proofs.SymbolLineLemmas.{IsOf, full_no_lf, no_lf_check, own, short_prefix, symbol_gives, symbol_line}
-use Rattle.kc_config_file.proofs.ValueTextLemmas.{fits_known, fits_parts, values_fit}
+use Rattle.kc_config_file.proofs.{CommentLemmas.{comment_says, unset_not_last}, FilledLemmas.{contains_cases, contains_here, contains_later, get_each, in_flat_map, last_none, last_same, no_element, to_flat_map}, MinimalTextLemmas.{choice_by_place, choice_there, selected_yes, yes_selected}, ShapeLemmas.{allowed_fits, value_shape}, ValueTextLemmas.{fits_known, fits_parts, values_fit}}
+use Rattle.kc_input.proofs.{DefinedLemmas.{has_names, mentioned, untyped_not}, EscapeLemmas.escape_longer, GivesLemmas.Gives, LineLemmas.{HasNoLf, is_within-line, lines_from-last, lines_from-lf}, PlaceLemmas.{places_given-append, places_given-nothing, places_given-one}, ReadingLemmas.{reading-nothing, reading_long, reading_within}, RoundTripLemmas.{strip_solid, trimmed-solid}, SymbolLineLemmas.{IsOf, full_no_lf, no_lf_check, own, short_prefix, symbol_gives, symbol_line}}
 
 -- ---- assignments in places
 

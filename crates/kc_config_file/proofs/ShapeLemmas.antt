@@ -1,25 +1,12 @@
 -- What a value is by the type of its symbol, and when its text fits a line.
-use Rattle.std.proofs.Common.{◌≡◌, ℕ, ◌+◌, List, true, false, not, length, refl, sym, ap, ◌∙◌, subst, arith, inl, inr, ◌⊎◌, Option, Some, None}
-use Rattle.std.specs.Prelude.{is_some, nat_le}
-use Rattle.std.specs.List.{list_any}
-use Rattle.std.proofs.lemmas.Bool.{leb-true, and_parts, not-true, true≢false}
-use Rattle.std.proofs.lemmas.List.Folds.{list_any_at}
-use Rattle.kc_language.specs.Lines.{is_line_feed}
-use Rattle.kc_language.specs.Text.{escape, int_of, hex_of}
-use Rattle.kc_language.specs.declared.expressions.SymId.{SymId}
-use Rattle.kc_language.specs.declared.expressions.SymbolType.{SymbolType}
+use Rattle.std.proofs.{Common.{List, None, Option, Some, arith, inl, inr, length, not, refl, subst, sym, true, ℕ, ◌+◌, ◌≡◌, ◌⊎◌}, lemmas.Bool.{and_parts, leb-true, not-true}}
+use Rattle.std.specs.{List.list_any, Prelude.{is_some, nat_le}}
+use Rattle.kc_language.specs.{Expressions.{SymbolValue, TextValue, Truth}, Lines.is_line_feed, Symbols.{SymbolFacts, TreeFacts}, Text.{escape, hex_of, int_of}, Values.{GivenText, GivenValue, facts, given_of}, declared.expressions.{SymId.SymId, SymbolType.SymbolType}}
 use Rattle.kc_language.specs.declared.expressions.SymbolType.TheVariants as symbol_type
-use Rattle.kc_language.specs.Expressions.{SymbolValue, Truth, TextValue}
-use Rattle.kc_language.specs.Symbols.{TreeFacts, SymbolFacts}
-use Rattle.kc_language.specs.Values.{GivenValue, GivenTruth, GivenText, Member, given_of, facts}
 use Rattle.kc_user.specs.Places.{allowed_by}
-use Rattle.kc_values.specs.Members.{MembersAreBools}
+use Rattle.kc_values.specs.{Members.MembersAreBools, PartsOfValues.by_choice}
 use Rattle.kc_language.specs.Values as v
-use Rattle.kc_config_file.proofs.LineLemmas.{HasNoLf}
-use Rattle.kc_config_file.proofs.SymbolLineLemmas.{IsOf, FitsLine}
-use Rattle.kc_config_file.proofs.TextBytes.{int_bytes, hex_bytes, number_plain, number_no_lf}
-use Rattle.std.proofs.lemmas.Bool.{false_from_ne_true}
-use Rattle.kc_values.specs.PartsOfValues.{by_choice}
+use Rattle.kc_input.proofs.{LineLemmas.no_line_feed, SymbolLineLemmas.{FitsLine, IsOf}, TextBytes.{hex_bytes, int_bytes, number_no_lf, number_plain}}
 
 module _ (tree : TreeFacts) (known : SymId → SymbolValue) (s : SymId) (f : SymbolFacts) where
   -- a symbol without a type, or a value of its type
@@ -39,9 +26,6 @@ module _ (tree : TreeFacts) (known : SymId → SymbolValue) (s : SymId) (f : Sym
   value_shape user at bools = rw at (choice_shape f.choice user (λ c is. bools s f c at is))
 
 -- an allowed text fits a line
-pub no_line_feed : (text : List ℕ) → list_any is_line_feed text ≡ false → HasNoLf text
-no_line_feed text none = λ k d lt. false_from_ne_true _ (λ e. true≢false (sym (list_any_at is_line_feed text k d lt e) ∙ none))
-
 text_fits : (kd l : SymbolType) (text : List ℕ) → IsOf kd (TextValue l text) → allowed_by kd (GivenText text) ≡ true → FitsLine (TextValue l text)
 text_fits symbol_type.Undefined l text of ok = absurd of
 text_fits symbol_type.Bool l text of ok = absurd of
@@ -62,12 +46,3 @@ text_fits symbol_type.Hex l text of ok =
 pub allowed_fits : (kd : SymbolType) (known : SymbolValue) → IsOf kd known → allowed_by kd (given_of known) ≡ true → FitsLine known
 allowed_fits kd (Truth t) of ok = tt
 allowed_fits kd (TextValue l text) of ok = text_fits kd l text of ok
-
--- nothing is allowed for a symbol without a type
-pub untyped_not : (kd : SymbolType) (g : GivenValue) → kd ≡ symbol_type.Undefined → allowed_by kd g ≡ true → ⊥
-untyped_not kd g is ok = none g (sym (ap (λ k. allowed_by k g) is) ∙ ok)
-  where
-    none : (g : GivenValue) → allowed_by symbol_type.Undefined g ≡ true → ⊥
-    none (GivenTruth t) e = true≢false (sym e)
-    none (GivenText t) e = true≢false (sym e)
-    none (Member m) e = true≢false (sym e)

@@ -1,34 +1,14 @@
 -- The lines of a written text are not too long to be read again.
-use Rattle.std.proofs.Common.{◌≡◌, ℕ, ◌+◌, ◌<◌, ◌≤◌, List, [], ◌∷◌, ◌++◌, Bool, true, false, length, take, cond, refl, sym, ap, ◌∙◌, subst, arith, Option, Some, None, append_assoc, append-nil, codes}
-use Rattle.std.specs.Prelude.{All, slice_get}
-use Rattle.std.specs.List.{Contains, enumerate_from, flat_map}
-use Rattle.std.proofs.lemmas.Bool.{lt-ltb}
-use Rattle.std.proofs.lemmas.List.{length-append}
-use Rattle.std.proofs.lemmas.List.Elements.{All-append, All-cons, All-nil}
-use Rattle.std.proofs.lemmas.Option.{slice_get-get_or}
-use Rattle.kc_language.specs.Lines.{is_line_feed}
-use Rattle.kc_language.specs.Text.{escape}
+use Rattle.std.proofs.{Common.{Bool, List, None, Option, Some, [], ap, append-nil, append_assoc, arith, codes, cond, false, length, refl, subst, sym, take, true, ℕ, ◌++◌, ◌+◌, ◌<◌, ◌∙◌, ◌∷◌, ◌≡◌, ◌≤◌}, lemmas.{Bool.lt-ltb, List.{Elements.{All-append, All-cons, All-nil}, length-append}, Option.slice_get-get_or}}
+use Rattle.std.specs.{List.{Contains, enumerate_from, flat_map}, Prelude.{All, slice_get}}
+use Rattle.kc_language.specs.{ConfigFile.{Line, Notation, is_prefix, is_within, lines_from}, Expressions.{SymbolValue, TextValue, Truth}, Lines.is_line_feed, Symbols.{CommentShown, EndShown, MenuShown, Shown, SymbolShown, TreeFacts}, Text.escape, Texts.{HasShortLines, SolutionView, config_file_line, config_text, end_is_last, entry_text, is_shown, minimal_text, shown_title, symbol_config, title_lines, valuation_view}, Values.{GivenValue, UserPlace, known_from, name as name_of, name_count}, declared.expressions.{SymId.SymId, Tri.TheVariants.{M, N, Y}}}
 use Rattle.kc_text.specs.PartsOfText.{one_more}
-use Rattle.kc_language.specs.declared.expressions.SymId.{SymId}
-use Rattle.kc_language.specs.declared.expressions.Tri.TheVariants.{N, M, Y}
 use Rattle.kc_language.specs.declared.expressions.SymbolType.TheVariants as symbol_type
-use Rattle.kc_language.specs.Expressions.{SymbolValue, Truth, TextValue}
-use Rattle.kc_language.specs.Symbols.{TreeFacts, Shown, SymbolShown, MenuShown, EndShown, CommentShown}
-use Rattle.kc_tree.specs.TreeFacts.{IsLineText, IsWellFormed, OfTitles}
-use Rattle.kc_language.specs.Values.{GivenValue, UserPlace, name_count, known_from, name as name_of}
-use Rattle.kc_config_file.specs.HasNames.{HasNames}
-use Rattle.kc_language.specs.Texts.{HasShortLines, valuation_view, config_file_line, config_text, title_lines, shown_title, symbol_config, end_is_last, entry_text, minimal_text, SolutionView, is_shown}
-use Rattle.kc_config_file.specs.PartsOfTexts.{between_quotes, title_line, config_heading, end_line, end_if, gap, entries_text, minimal_if}
-use Rattle.kc_language.specs.ConfigFile.{Notation, is_prefix, Line, is_within, lines_from}
-use Rattle.kc_config_file.specs.PartsOfConfigFile.{line}
-use Rattle.kc_config_file.proofs.FilledLemmas.{contains_here, contains_later}
-use Rattle.kc_config_file.proofs.LineLemmas.{HasNoLf, lines_from-lf, lines_from-last, is_within-line}
-use Rattle.kc_config_file.proofs.MinimalTextLemmas.{there}
-use Rattle.kc_config_file.proofs.EscapeLemmas.{escape_longer}
-use Rattle.kc_config_file.proofs.RoundTripLemmas.{between_short}
-use Rattle.kc_config_file.proofs.SolutionLemmas.{has_names, mentioned}
-use Rattle.kc_config_file.proofs.SymbolLineLemmas.{between_no_lf, no_lf_check, full_no_lf, short_prefix}
-use Rattle.kc_config_file.proofs.ValueTextLemmas.{fits_known, fits_parts}
+use Rattle.kc_entries.specs.WellFormed.{IsLineText, IsWellFormed, OfTitles}
+use Rattle.kc_input.specs.{HasNames.HasNames, PartsOfConfigFile.{between_quotes, line}}
+use Rattle.kc_config_file.specs.PartsOfTexts.{config_heading, end_if, end_line, entries_text, gap, minimal_if, title_line}
+use Rattle.kc_config_file.proofs.{FilledLemmas.{contains_here, contains_later}, MinimalTextLemmas.there, ValueTextLemmas.{fits_known, fits_parts}}
+use Rattle.kc_input.proofs.{DefinedLemmas.{has_names, mentioned}, EscapeLemmas.escape_longer, LineLemmas.{HasNoLf, is_within-line, lines_from-last, lines_from-lf}, RoundTripLemmas.between_short, SymbolLineLemmas.{between_no_lf, full_no_lf, no_lf_check, short_prefix}}
 
 abbrev Within : Line → Type 0
 Within l = is_within l ≡ true

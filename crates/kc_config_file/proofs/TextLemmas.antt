@@ -1,23 +1,8 @@
 -- Texts that are handed out symbol by symbol and entry by entry.
-use Rattle.std.proofs.Common.{◌≡◌, ℕ, ◌+◌, ◌<◌, ◌≤◌, List, [], ◌∷◌, ◌++◌, Bool, true, false, length, map, drop, get_or, refl, sym, ap, ◌∙◌, arith, Some, append_assoc, append-nil, length-append}
-use Rattle.std.specs.Prelude.{slice_get, option_map}
-use Rattle.std.specs.List.{flat_map}
-use Rattle.std.proofs.lemmas.List.{drop_more, drop_all}
-use Rattle.std.proofs.lemmas.Option.{get_or_from_slice_get, slice_get-get_or, slice_get_read, slice_get_within, slice_get-map}
-use Rattle.kc_language.specs.ConfigFile.{Notation}
-use Rattle.kc_language.specs.declared.expressions.SymId.{SymId}
-use Rattle.kc_language.specs.Expressions.{SymbolValue}
-use Rattle.kc_language.specs.Symbols.{TreeFacts, Shown, SymbolShown, MenuShown, EndShown, CommentShown}
-use Rattle.kc_tree.specs.TreeFacts.{IsWellFormed, IsEntrySound}
-use Rattle.kc_tree.specs.Layouts.{IsLayoutOf, shown_of}
-use Rattle.kc_tree.specs.declared.layout.Layout.{Layout}
-use Rattle.kc_tree.specs.declared.layout.Tables.{Tables}
-use Rattle.kc_tree.specs.declared.rows.ShownEntry.{ShownEntry}
-use Rattle.kc_config_file.specs.Named.{HasName}
-use Rattle.kc_language.specs.Values.{name as name_of}
-use Rattle.kc_language.specs.Texts.{config_file_line, header_line, entry_text, symbol_new, SolutionView}
-use Rattle.kc_config_file.specs.PartsOfTexts.{header_if, minimal_if, new_if, gap}
-use Rattle.kc_config_file.specs.EntryTexts.{ends_after, entries_after}
+use Rattle.std.proofs.{Common.{Bool, List, Some, [], ap, append-nil, append_assoc, arith, drop, false, length, length-append, refl, sym, true, ℕ, ◌++◌, ◌+◌, ◌<◌, ◌∙◌, ◌≡◌, ◌≤◌}, lemmas.{List.{drop_all, drop_more}, Option.{get_or_from_slice_get, slice_get_within}}}
+use Rattle.std.specs.{List.flat_map, Prelude.slice_get}
+use Rattle.kc_language.specs.{ConfigFile.Notation, Expressions.SymbolValue, Symbols.{SymbolShown, TreeFacts}, Texts.{SolutionView, config_file_line, entry_text, header_line, symbol_new}, Values.name as name_of, declared.expressions.SymId.SymId}
+use Rattle.kc_config_file.specs.PartsOfTexts.{gap, header_if, minimal_if, new_if}
 
 -- a text grows by the next part of what is still to come
 pub grows : (whole text grown part rest more : List ℕ) → text ++ rest ≡ whole → rest ≡ part ++ more → grown ≡ text ++ part → grown ++ more ≡ whole
@@ -68,53 +53,8 @@ module _ (tree : TreeFacts) (f : SymId → List ℕ) where
   pub symbols_end : (n : ℕ) → length tree.defined ≤ n → flat_map f (drop n tree.defined) ≡ []
   symbols_end n all = rw (drop_all n tree.defined all) refl
 
--- a defined symbol has a name
-pub defined_named : (tree : TreeFacts) → IsWellFormed tree → (i : ℕ) (s : SymId) → slice_get tree.defined i ≡ Some s → s.0 < length tree.names
-defined_named tree formed i s at =
-    let there = formed.defined_there i s (slice_get_within tree.defined i s at) in
-    let same : (get_or tree.defined i s).0 ≡ s.0 = ap (λ (t : SymId). t.0) (get_or_from_slice_get tree.defined i s s at) in
-    omega (arith, there, same, formed.symbols_named)
-
 module _ (tree : TreeFacts) (prefix : Notation) (solution : SolutionView) where
   -- the line of a symbol that is written
   pub symbol-written : (after_end : Bool) (s : SymId) (name : List ℕ) (known : SymbolValue) → solution.written s ≡ true → slice_get tree.names s.0 ≡ Some name → known ≡ solution.value s →
       gap after_end ++ config_file_line prefix.is_raw (prefix.prefix ++ name) known ≡ entry_text tree prefix solution after_end (SymbolShown s)
   symbol-written after_end s name known written found value = rw (written, name_is tree s name found, value) refl
-
-  module _ (t : Tables) where
-    -- one entry more
-    pub entries_next : (entries : List ShownEntry) (i : ℕ) (entry : ShownEntry) (after_end next : Bool) → i < length entries → entry ≡ get_or entries i entry →
-        next ≡ ends_after tree solution after_end (shown_of t entry) →
-        entries_after tree prefix solution after_end (map (shown_of t) (drop i entries)) ≡
-        entry_text tree prefix solution after_end (shown_of t entry) ++ entries_after tree prefix solution next (map (shown_of t) (drop (i + 1) entries))
-    entries_next entries i entry after_end next lt is goes =
-        let e : drop i entries ≡ entry ∷ drop (i + 1) entries = drop_more entries i entry lt ∙ ap (λ (x : ShownEntry). x ∷ drop (i + 1) entries) (sym is) in
-        rw (e, goes) refl
-
-    -- no entry more
-    pub entries_end : (entries : List ShownEntry) (i : ℕ) (after_end : Bool) → length entries ≤ i → entries_after tree prefix solution after_end (map (shown_of t) (drop i entries)) ≡ []
-    entries_end entries i after_end end = rw (drop_all i entries end) refl
-
--- a symbol among the entries is defined, so that it has a name
-module _ (tree : TreeFacts) (formed : IsWellFormed tree) where
-  shown_has_name : (i : ℕ) (shown : Shown) → IsEntrySound tree i shown → HasName tree shown
-  shown_has_name i (SymbolShown s) (k, lt, is) = defined_named tree formed k s (slice_get-get_or tree.defined k s lt ∙ ap Some is)
-  shown_has_name i (MenuShown text when) sound = tt
-  shown_has_name i (EndShown menu) sound = tt
-  shown_has_name i (CommentShown text when) sound = tt
-
-  pub entry_has_name : (i : ℕ) (shown : Shown) → slice_get tree.entries i ≡ Some shown → HasName tree shown
-  entry_has_name i shown found = shown_has_name i shown (formed.entries_sound i shown found)
-
--- an entry by its number, and by its row
-pub entry_at : (tree : TreeFacts) (l : Layout) (entries : List ShownEntry) (i : ℕ) (entry : ShownEntry) → IsLayoutOf tree l → entries ≡ l.tables.entries.items →
-    i < length entries → entry ≡ get_or entries i entry →
-    slice_get tree.entries i ≡ Some (shown_of l.tables entry)
-entry_at tree l entries i entry laid are lt is =
-    let here : slice_get entries i ≡ Some entry = slice_get_read entries (length entries) i entry refl lt is in
-    ap (λ es. slice_get es i) laid.entries ∙ slice_get-map (shown_of l.tables) l.tables.entries.items i
-    ∙ ap (option_map (shown_of l.tables)) (sym (ap (λ es. slice_get es i) are) ∙ here)
-
--- the entries are shown by their rows
-pub entries_are : (tree : TreeFacts) (l : Layout) (entries : List ShownEntry) → IsLayoutOf tree l → entries ≡ l.tables.entries.items → tree.entries ≡ map (shown_of l.tables) entries
-entries_are tree l entries laid are = laid.entries ∙ sym (ap (map (shown_of l.tables)) are)

@@ -1,42 +1,17 @@
 -- The texts of the values fit a line.
-use Rattle.std.proofs.Common.{◌≡◌, ℕ, ◌+◌, ◌*◌, ◌<◌, ◌≤◌, zero, suc, List, [], ◌∷◌, ◌++◌, Bool, true, false, not, length, get_or, eqb, cond, refl, sym, ap, ◌∙◌, arith, inl, inr, Option, Some, None, ℤ, pos, negsuc, codes, unwrap_or, ◌%◌, ◌/◌}
-use Rattle.std.specs.Prelude.{◌||◌, ◌==◌, ◌&&◌, All, is_some, nat_le, unsigned_abs, int_lt}
-use Rattle.std.specs.Fmt.{digits, digits_onto, digit_glyph, signed_decimal}
-use Rattle.std.specs.List.{Contains, list_any}
-use Rattle.std.proofs.lemmas.Bool.{and_parts, and_from, le-leb, leb-true, lt-ltb, le-ltb, true≢false, or_parts, ne_eqb, not-true, false_from_ne_true, cases_lt}
-use Rattle.std.proofs.lemmas.List.{get_or_past}
-use Rattle.std.proofs.lemmas.List.Elements.{All-cons, All-nil}
-use Rattle.std.proofs.lemmas.List.Folds.{list_any_at, list_any_none}
-use Rattle.std.proofs.lemmas.List.FromFn.{length-map-range_with_len}
-use Rattle.std.proofs.lemmas.Option.{slice_get-get_or}
-use Rattle.kc_language.specs.Lines.{is_line_feed}
-use Rattle.kc_language.specs.Text.{escape, int_of, hex_of}
-use Rattle.kc_language.specs.declared.expressions.SymId.{SymId}
-use Rattle.kc_language.specs.declared.expressions.Tri.{Tri}
-use Rattle.kc_language.specs.declared.expressions.Tri.TheVariants.{N, M, Y}
-use Rattle.kc_language.specs.declared.expressions.SymbolType.{SymbolType}
+use Rattle.std.proofs.{Common.{Bool, List, None, Option, Some, [], ap, arith, codes, cond, eqb, false, get_or, inl, inr, length, negsuc, not, pos, refl, suc, sym, true, unwrap_or, zero, ℕ, ℤ, ◌%◌, ◌*◌, ◌++◌, ◌+◌, ◌/◌, ◌<◌, ◌∙◌, ◌∷◌, ◌≡◌, ◌≤◌}, lemmas.{Bool.{and_from, and_parts, cases_lt, false_from_ne_true, le-leb, le-ltb, leb-true, lt-ltb, ne_eqb, not-true, or_parts, true≢false}, List.{Elements.{All-cons, All-nil}, Folds.{list_any_at, list_any_none}, FromFn.length-map-range_with_len, get_or_past}, Option.slice_get-get_or}}
+use Rattle.std.specs.{Fmt.{digit_glyph, digits, digits_onto, signed_decimal}, List.{Contains, list_any}, Prelude.{All, int_lt, is_some, nat_le, unsigned_abs, ◌&&◌, ◌==◌, ◌||◌}}
+use Rattle.kc_language.specs.{Expressions.{Every, Form, LoneM, Negated, Related, Single, Some_of, Symbol, SymbolValue, Text, TextValue, Truth, symbol, tri_text}, Lines.is_line_feed, Needs.{IsAccepted, needs, needs_in, needs_of, unordered_after}, Symbols.{Guarded, SymbolFacts, TreeFacts}, Text.{escape, hex_of, int_of}, Texts.HasPlainNumbers, Values.{GivenText, GivenTruth, GivenValue, Member, Solves, SymbolPlace, UserPlace, clamped, equations, facts, if_within_range, is_n, is_within_range, known_from, name, name_count, number_or_zero, number_text, user_place, written}, declared.{expressions.{SymId.SymId, SymbolType.SymbolType, Tri.{TheVariants.{M, N, Y}, Tri}}, values.Interval.Interval}}
 use Rattle.kc_language.specs.declared.expressions.SymbolType.TheVariants as symbol_type
-use Rattle.kc_language.specs.Expressions.{Form, Text, Symbol, Single, Related, Negated, LoneM, Every, Some_of, symbol, SymbolValue, Truth, TextValue, tri_text}
 use Rattle.kc_expr.specs.PartsOfExpressions.{text_of_value}
-use Rattle.kc_language.specs.Needs.{needs_in, unordered_after, needs, needs_of, IsAccepted}
-use Rattle.kc_language.specs.Values.{Solves, GivenValue, GivenTruth, GivenText, Member, UserPlace, SymbolPlace, facts, name, number_text, is_within_range, clamped, if_within_range, number_or_zero, name_count, known_from, user_place, equations, is_n, written}
-use Rattle.kc_values.specs.PartsOfValues.{is_mentioned}
-use Rattle.kc_language.specs.Symbols.{TreeFacts, SymbolFacts, Guarded}
-use Rattle.kc_tree.specs.TreeFacts.{HasLineTexts, IsLineForm, IsLineText}
-use Rattle.kc_user.specs.Places.{allowed_by, allowed_for, allowed_text, AllowedPlaces}
-use Rattle.kc_language.specs.declared.values.Interval.{Interval}
-use Rattle.kc_values.specs.Laws.{EquationsReadNeeds, NeedsAreSymbols}
+use Rattle.kc_values.specs.{Laws.{EquationsReadNeeds, NeedsAreSymbols}, PartsOfValues.{by_choice, is_mentioned}}
+use Rattle.kc_entries.specs.WellFormed.{HasLineTexts, IsLineForm, IsLineText}
+use Rattle.kc_user.specs.Places.{AllowedPlaces, allowed_by, allowed_for, allowed_text}
 use Rattle.kc_values.specs.PartsOfValues as sol
 use Rattle.kc_language.specs.Values as v
 use Rattle.kc_values.proofs.Selection.{found}
-use Rattle.kc_language.specs.Texts.{HasPlainNumbers}
 use Rattle.kc_config_file.specs.PartsOfTexts.{IsPlainNumber}
-use Rattle.kc_config_file.proofs.EscapeLemmas.{escape_longer}
-use Rattle.kc_config_file.proofs.LineLemmas.{HasNoLf}
-use Rattle.kc_config_file.proofs.ShapeLemmas.{no_line_feed}
-use Rattle.kc_config_file.proofs.SymbolLineLemmas.{FitsLine}
-use Rattle.kc_config_file.proofs.TextBytes.{number_byte, byte_not, int_bytes, hex_bytes}
-use Rattle.kc_values.specs.PartsOfValues.{by_choice}
+use Rattle.kc_input.proofs.{EscapeLemmas.escape_longer, LineLemmas.{HasNoLf, no_line_feed}, SymbolLineLemmas.FitsLine, TextBytes.{byte_not, hex_bytes, int_bytes, number_byte}}
 
 -- The test: no line feed, and at most 65,000 bytes once escaped.
 abbrev pub fits_text : List ℕ → Bool

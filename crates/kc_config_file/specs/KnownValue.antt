@@ -1,8 +1,7 @@
 -- For proofs: The known value of a symbol.
 use Rattle.kc_language.specs.Expressions.{SymbolValue}
 use Rattle.kc_language.specs.Expressions as known
-use Rattle.kc_config_file.specs.declared.symbol_line.WrittenValue.{WrittenValue}
-use Rattle.kc_config_file.specs.declared.symbol_line.WrittenValue.TheVariants.{Truth, TextValue}
+use Rattle.kc_config_file.specs.declared.symbol_line.WrittenValue.{TheVariants.{TextValue, Truth}, WrittenValue}
 
 abbrev pub value_view : WrittenValue → SymbolValue
 value_view (Truth tri) = known.Truth tri

@@ -1,23 +1,10 @@
 -- For proofs: Names for parts of the definitions of Texts.
-use Rattle.std.specs.List.{enumerate_from, flat_map}
-use Rattle.std.specs.Prelude.{Bool, List, None, Option, Some, [], codes, false, if◌then◌else◌, take, true, ℕ, ◌++◌, ◌<◌, ◌==◌, ◌||◌, ◌≡◌}
-use Rattle.kc_language.specs.ConfigFile.{Notation, Places, place_at}
-use Rattle.kc_language.specs.Expressions.{SymbolValue, TextValue}
-use Rattle.kc_text.specs.PartsOfLines.{HoldsNoLineFeed}
-use Rattle.kc_language.specs.Symbols.{CommentShown, EndShown, MenuShown, Shown, SymbolShown, TreeFacts}
-use Rattle.kc_language.specs.{Text.{byte, escape, has_hex_prefix}, Texts.{EndsPlainly, SolutionView, end_is_last, entry_text, header_line, symbol_config, symbol_new, title_lines}}
-use Rattle.kc_language.specs.Tokens.{is_blank}
-use Rattle.kc_language.specs.Values.{Solves, equations, name as name_of, name_count}
-use Rattle.kc_language.specs.declared.expressions.SymId.{SymId}
-use Rattle.kc_language.specs.declared.expressions.SymbolType.TheVariants.{Hex, Int}
+use Rattle.std.specs.{List.{enumerate_from, flat_map}, Prelude.{Bool, List, None, Option, Some, [], codes, false, if◌then◌else◌, take, true, ℕ, ◌++◌, ◌<◌, ◌≡◌}}
+use Rattle.kc_language.specs.{ConfigFile.{Notation, Places, place_at}, Expressions.{SymbolValue, TextValue}, Symbols.{CommentShown, EndShown, MenuShown, Shown, SymbolShown, TreeFacts}, Text.has_hex_prefix, Texts.{EndsPlainly, SolutionView, end_is_last, entry_text, header_line, symbol_config, symbol_new, title_lines}, Values.{Solves, equations, name as name_of, name_count}, declared.expressions.{SymId.SymId, SymbolType.TheVariants.{Hex, Int}}}
 
 -- a hex starts with `0x` in a header
 abbrev pub hex_text : List ℕ → List ℕ
 hex_text text = if has_hex_prefix text then text else codes "0x" ++ text
-
--- a string's text between its quotes
-abbrev pub between_quotes : Bool → List ℕ → List ℕ
-between_quotes is_raw text = if is_raw then text else escape text
 
 abbrev pub config_heading : List ℕ → List ℕ
 config_heading title = codes "#\n# Automatically generated file; DO NOT EDIT.\n# " ++ title ++ codes "\n#\n"
@@ -62,16 +49,8 @@ module _ (tree : TreeFacts) (prefix : Notation) (solution : SolutionView) where
   abbrev pub new_if : SymId → List ℕ
   new_if s = if solution.is_new s then symbol_new tree prefix solution s else []
 
--- a blank or a carriage return
-abbrev pub is_end_byte : ℕ → Bool
-is_end_byte b = is_blank b || b == byte "\r"
-
 abbrev pub IsPlainNumber : SymbolValue → Type 0
 IsPlainNumber v = elim v [ TextValue Int text ↦ EndsPlainly text | TextValue Hex text ↦ EndsPlainly text | _ ↦ Unit {0} ]
-
--- one line, with its line feed
-abbrev pub IsOneLine : List ℕ → Type 0
-IsOneLine text = (body : List ℕ) × (text ≡ body ++ codes "\n") × HoldsNoLineFeed body
 
 -- V is not a solution for these user values
 abbrev pub HasOtherSolution : TreeFacts → Places → (ℕ → SymbolValue) → Type 0

@@ -1,27 +1,8 @@
--- Trusted: Laws of reading, and of the written texts, for every tree, every prefix and every solution.
-use Rattle.std.specs.Prelude.{◌≡◌, ℕ, List, Option, true}
-use Rattle.kc_text.specs.PartsOfLines.{HoldsNoLineFeed}
-use Rattle.kc_language.specs.declared.expressions.SymId.{SymId}
-use Rattle.kc_language.specs.Expressions.{SymbolValue}
-use Rattle.kc_language.specs.Values.{Solves, GivenValue, UserPlace, equations, name_count}
-use Rattle.kc_language.specs.Symbols.{TreeFacts}
-use Rattle.kc_tree.specs.TreeFacts.{IsWellFormed}
-use Rattle.kc_user.specs.Places.{ArePlaces, allowed}
-use Rattle.kc_language.specs.{ConfigFile.{Assigns, Line, Notation, Places, UserInput, effect, effect_of, is_prefix, is_within, meaning_of, place_at}}
-use Rattle.kc_language.specs.Needs.{IsAccepted}
-use Rattle.kc_language.specs.Texts.{ConfigGivesBack, HasShortLines, MinimalGivesBack, MinimalNeedsEach, NewGivesBack, valuation_view, config_text, minimal_text}
-
--- A value that a line assigns to a symbol is allowed for it.
-abbrev pub AssignedAreAllowed : Type 0
-AssignedAreAllowed =
-    (tree : TreeFacts) (prefix : Notation) (bytes : List ℕ) (s : SymId) (given : GivenValue) → HoldsNoLineFeed bytes →
-    effect_of prefix.is_raw tree (meaning_of prefix.prefix bytes) ≡ Assigns s given → allowed tree s given ≡ true
-
--- Every allowed value of a symbol is assigned by some line that is not too long.
-abbrev pub AllowedAreAssigned : Type 0
-AllowedAreAssigned =
-    (tree : TreeFacts) (prefix : Notation) (s : SymId) (given : GivenValue) → IsWellFormed tree → is_prefix prefix.prefix ≡ true → allowed tree s given ≡ true →
-    (l : Line) × (l.ended ≡ true) × HoldsNoLineFeed l.bytes × (is_within l ≡ true) × (effect tree prefix l ≡ Assigns s given)
+-- Trusted: Laws of the written texts, for every tree, every prefix and every solution.
+use Rattle.std.specs.Prelude.{Option, true, ℕ, ◌≡◌}
+use Rattle.kc_language.specs.{ConfigFile.{Notation, Places, UserInput, is_prefix, place_at}, Expressions.SymbolValue, Needs.IsAccepted, Symbols.TreeFacts, Texts.{ConfigGivesBack, HasShortLines, MinimalGivesBack, MinimalNeedsEach, NewGivesBack, config_text, minimal_text, valuation_view}, Values.{GivenValue, Solves, UserPlace, equations, name_count}}
+use Rattle.kc_entries.specs.WellFormed.{IsWellFormed}
+use Rattle.kc_user.specs.Places.{ArePlaces}
 
 -- the values of an accepted tree solve its equations for allowed user values
 pub record IsSolutionOf (tree : TreeFacts) (places : Places) (V : ℕ → SymbolValue) : Type 0 where

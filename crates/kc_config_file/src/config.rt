@@ -1,21 +1,35 @@
 //! The writer of the `.config`.
-ghost use Rattle.std.specs.Prelude.{◌≡◌, ◌++◌, ◌<◌, length, slice_get, Some, is_some, true, false, OnOk, IfOk, if◌then◌else◌};
+
+ghost use Rattle.std.specs.Prelude.{◌≡◌, ◌++◌, ◌<◌, length, slice_get, suc, Some, is_some, true, false, OnOk, IfOk, if◌then◌else◌};
 ghost use Rattle.std.specs.Option.{option_copied};
 ghost use Rattle.kc_language.specs.Symbols.{SymbolShown};
-ghost use Rattle.kc_tree.specs.Layouts.{shown_of, title_at, title_text};
+ghost use Rattle.kc_language.specs.Statements.{ConfigLine};
+ghost use Rattle.kc_solve.specs.Tables.{IsTableOf};
+ghost use Rattle.kc_tree.specs.Layouts.{shown_of};
 ghost use Rattle.kc_language.specs.Texts.{solution_view, shown_title, entry_text, config_text, is_shown};
 ghost use Rattle.kc_config_file.specs.PartsOfTexts.{title_if, end_if, gap, entries_text, config_heading};
-ghost use Rattle.kc_config_file.specs.EntryTexts.{ends_after};
-ghost use Rattle.kc_config_file.specs.Named.{HasName};
+ghost use Rattle.kc_config_file.specs.EntryTexts.{ends_after, ends_behind, shown_at, text_of};
 
-use crate::prefix::Prefix;
 use crate::symbol_line::{add_config_file_line, symbol_value};
-use crate::text::{add_parts, new_text};
+use crate::text::new_text;
+use kc_entries::entries::Entry;
+use kc_entries::statement::Head;
 use kc_expr::expression::{SymId, Tri};
+use kc_input::prefix::Prefix;
+use kc_input::text::add_parts;
 use kc_solve::solved::Solved;
-use kc_tree::layout::Layout;
-use kc_tree::rows::{ShownEntry, TitleId};
+use kc_tree::rows::EntryId;
+use kc_values::conditions::title_condition;
+use kc_values::table::Table;
 use std::alloc::{AllocError, Global};
+
+// What a `.config` is written from: a solution, the table of its values, and the prefix of each name.
+#[derive(Clone, Copy)]
+struct Source<'w> {
+    solved: &'w Solved<'w>,
+    table: &'w Table<'w>,
+    prefix: &'w Prefix,
+}
 
 // Whether the value is not n.
 fn is_shown(tri: Tri) -> bool
@@ -57,30 +71,15 @@ fn add_gap(after_end: bool, file: &mut Vec<u8>) -> Result<(), AllocError>
     file.extend_from_slice(b"\n")
 }
 
-// The text of a title.
-fn text_of(layout: &Layout, title: TitleId) -> &[u8]
-    ensures { result.now ≡ title_text (title_at layout.now.tables title) }
+// The title of the menu of an entry, where it is shown.
+fn shown_title<'w>(source: &Source<'w>, menu: EntryId) -> Option<&'w [u8]>
+    requires { IsTableOf source.now.solved.now source.now.table.now }
+    ensures { option_copied result ≡ shown_title (solution_view source.now.solved.now) (shown_at source.now.table.now.layout.now menu.0) }
 {
-    match layout.title(title) {
-        Some(found) => &found.text,
-        None => b"",
-    }
-}
-
-// The title of the menu of this entry number, if it is shown.
-fn shown_title<'a>(solved: &Solved<'a>, menu: usize) -> Option<&'a [u8]>
-    ensures { option_copied result ≡ shown_title (solution_view solved.now) (slice_get solved.now.tree.entries menu) }
-{
-    let layout = solved.tree().layout();
-    match layout.entries().get(menu) {
-        Some(ShownEntry::Menu(title)) => {
-            if is_shown(solved.shown(menu)) {
-                return Some(text_of(layout, *title));
-            }
-            None
-        }
-        Some(ShownEntry::Symbol(_) | ShownEntry::End(_) | ShownEntry::Comment(_)) => None,
-        None => None,
+    let table = source.table;
+    match table.layout.head(menu) {
+        Some(Head::Menu(text)) if is_shown(title_condition(table, menu)) => Some(text),
+        _ => None,
     }
 }
 
@@ -133,43 +132,62 @@ fn add_end(title: Option<&[u8]>, after_end: bool, file: &mut Vec<u8>) -> Result<
     Ok(title.is_some() || after_end)
 }
 
-// Adds the text of an entry. Returns whether the last line is an end line now.
-fn add_entry(
-    layout: &Layout,
-    solved: &Solved<'_>,
-    prefix: &Prefix,
-    index: usize,
-    entry: &ShownEntry,
+// Adds the line of a symbol at its first definition.
+fn add_definition(
+    source: &Source<'_>,
+    at: EntryId,
+    id: SymId,
     after_end: bool,
     file: &mut Vec<u8>,
 ) -> Result<bool, AllocError>
-    requires there { slice_get solved.now.tree.entries index ≡ Some (shown_of layout.now.tables entry.now) }
-    requires name { HasName solved.now.tree (shown_of layout.now.tables entry.now) }
-    ensures text { OnOk result (file.new.items ≡ file.old.items ++ entry_text solved.now.tree prefix.now (solution_view solved.now) after_end (shown_of layout.now.tables entry.now)) }
-    ensures next { IfOk result (λ next. next ≡ ends_after solved.now.tree (solution_view solved.now) after_end (shown_of layout.now.tables entry.now)) }
+    requires { IsTableOf source.now.solved.now source.now.table.now }
+    ensures text { OnOk result (file.new.items ≡ file.old.items
+        ++ text_of source.now.solved.now.tree source.now.prefix.now (solution_view source.now.solved.now) after_end (shown_of source.now.table.now.layout.now at.0 (Some (ConfigLine id)))) }
+    ensures next { IfOk result (λ next. next
+        ≡ ends_behind source.now.solved.now.tree (solution_view source.now.solved.now) after_end (shown_of source.now.table.now.layout.now at.0 (Some (ConfigLine id)))) }
 {
-    match entry {
-        ShownEntry::Symbol(id) => add_symbol_if(solved, prefix, *id, after_end, file),
-        ShownEntry::Menu(title) | ShownEntry::Comment(title) => {
-            let shown = is_shown(solved.shown(index));
-            add_title(shown, text_of(layout, *title), after_end, file)
+    if !source.table.layout.is_first(at, id) {
+        return Ok(after_end);
+    }
+    add_symbol_if(source.solved, source.prefix, id, after_end, file)
+}
+
+// Adds the text of an entry. Returns whether the last line is an end line now.
+fn add_entry(
+    source: &Source<'_>,
+    i: usize,
+    entry: &Entry,
+    after_end: bool,
+    file: &mut Vec<u8>,
+) -> Result<bool, AllocError>
+    requires table { IsTableOf source.now.solved.now source.now.table.now }
+    requires there { slice_get source.now.table.now.layout.now.entries.first_lines.items i ≡ Some entry.now }
+    ensures text { OnOk result (file.new.items ≡ file.old.items
+        ++ text_of source.now.solved.now.tree source.now.prefix.now (solution_view source.now.solved.now) after_end (shown_at source.now.table.now.layout.now (suc i))) }
+    ensures next { IfOk result (λ next. next
+        ≡ ends_behind source.now.solved.now.tree (solution_view source.now.solved.now) after_end (shown_at source.now.table.now.layout.now (suc i))) }
+{
+    let table = source.table;
+    let at = EntryId::of(i);
+    match &entry.head {
+        Head::Config(id) => add_definition(source, at, *id, after_end, file),
+        Head::Menu(text) | Head::Comment(text) => {
+            add_title(is_shown(title_condition(table, at)), text, after_end, file)
         }
-        ShownEntry::End(menu) => add_end(shown_title(solved, *menu as usize), after_end, file),
+        Head::EndMenu => { add_end(shown_title(source, table.layout.outer(at)), after_end, file) }
+        _ => Ok(after_end),
     }
 }
 
 // Adds the text of the entries.
-fn add_entries(solved: &Solved<'_>, prefix: &Prefix, file: &mut Vec<u8>) -> Result<(), AllocError>
-    ensures { OnOk result (file.new.items ≡ file.old.items ++ entries_text solved.now.tree prefix.now (solution_view solved.now) solved.now.tree.entries) }
+fn add_entries(source: &Source<'_>, file: &mut Vec<u8>) -> Result<(), AllocError>
+    requires { IsTableOf source.now.solved.now source.now.table.now }
+    ensures { OnOk result (file.new.items ≡ file.old.items
+        ++ entries_text source.now.solved.now.tree source.now.prefix.now (solution_view source.now.solved.now) source.now.solved.now.tree.entries) }
 {
-    // The entries name only symbols of the tree: this follows from `symbol_count`.
-    let tree = solved.tree();
-    let _ = tree.symbol_count();
-    let layout = tree.layout();
-    let entries = layout.entries();
     let mut after_end = false;
-    for (index, entry) in entries.iter().enumerate() {
-        after_end = add_entry(layout, solved, prefix, index, entry, after_end, file)?;
+    for (i, entry) in source.table.layout.entries.first_lines.iter().enumerate() {
+        after_end = add_entry(source, i, entry, after_end, file)?;
     }
     Ok(())
 }
@@ -203,6 +221,11 @@ pub fn config_text(
 {
     let mut file = new_text(alloc)?;
     add_heading(solved.tree().main_menu(), &mut file)?;
-    add_entries(solved, prefix, &mut file)?;
+    let source = Source {
+        solved,
+        table: solved.table(),
+        prefix,
+    };
+    add_entries(&source, &mut file)?;
     Ok(file)
 }

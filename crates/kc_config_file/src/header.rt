@@ -4,10 +4,11 @@ ghost use Rattle.kc_language.specs.Texts.{header_text, minimal_text, new_text, s
 ghost use Rattle.kc_config_file.specs.PartsOfTexts.{header_heading, header_if, minimal_if, new_if};
 ghost use Rattle.kc_language.specs.Values.{name_count};
 
-use crate::prefix::Prefix;
 use crate::symbol_line::{add_config_file_line, add_header_line, add_line_of_new, symbol_value};
-use crate::text::{add_parts, new_text};
+use crate::text::new_text;
 use kc_expr::expression::SymId;
+use kc_input::prefix::Prefix;
+use kc_input::text::add_parts;
 use kc_solve::solved::Solved;
 use std::alloc::{AllocError, Global};
 

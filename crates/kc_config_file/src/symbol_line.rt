@@ -1,13 +1,14 @@
 //! A symbol's value, and the line that shows it.
 ghost use Rattle.std.specs.Prelude.{◌≡◌, ◌<◌, ◌++◌, length, OnOk, OnErr, codes, flat_map};
-ghost use Rattle.kc_config_file.specs.{PartsOfTexts.{between_quotes, hex_text}};
-ghost use Rattle.kc_language.specs.{Texts.{config_file_line, has_value, header_line, new_line, solution_view}};
+ghost use Rattle.kc_language.specs.Texts.{config_file_line, has_value, header_line, new_line, solution_view};
+ghost use Rattle.kc_input.specs.PartsOfConfigFile.{between_quotes};
+ghost use Rattle.kc_config_file.specs.PartsOfTexts.{hex_text};
 ghost use Rattle.kc_config_file.specs.KnownValue.{value_view};
 
-use crate::prefix::Prefix;
-use crate::text::{add_between_quotes, add_parts};
 use kc_expr::expression::{SymId, SymbolType, Tri};
 use kc_expr::values::Values;
+use kc_input::prefix::Prefix;
+use kc_input::text::{add_between_quotes, add_parts};
 use kc_solve::solved::Solved;
 use kc_text::{has_hex_prefix, read_hex, read_int};
 use std::alloc::AllocError;

@@ -1,13 +1,10 @@
--- Trusted: Why there is no tree: the text of each error, and its line (our own).
-use Rattle.std.specs.Borrow.{Bor}
-use Rattle.std.specs.Prelude.{ℕ, List}
-use Rattle.std.specs.declared.alloc.Global.{Global}
-use Rattle.std.specs.declared.vec.Vec.{Vec}
+-- Trusted: Why a tree is refused: the text of each error, and its line (our own).
+use Rattle.std.specs.{Borrow.Bor, Prelude.{List, ℕ}, declared.{alloc.Global.Global, vec.Vec.Vec}}
 use Rattle.kc_language.specs.Statements.{Cause}
 use Rattle.kc_language.specs.declared.diagnostics.Cause as declared
 use Rattle.kc_language.specs.declared.diagnostics.Cause.TheVariants as cause
 
--- the same cause, with its name kept otherwise
+-- the same cause, with its name converted
 abbrev pub map_cause : {M N : Type 0} → (M → N) → declared.Cause M → declared.Cause N
 map_cause f (cause.NoFile name) = cause.NoFile (f name)
 map_cause f (cause.InclusionLoop name) = cause.InclusionLoop (f name)

@@ -1,4 +1,4 @@
--- The definitions that the contracts speak in.
+-- The definitions that the contracts use.
 pub mod Causes
 pub mod PartsOfOutcome
 pub mod RunErrors

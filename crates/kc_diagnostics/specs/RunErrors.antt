@@ -1,6 +1,5 @@
--- Trusted: Why a run over an accepted tree fails: the text of each error (our own).
-use Rattle.std.specs.Borrow.{Bor}
-use Rattle.std.specs.Prelude.{ℕ, List}
+-- Trusted: Errors of a run over an accepted tree: the text of each (our own).
+use Rattle.std.specs.{Borrow.Bor, Prelude.{List, ℕ}}
 use Rattle.kc_diagnostics.specs.PartsOfOutcome.{RunError}
 use Rattle.kc_language.specs.declared.diagnostics.RunError as declared
 use Rattle.kc_language.specs.declared.diagnostics.RunError.TheVariants as run

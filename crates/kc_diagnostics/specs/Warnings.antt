@@ -1,13 +1,10 @@
--- Trusted: What there is to warn of: the text of each warning, and its line (our own).
-use Rattle.std.specs.Borrow.{Bor}
-use Rattle.std.specs.Prelude.{ℕ, List}
-use Rattle.std.specs.declared.alloc.Global.{Global}
-use Rattle.std.specs.declared.vec.Vec.{Vec}
+-- Trusted: Warnings: the text of each, and its line (our own).
+use Rattle.std.specs.{Borrow.Bor, Prelude.{List, ℕ}, declared.{alloc.Global.Global, vec.Vec.Vec}}
 use Rattle.kc_language.specs.Symbols.{Warning}
 use Rattle.kc_language.specs.declared.diagnostics.Warning as declared
 use Rattle.kc_language.specs.declared.diagnostics.Warning.TheVariants as warning
 
--- the same warning, with its texts kept otherwise
+-- the same warning, with its texts converted
 abbrev pub map_warning : {M N : Type 0} → (M → N) → declared.Warning M → declared.Warning N
 map_warning f (warning.TypeRedefined name) = warning.TypeRedefined (f name)
 map_warning f (warning.PromptRedefined name) = warning.PromptRedefined (f name)

@@ -1,4 +1,4 @@
-//! Why there is no tree: its text, and copies of it.
+//! Why a tree is refused: the text of the error, and copies of it.
 
 ghost use Rattle.std.specs.Prelude.{◌≡◌, IfOk, flat_map};
 ghost use Rattle.kc_language.specs.Statements.{cause_text};
@@ -7,7 +7,7 @@ ghost use Rattle.kc_diagnostics.specs.Causes.{owned_cause, shown_cause};
 use kc_language::diagnostics::Cause;
 use std::alloc::{AllocError, Global};
 
-/// Returns the same cause with a name of its own. Its only error is to be out of memory.
+/// Returns the same cause with a name of its own. The only error is that memory runs out.
 pub fn owned(cause: Cause<&[u8]>, alloc: Global) -> Result<Cause<Vec<u8>>, AllocError>
     ensures { IfOk result (λ copy. owned_cause copy ≡ shown_cause cause.entry) }
 {
@@ -32,7 +32,7 @@ pub fn owned(cause: Cause<&[u8]>, alloc: Global) -> Result<Cause<Vec<u8>>, Alloc
     })
 }
 
-/// Returns the error's number and text, in parts that stand one after another.
+/// Returns the error's number and text as consecutive parts.
 pub fn cause_parts(cause: &Cause<Vec<u8>>) -> [&[u8]; 3]
     ensures { flat_map (λ part. part.now) result ≡ cause_text (owned_cause cause.now) }
 {

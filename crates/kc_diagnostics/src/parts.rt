@@ -1,10 +1,10 @@
-//! Parts that are added to a text, all of them or none.
+//! Appends parts to a text, all of them or none.
 
 ghost use Rattle.std.specs.Prelude.{◌≡◌, ◌++◌, OnOk, OnErr, flat_map};
 
 use std::alloc::AllocError;
 
-/// Adds the parts to the text, one after another. Its only error is to be out of memory, and then the text is as it was.
+/// Appends the parts to the text, in order. The only error is that memory runs out. Then the text is unchanged.
 pub(crate) fn add_parts(parts: &[&[u8]], text: &mut Vec<u8>) -> Result<(), AllocError>
     ensures whole { OnOk result (text.new.items ≡ text.old.items ++ flat_map (λ part. part.now) parts.now) }
     ensures nothing { OnErr result (text.new.items ≡ text.old.items) }

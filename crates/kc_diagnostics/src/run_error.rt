@@ -1,13 +1,13 @@
-//! Why a run over an accepted tree fails: the text.
+//! The texts of the errors of a run over an accepted tree.
 
 ghost use Rattle.std.specs.Prelude.{◌≡◌, flat_map};
-ghost use Rattle.kc_language.specs.Outcome.{run_error_text};
-ghost use Rattle.kc_language.specs.Outcome.{out_of_memory_line};
+ghost use Rattle.kc_language.specs.Statements.{run_error_text};
+ghost use Rattle.kc_language.specs.Statements.{out_of_memory_line};
 ghost use Rattle.kc_diagnostics.specs.RunErrors.{shown_run_error};
 
 use kc_language::diagnostics::RunError;
 
-/// Returns the error's number and text, in parts that stand one after another.
+/// Returns the error's number and text as consecutive parts.
 pub fn run_error_parts<'a>(error: RunError<&'a [u8]>) -> [&'a [u8]; 3]
     ensures { flat_map (λ part. part.now) result ≡ run_error_text (shown_run_error error.entry) }
 {

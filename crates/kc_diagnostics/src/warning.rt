@@ -1,4 +1,4 @@
-//! What there is to warn of: its text and its line.
+//! The texts and the lines of warnings.
 
 ghost use Rattle.std.specs.Prelude.{◌≡◌, ◌++◌, OnOk, OnErr, take};
 ghost use Rattle.kc_language.specs.declared.diagnostics.Warning.TheVariants.{Changed};
@@ -79,7 +79,7 @@ pub fn borrowed(warning: &Warning<Vec<u8>>) -> Warning<&[u8]>
     }
 }
 
-// Adds the number and the text of K15, or nothing.
+// Appends the number and the text of K15, or nothing if memory runs out.
 fn add_change<'a>(
     name: &'a [u8],
     old: &'a [u8],
@@ -110,7 +110,7 @@ fn add_change<'a>(
     )
 }
 
-// Adds the warning's number and text. Its only error is to be out of memory, and then nothing was added.
+// Appends the warning's number and text. The only error is that memory runs out. Then nothing was appended.
 fn add_text(warning: Warning<&[u8]>, text: &mut Vec<u8>) -> Result<(), AllocError>
     ensures whole { OnOk result (text.new.items ≡ text.old.items ++ warning_text (shown_warning warning.entry)) }
     ensures nothing { OnErr result (text.new.items ≡ text.old.items) }
@@ -241,7 +241,7 @@ fn add_text(warning: Warning<&[u8]>, text: &mut Vec<u8>) -> Result<(), AllocErro
     }
 }
 
-// Adds the warning's number and text to a text, or takes away from it what stands after a length.
+// Appends the warning's number and text to a text. On an error, cuts the text to a length.
 fn add_after(warning: Warning<&[u8]>, before: usize, text: &mut Vec<u8>) -> Result<(), AllocError>
     ensures whole { OnOk result (text.new.items ≡ text.old.items ++ warning_text (shown_warning warning.entry)) }
     ensures nothing { OnErr result (text.new.items ≡ take before text.old.items) }
@@ -255,8 +255,8 @@ fn add_after(warning: Warning<&[u8]>, before: usize, text: &mut Vec<u8>) -> Resu
     }
 }
 
-/// Adds `warning TEXT`, the line of a warning without a location, without its end. Its only error is to be out of memory,
-/// and then nothing was added.
+/// Appends `warning TEXT`, the line of a warning without a location, without its line feed. The only error is that memory runs
+/// out. Then nothing was appended.
 pub fn add_warning(warning: Warning<&[u8]>, text: &mut Vec<u8>) -> Result<(), AllocError>
     ensures whole { OnOk result (text.new.items ≡ text.old.items ++ warning_line (shown_warning warning.entry)) }
     ensures nothing { OnErr result (text.new.items ≡ text.old.items) }
@@ -266,8 +266,8 @@ pub fn add_warning(warning: Warning<&[u8]>, text: &mut Vec<u8>) -> Result<(), Al
     add_after(warning, before, text)
 }
 
-/// Adds `FILE:LINE: warning TEXT`, the line of a warning about a line, without its end. Its only error is to be out of
-/// memory, and then nothing was added.
+/// Appends `FILE:LINE: warning TEXT`, the line of a warning about a line, without its line feed. The only error is that memory
+/// runs out. Then nothing was appended.
 pub fn add_located(
     file: &[u8],
     line: u64,

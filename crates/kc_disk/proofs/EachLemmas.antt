@@ -12,8 +12,8 @@ use Rattle.kc_words.specs.declared.each.Each.{Each}
 use Rattle.kc_words.specs.declared.usage.UsageError.{UsageError}
 use Rattle.kc_conf.specs.Faults.{load_line}
 use Rattle.kc_io.specs.Log.{TriesToSay}
-use Rattle.kc_language.specs.declared.outcome.Status.{Status}
-use Rattle.kc_language.specs.declared.outcome.Status.TheVariants as answered
+use Rattle.kc_outcome.specs.declared.outcome.Status.{Status}
+use Rattle.kc_outcome.specs.declared.outcome.Status.TheVariants as answered
 use Rattle.kc_disk.specs.Program.{AreListed, AreNames, FolderRunsEach, GivesOptions, GivesPieced, clashing, including, loaded, no_memory, no_pieces_for_each, ran_each, unlisted, unloaded, unreadable}
 use Rattle.kc_disk.specs.PartsOfProgram.{SaysClash}
 use Rattle.kc_disk.specs.EachSteps.{FindsNames, RunsLoaded, RunsNamed, as_named, included, not_loaded, ran, with_included}

@@ -1,6 +1,6 @@
 -- A run on a disk may end with a fault, whatever its arguments ask for: there may be no memory for them.
 use Rattle.std.proofs.Common.{◌≡◌, List, None, Some, Ok, String, Global, refl}
-use Rattle.kc_language.specs.declared.outcome.Status.TheVariants.{Faulted}
+use Rattle.kc_outcome.specs.declared.outcome.Status.TheVariants.{Faulted}
 use Rattle.kc_words.specs.declared.usage.UsageError.TheVariants.{Memory}
 use Rattle.kc_disk.specs.Program.{AnswersArguments, none}
 

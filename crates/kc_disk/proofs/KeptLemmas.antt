@@ -1,35 +1,35 @@
 -- The sources of the tree are kept, if the options of all configurations want them.
-use Rattle.std.proofs.Common.{◌≡◌, ℕ, Bool, true, false, List, refl, sym, ap, ◌∙◌, Option, None, Some, String, string_bytes, option_map}
-use Rattle.std.specs.Prelude.{◌&&◌, ◌||◌, is_some}
-use Rattle.std.specs.declared.alloc.Global.{Global}
+use Rattle.std.proofs.Common.{◌≡◌, ℕ, List, [], ◌∷◌, map, refl, sym, ap, ◌∙◌, string_bytes}
+use Rattle.std.specs.List.{list_any}
+use Rattle.std.specs.Prelude.{◌&&◌, slice_index_or}
 use Rattle.kc_conf.specs.Many.{KeepsFor}
 use Rattle.kc_disk.specs.Program.{GivesOptions, GivesPieced}
-use Rattle.kc_language.specs.Outcome.{Options, root_file}
+use Rattle.kc_outcome.proofs.OutputLemmas.{has_kind-kinds, same_output}
+use Rattle.kc_outcome.specs.Outcome.{Options, root_file, wants}
+use Rattle.kc_outcome.specs.declared.outcome.Output.{Output}
+use Rattle.kc_outcome.specs.declared.outcome.WantedOutput.{WantedOutput}
 use Rattle.kc_options.specs.PartsOfOutcome.{wants_sources}
-use Rattle.kc_words.specs.CommandLine.{filled}
+use Rattle.kc_words.specs.CommandLine.{AreOptionsFor, filled}
 use Rattle.kc_words.specs.declared.each.Each.{Each}
 
--- a file is there where its pattern is
-there : (config : List ℕ) (file pattern : Option (String Global)) → option_map string_bytes file ≡ option_map (λ p. filled config (string_bytes p)) pattern → is_some file ≡ is_some pattern
-there config None None e = refl
-there config (Some file) (Some pattern) e = refl
-there config None (Some pattern) e = absurd (let clash : None ≡ Some (filled config (string_bytes pattern)) = e in cc)
-there config (Some file) None e = absurd (let clash : Some (string_bytes file) ≡ None = e in cc)
+firsts : {A : Type 0} (f : A → Output × List ℕ) (xs : List A) → map (λ x. (f x).0) xs ≡ map (λ (o : Output × List ℕ). o.0) (map f xs)
+firsts f [] = refl
+firsts f (x ∷ xs) = ap (λ t. (f x).0 ∷ t) (firsts f xs)
 
-or_second : (a b : Bool) → b ≡ true → (a || b) ≡ true
-or_second true b e = refl
-or_second false b e = e
+-- the options of a configuration want what those of all want
+wants_same : (each : Each) (name : List ℕ) (one : Options) → AreOptionsFor each name one → (kind : Output) → wants one kind ≡ wants each.options kind
+wants_same each name one are kind =
+    has_kind-kinds kind one.outputs.items
+    ∙ ap (list_any (same_output kind))
+    (firsts (λ (wanted : WantedOutput). (wanted.kind, string_bytes wanted.file)) one.outputs.items ∙ ap (map (λ (o : Output × List ℕ). o.0)) are.outputs
+    ∙ sym (firsts (λ (wanted : WantedOutput). (wanted.kind, filled name (string_bytes wanted.file))) each.options.outputs.items))
+    ∙ sym (has_kind-kinds kind each.options.outputs.items)
 
 pub keeps_for : (each : Each) (names : List (List ℕ)) → KeepsFor (GivesOptions each names) (wants_sources each.options)
-keeps_for each names i one are wants =
+keeps_for each names i one are wanted =
     let asked = each.options in
-    let listed : is_some one.list_new ≡ is_some asked.list_new = there _ one.list_new asked.list_new are.list_new in
-    or_second (is_some asked.explanation) ((asked.explain_lost && asked.warn_lost) || (asked.with_help && is_some asked.list_new))
-    (ap (λ b. (asked.explain_lost && asked.warn_lost) || (asked.with_help && b)) (sym listed)
-    ∙ ap (λ b. (asked.explain_lost && asked.warn_lost) || (b && is_some one.list_new)) (sym are.with_help)
-    ∙ ap (λ b. (b && asked.warn_lost) || (one.with_help && is_some one.list_new)) (sym are.explain_lost)
-    ∙ ap (λ b. (one.explain_lost && b) || (one.with_help && is_some one.list_new)) (sym are.warn_lost)
-    ∙ ap (λ (o : Option (String Global)). is_some o || ((one.explain_lost && one.warn_lost) || (one.with_help && is_some one.list_new))) (sym are.explanation) ∙ wants)
+    let same = sym (wants_same each (slice_index_or names i []) one are Output.NewSymbols) in
+    ap (λ b. asked.with_help && b) same ∙ ap (λ b. b && wants one Output.NewSymbols) (sym are.with_help) ∙ wanted
 
 -- The options for pieces want what the options want.
 pub keeps_for_pieces : (each : Each) (names : List (List ℕ)) → KeepsFor (GivesPieced each names) (wants_sources each.options)

@@ -1,66 +1,32 @@
 -- Configurations whose names are apart touch no file of one another.
-use Rattle.std.proofs.Common.{◌≡◌, ℕ, Bool, true, false, List, [], ◌∷◌, ◌++◌, length, map, refl, sym, ap, ◌∙◌, append-nil, Option, None, Some, Result, Ok, Err, String, string_bytes, option_map}
+use Rattle.std.proofs.Common.{◌≡◌, ℕ, Bool, true, false, List, [], ◌∷◌, ◌++◌, length, map, refl, sym, ap, ◌∙◌, Some, Result, Ok, Err, string_bytes}
 use Rattle.std.specs.Prelude.{slice_index_or}
-use Rattle.std.specs.declared.alloc.Global.{Global}
 use Rattle.kc_io.specs.Delivery.{LookingKeeps}
 use Rattle.kc_io.specs.Log.{Journal, Leads, Log, held, reported, with_events}
 use Rattle.kc_io.specs.declared.device.Fault.{Fault}
-use Rattle.kc_words.specs.CommandLine.{AreApart, filled_if, reads, writes, AreOptionsFor, filled}
+use Rattle.kc_words.specs.CommandLine.{AreApart, reads, writes, AreOptionsFor, filled}
 use Rattle.kc_words.specs.declared.each.Each.{Each}
 use Rattle.kc_words.specs.declared.usage.UsageError.{UsageError}
 use Rattle.kc_words.specs.declared.usage.UsageError.TheVariants as usage
-use Rattle.kc_language.specs.Outcome.{Options, input_files}
-use Rattle.kc_conf.specs.Many.{AreSeparate, is_among, name_if, output_files}
+use Rattle.kc_outcome.specs.Outcome.{Options, input_files}
+use Rattle.kc_outcome.specs.declared.outcome.Output.{Output}
+use Rattle.kc_outcome.specs.declared.outcome.WantedOutput.{WantedOutput}
+use Rattle.kc_conf.specs.Many.{AreSeparate, is_among, output_files}
 use Rattle.kc_io.specs.Log.{TriesToSay}
 use Rattle.kc_conf.proofs.AmongLemmas.{each_leaves_its_part_law, written_output}
 use Rattle.kc_disk.specs.Program.{NamedStandApart, ends_before, includes, including, leaves, GivesOptions, clashing, loaded, unlisted, unloaded, SaysUsage}
 
 -- ---- the names of the files
 
-list_of : Option (List ℕ) → List (List ℕ)
-list_of None = []
-list_of (Some name) = name ∷ []
-
-file_listed : (file : Option (String Global)) → name_if file ≡ list_of (option_map string_bytes file)
-unfolding list_of
-file_listed None = refl
-file_listed (Some file) = refl
-
-pattern_listed : (config : List ℕ) (pattern : Option (String Global)) → filled_if config pattern ≡ list_of (option_map (λ p. filled config (string_bytes p)) pattern)
-unfolding list_of
-pattern_listed config None = refl
-pattern_listed config (Some pattern) = refl
-
-named : (config : List ℕ) (file pattern : Option (String Global)) → option_map string_bytes file ≡ option_map (λ p. filled config (string_bytes p)) pattern → name_if file ≡ filled_if config pattern
-named config file pattern e = file_listed file ∙ ap list_of e ∙ sym (pattern_listed config pattern)
+seconds : {A : Type 0} (f : A → Output × List ℕ) (xs : List A) → map (λ x. (f x).1) xs ≡ map (λ (o : Output × List ℕ). o.1) (map f xs)
+seconds f [] = refl
+seconds f (x ∷ xs) = ap (λ t. (f x).1 ∷ t) (seconds f xs)
 
 module _ (each : Each) (config : List ℕ) (one : Options) (are : AreOptionsFor each config one) where
-  abbrev pattern_if : Option (String Global) → List (List ℕ)
-  pattern_if pattern = filled_if config pattern
-
-  -- the last two files: no explanation is written
-  abbrev last_files : List (List ℕ)
-  last_files = name_if one.depfile ++ name_if one.explanation
-
-  last : last_files ≡ pattern_if each.options.depfile
-  last = ap (λ (e : Option (String Global)). name_if one.depfile ++ name_if e) are.explanation ∙ append-nil (name_if one.depfile)
-      ∙ named config one.depfile each.options.depfile are.depfile
-
   outputs : output_files one ≡ writes each config
   outputs =
-      let asked = each.options in
-      ap (λ (l : List (List ℕ)). l ++ (name_if one.header ++ (name_if one.minimal ++ (name_if one.list_new ++ (name_if one.list_gone ++ last_files)))))
-      (named config one.out asked.out are.out)
-      ∙ ap (λ (l : List (List ℕ)). pattern_if asked.out ++ (l ++ (name_if one.minimal ++ (name_if one.list_new ++ (name_if one.list_gone ++ last_files)))))
-      (named config one.header asked.header are.header)
-      ∙ ap (λ (l : List (List ℕ)). pattern_if asked.out ++ (pattern_if asked.header ++ (l ++ (name_if one.list_new ++ (name_if one.list_gone ++ last_files)))))
-      (named config one.minimal asked.minimal are.minimal)
-      ∙ ap (λ (l : List (List ℕ)). pattern_if asked.out ++ (pattern_if asked.header ++ (pattern_if asked.minimal ++ (l ++ (name_if one.list_gone ++ last_files)))))
-      (named config one.list_new asked.list_new are.list_new)
-      ∙ ap (λ (l : List (List ℕ)). pattern_if asked.out ++ (pattern_if asked.header ++ (pattern_if asked.minimal ++ (pattern_if asked.list_new ++ (l ++ last_files)))))
-      (named config one.list_gone asked.list_gone are.list_gone)
-      ∙ ap (λ (l : List (List ℕ)). pattern_if asked.out ++ (pattern_if asked.header ++ (pattern_if asked.minimal ++ (pattern_if asked.list_new ++ (pattern_if asked.list_gone ++ l)))))
-      last
+      seconds (λ (wanted : WantedOutput). (wanted.kind, string_bytes wanted.file)) one.outputs.items ∙ ap (map (λ (o : Output × List ℕ). o.1)) are.outputs
+      ∙ sym (seconds (λ (wanted : WantedOutput). (wanted.kind, filled config (string_bytes wanted.file))) each.options.outputs.items)
 
   inputs : input_files one ≡ reads each config
   inputs = ap (λ (n : List ℕ). n ∷ map string_bytes one.fragments.items) are.config ∙ ap (λ (l : List (List ℕ)). config ∷ l) are.fragments

@@ -2,8 +2,8 @@
 use Rattle.std.proofs.Common.{◌≡◌, ℕ, Bool, true, false, List, [], ◌∷◌, ◌++◌, codes, refl, sym, ap, length, ◌-◌, ◌≤◌, arith, ◌∙◌, append-nil, Option, Some, None}
 use Rattle.std.specs.Prelude.{if◌then◌else◌, slice_index_or}
 use Rattle.std.specs.List.{last_or}
-use Rattle.kc_io.specs.PartsOfLog.{ends_line}
-use Rattle.kc_io.specs.Log.{is_whole_lines}
+use Rattle.kc_text.specs.PartsOfLines.{ends_line}
+use Rattle.kc_language.specs.Lines.{is_whole_lines}
 use Rattle.kc_disk.specs.PartsOfProgram.{ended_text}
 
 -- the last of two lists is that of the second, where it has one

@@ -12,8 +12,8 @@ use Rattle.kc_words.specs.declared.each.Each.{Each}
 use Rattle.kc_conf.specs.Faults.{load_line}
 use Rattle.kc_io.specs.Log.{TriesToSay}
 use Rattle.kc_conf.specs.Many.{RunsEach}
-use Rattle.kc_language.specs.declared.outcome.Status.{Status}
-use Rattle.kc_language.specs.declared.outcome.Status.TheVariants as answered
+use Rattle.kc_outcome.specs.declared.outcome.Status.{Status}
+use Rattle.kc_outcome.specs.declared.outcome.Status.TheVariants as answered
 use Rattle.kc_disk.specs.Program.{AreListed, AreNames, GivesOptions, HasNoList, IsUnloaded, RunsEachIncluding}
 
 -- the folder holds this list, or it cannot be read

@@ -1,7 +1,8 @@
 -- For proofs: Names for parts of the definitions of Program.
 use Rattle.kc_disk.specs.Program.{EndsUsage, SaysUsage}
-use Rattle.kc_io.specs.Log.{Log, is_whole_lines}
-use Rattle.kc_language.specs.declared.outcome.Status.{Status}
+use Rattle.kc_io.specs.Log.{Log}
+use Rattle.kc_language.specs.Lines.{is_whole_lines}
+use Rattle.kc_outcome.specs.declared.outcome.Status.{Status}
 use Rattle.kc_words.specs.declared.usage.UsageError.{UsageError}
 use Rattle.kc_words.specs.declared.usage.UsageError.TheVariants.{Help, Version, Bad, Memory}
 use Rattle.std.specs.IoError.{error_kind}

@@ -1,12 +1,14 @@
 -- Trusted: What the program does with its arguments: a run, runs for many configurations, or a usage error; and the exit status (our own).
 -- `folder` and `folder_after` are the records of the folder of the Kconfig files before and after a run; `old` and `new` are the logs of the device.
-use Rattle.std.specs.{Prelude.{◌≡◌, ◌≢◌, ◌⊎◌, ℕ, Bool, List, [], ◌∷◌, ◌++◌, true, if◌then◌else◌, Option, None, Some, option_map, Result, Ok, Err, String, codes, drop, false, is_some, length, map, slice_index_or, string_bytes}, Str.IsUtf8, IoError.error_kind, Vec.Iter.into_iter_items, declared.{alloc.Global.Global, io.{Error.Error, ErrorKind.TheVariants.OutOfMemory}, vec.IntoIter.IntoIter}}
+use Rattle.std.specs.{Prelude.{◌≡◌, ◌≢◌, ◌⊎◌, ℕ, Bool, List, [], ◌∷◌, ◌++◌, true, if◌then◌else◌, Option, None, Some, Result, Ok, Err, String, codes, drop, false, is_some, length, map, slice_index_or, string_bytes}, Str.IsUtf8, IoError.error_kind, Vec.Iter.into_iter_items, declared.{alloc.Global.Global, io.{Error.Error, ErrorKind.TheVariants.OutOfMemory}, vec.IntoIter.IntoIter}}
 use Rattle.clap.specs.Words.{fault_of, takes}
-use Rattle.kc_language.specs.{Expansion.Files, Outcome.{Options, cannot_read_line, out_of_memory_line}, declared.outcome.Status.{Status, TheVariants.{Done, Refused, Usage, Faulted}}}
-use Rattle.kc_io.specs.Log.{Journal, Log, TriesToSay, held, is_whole_lines}
+use Rattle.kc_language.specs.{Expansion.{Files}, Statements.{cannot_read_line, out_of_memory_line}}
+use Rattle.kc_outcome.specs.{Outcome.{Options, file_for}, declared.outcome.{Output.{Output}, Status.{Status, TheVariants.{Done, Refused, Usage, Faulted}}}}
+use Rattle.kc_io.specs.Log.{Journal, Log, TriesToSay, held}
+use Rattle.kc_language.specs.Lines.{is_whole_lines}
 use Rattle.kc_load.specs.{Folder.{AnswersAs, AreFilesOf, FolderState, IsLoadFault, Leads as FolderLeads, failed_load, files_told}, declared.fault.LoadFault.LoadFault}
-use Rattle.kc_words.specs.{CommandLine.{AreApart, AreOptionsFor, IsClash, IsRefused, IsRequestOf, arguments_of, kconf_app, listed, refusal_of, rows_for, with_hint}, declared.{each.Each.Each, options.Request.{Request, TheVariants.{One, Each as Many}}, usage.UsageError.{UsageError, TheVariants.{Bad, Memory}}}}
-use Rattle.kc_conf.specs.{Faults.{FolderRuns, load_line}, Many.{LeavesEach, RunsEach}}
+use Rattle.kc_words.specs.{CommandLine.{AreApart, AreOptionsFor, IsClash, IsRefused, IsRequestOf, arguments_of, kconf_app, listed, refusal_of, rows_for, with_hint}, declared.{each.Each.Each, options.Request.{Request, TheVariants.{Dead, One, Each as Many}}, usage.UsageError.{UsageError, TheVariants.{Bad, Memory}}}}
+use Rattle.kc_conf.specs.{Dead.FolderListsDead, Faults.{FolderRuns, load_line}, Many.{LeavesEach, RunsEach}}
 use Rattle.kc_disk.specs.declared.arguments.Arguments.{Arguments, TheVariants.{Given, Unread}}
 
 -- The exit status.
@@ -134,10 +136,12 @@ abbrev pub EndsOne : Bool → Options → Option FolderState → Option FolderSt
 EndsOne true options folder folder_after old new status = RunsIncluding options folder folder_after status
 EndsOne false options folder folder_after old new status = FolderRuns options folder folder_after old new status
 
--- A run for one configuration, or for many.
+-- A run for one configuration or for many, or a list of dead prompts.
 abbrev pub EndsAsked : Request → Option FolderState → Option FolderState → Log → Log → Status → Type 0
 EndsAsked (One options) folder folder_after old new status = EndsOne (is_some options.include) options folder folder_after old new status
 EndsAsked (Many each) folder folder_after old new status = FolderRunsEach each folder folder_after old new status
+EndsAsked (Dead dead) folder folder_after old new status =
+    FolderListsDead dead.options (string_bytes dead.file) folder folder_after old new status
 
 -- What is done with the arguments: the requested run; or the error is reported, and nothing else is done.
 module _ (arguments : List (String Global)) (folder folder_after : Option FolderState) (old new : Log) (status : Status) where
@@ -164,7 +168,7 @@ IsNeedsOut (Bad text) = string_bytes text ≡ needs_out_text
 IsNeedsOut usage = usage ≡ Memory
 
 abbrev pub WritesWhereItReads : List (String Global) → Type 0
-WritesWhereItReads arguments = (options : Options) × GiveRequest arguments (One options) × (option_map string_bytes options.out ≡ Some (string_bytes options.config))
+WritesWhereItReads arguments = (options : Options) × GiveRequest arguments (One options) × (file_for options Output.Config ≡ Some (string_bytes options.config))
 
 abbrev pub AreChecked : Arguments → Arguments → Type 0
 AreChecked (Given arguments) (Given checked) = checked ≡ arguments

@@ -7,7 +7,7 @@ use crate::arguments::Arguments;
 use crate::each::run_each_in_folder;
 use crate::including::run_including;
 use crate::usage::say_usage;
-use kc_conf::{AcceptedTree, Options, Status, run_in_folder};
+use kc_conf::{AcceptedTree, Options, Status, list_dead_in_folder, run_in_folder};
 use kc_io::Device;
 use kc_load::Folder;
 use kc_words::{Request, UsageError, request_of};
@@ -59,6 +59,10 @@ fn answer_given<F: Folder, D: Device>(
     match request_of(rt.alloc(), arguments) {
         Ok(Request::One(options)) => answer_one(rt, options, folder, device, kept),
         Ok(Request::Each(each)) => run_each_in_folder(rt.alloc(), folder, &each, device, kept),
+        Ok(Request::Dead(dead)) => {
+            let file = dead.file.as_str();
+            list_dead_in_folder(rt.alloc(), folder, &dead.options, file, device, kept)
+        }
         Err(usage) => print_usage(rt, device, &usage),
     }
 }

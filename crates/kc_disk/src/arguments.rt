@@ -1,11 +1,12 @@
 //! The arguments of the process.
-ghost use Rattle.std.specs.Prelude.{◌≡◌, drop, option_map, string_bytes, true, IfOk, Some};
+ghost use Rattle.std.specs.Prelude.{◌≡◌, drop, string_bytes, true, IfOk, Some};
+ghost use Rattle.kc_outcome.specs.Outcome.{file_for};
 ghost use Rattle.std.specs.Vec.Iter.{into_iter_items};
 ghost use Rattle.kc_disk.specs.Program.{AreArgumentsOf, AreChecked, IsNeedsOut, WritesWhereItReads};
 ghost use Rattle.kc_disk.specs.PartsOfProgram.{AreUnread};
 
 use crate::open_file::has_no_place;
-use kc_options::Options;
+use kc_options::{Options, Output, file_for};
 use kc_words::{Request, UsageError, request_of};
 use std::alloc::{AllocError, Global};
 use std::env::Args;
@@ -88,10 +89,10 @@ fn may_have_no_place(rt: &HostRuntime, arguments: &[String]) -> bool {
 
 // Whether the full `.config` is written to the file from which it is read.
 fn is_written_in_place(options: &Options) -> bool
-    ensures { result ≡ true → option_map string_bytes options.now.out ≡ Some (string_bytes options.now.config) }
+    ensures { result ≡ true → file_for options.now Output.Config ≡ Some (string_bytes options.now.config) }
 {
-    match &options.out {
-        Some(out) => out.as_str() == options.config.as_str(),
+    match file_for(options, Output::Config) {
+        Some(file) => file == options.config.as_str(),
         None => false,
     }
 }
@@ -110,7 +111,7 @@ fn writes_where_it_reads(rt: &HostRuntime, arguments: &[String]) -> bool
             }
             has_no_place(rt, options.config.as_str())
         }
-        Ok(Request::Each(_)) | Err(_) => false,
+        Ok(Request::Each(_) | Request::Dead(_)) | Err(_) => false,
     }
 }
 

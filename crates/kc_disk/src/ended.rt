@@ -1,7 +1,7 @@
 //! Runs of the program over any folder and device. Nothing else creates an `Ended`.
 ghost use Rattle.std.specs.Prelude.{◌≡◌};
 ghost use Rattle.kc_disk.specs.Program.{KconfEnds};
-ghost use Rattle.kc_language.specs.declared.outcome.Status.TheVariants.{Faulted};
+ghost use Rattle.kc_outcome.specs.declared.outcome.Status.TheVariants.{Faulted};
 
 use crate::answer::answer;
 use crate::arguments::Arguments;

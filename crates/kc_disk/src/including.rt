@@ -1,7 +1,7 @@
 //! Runs whose input files include other files.
 ghost use Rattle.std.specs.Prelude.{◌≡◌, None, length, map, string_bytes, IfOk};
 ghost use Rattle.kc_read.specs.Files.{files_in};
-ghost use Rattle.kc_language.specs.declared.outcome.Status.TheVariants as status;
+ghost use Rattle.kc_outcome.specs.declared.outcome.Status.TheVariants as status;
 ghost use Rattle.kc_conf.specs.Faults.{FolderRuns};
 ghost use Rattle.kc_conf.specs.Many.{RunsEach};
 ghost use Rattle.kc_disk.specs.Program.{GivesPieced, IsPieced, RunsEachIncluding, RunsIncluding};
@@ -182,7 +182,6 @@ impl<'e> Configurations for PiecedConfigurations<'e> {
         pieced(alloc, options, self.turns, i)
     }
 
-    #[tactic(auto, using(crate::proofs::KeptLemmas::keeps_for_pieces))]
     fn keeps_sources(&self) -> bool {
         wants_sources(&self.each.options)
     }

@@ -34,6 +34,7 @@ fn options_given(alloc: Global, arguments: &[String]) -> Option<Options> {
     match request_of(alloc, arguments) {
         Ok(Request::One(options)) => Some(options),
         Ok(Request::Each(each)) => Some(each.options),
+        Ok(Request::Dead(dead)) => Some(dead.options),
         Err(_) => None,
     }
 }

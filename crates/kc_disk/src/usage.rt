@@ -1,6 +1,6 @@
 //! The report of a usage error.
 ghost use Rattle.std.specs.Prelude.{◌≡◌};
-ghost use Rattle.kc_io.specs.Log.{is_whole_lines};
+ghost use Rattle.kc_language.specs.Lines.{is_whole_lines};
 ghost use Rattle.kc_disk.specs.Program.{EndsUsage, SaysText, SaysUsage};
 ghost use Rattle.kc_disk.specs.PartsOfProgram.{line_end};
 

@@ -1,10 +1,7 @@
 -- The first code in a line.
-use Rattle.std.proofs.Common.{if◌then◌else◌, ◌≡◌, ℕ, ◌+◌, ◌<◌, suc, List, [], ◌∷◌, ◌++◌, append-nil, drop, length, map, take, get_or, false, true, Option, Some, None, ap, sym, ◌∙◌, arith, codes}
-use Rattle.std.proofs.Math.Seq.{drop-cons}
-use Rattle.std.proofs.lemmas.{Grind.{flat_map-append}, List.{map-append, take_more}}
+use Rattle.std.proofs.{Common.{List, None, Option, Some, [], ap, append-nil, arith, codes, drop, false, get_or, if◌then◌else◌, length, map, suc, sym, take, true, ℕ, ◌++◌, ◌+◌, ◌<◌, ◌∙◌, ◌∷◌, ◌≡◌}, Math.Seq.drop-cons, lemmas.{Grind.flat_map-append, List.{map-append, take_more}}}
 use Rattle.std.specs.List.{flat_map}
-use Rattle.kc_display.specs.Hints.{all_codes, begins_with, code_among, code_from, code_text, first_code}
-use Rattle.kc_display.specs.declared.code.Code.{Code}
+use Rattle.kc_display.specs.{Hints.{all_codes, begins_with, code_among, code_from, code_text, first_code}, declared.code.Code.Code}
 
 -- the codes from a place on
 among-at : (known : List Code) (text : List ℕ) (i : ℕ) (d : Code) → i < length known

@@ -1,16 +1,7 @@
 -- Lines of a text, and edits that are added.
-use Rattle.std.proofs.Common.{if◌then◌else◌, ◌≡◌, ℕ, zero, suc, ◌+◌, ◌<◌, ◌≤◌, ◌||◌, ◌==◌, List, [], ◌∷◌, ◌++◌, map, take, drop, length, get_or, Bool, true, false, refl, ap, sym, ◌∙◌, arith, append-nil, subst, append_assoc, ◌-◌, bytes_eq, Option, Some, None}
-use Rattle.std.specs.Prelude.{min, slice_index_or}
-use Rattle.std.proofs.Math.Seq.{take-add}
-use Rattle.std.proofs.lemmas.Slice.Eq.{bytes_eq-Decides}
-use Rattle.std.specs.List.{filter, last_or, list_any}
-use Rattle.std.proofs.lemmas.List.{map-append, length-drop, take_more}
-use Rattle.std.proofs.lemmas.List.Elements.{filter-append}
-use Rattle.kc_display.specs.Difference.{is_ended, is_line_feed, is_new, is_old, lines, new_lines, old_lines, put_first}
-use Rattle.kc_display.specs.Steps.{Adds, IsFirstLine, Takes}
-use Rattle.kc_display.specs.declared.edits.Edit.{Edit}
-use Rattle.kc_display.specs.declared.edits.Mark.{Mark}
-use Rattle.kc_display.specs.declared.edits.Mark.TheVariants.{Kept, Removed, Added}
+use Rattle.std.proofs.{Common.{Bool, List, None, Option, Some, [], ap, append-nil, append_assoc, arith, bytes_eq, drop, false, get_or, if◌then◌else◌, length, map, refl, subst, suc, sym, take, true, zero, ℕ, ◌++◌, ◌+◌, ◌-◌, ◌<◌, ◌==◌, ◌||◌, ◌∙◌, ◌∷◌, ◌≡◌, ◌≤◌}, Math.Seq.take-add, lemmas.{List.{Elements.filter-append, length-drop, map-append, take_more}, Slice.Eq.bytes_eq-Decides}}
+use Rattle.std.specs.{List.{filter, last_or, list_any}, Prelude.{min, slice_index_or}}
+use Rattle.kc_display.specs.{Difference.{is_ended, is_line_feed, is_new, is_old, lines, new_lines, old_lines, put_first}, Steps.{Adds, IsFirstLine, Takes}, declared.edits.{Edit.Edit, Mark.{Mark, TheVariants.{Added, Kept, Removed}}}}
 
 -- the first line ends at the first line feed
 cut_by : (x : ℕ) (xs : List ℕ) (i : ℕ) (b : Bool) → is_line_feed x ≡ b → (b || list_any is_line_feed (take i xs)) ≡ false

@@ -1,12 +1,7 @@
 -- Pages that are filled line by line.
-use Rattle.std.proofs.Common.{◌≡◌, ℕ, ◌+◌, ◌-◌, ◌<◌, ◌≤◌, ◌^◌, List, [], ◌∷◌, ◌++◌, length, false, ap, sym, ◌∙◌, arith, append-nil, append_assoc, subst, Vec, codes, length-append}
-use Rattle.std.specs.Prelude.{min, nat_le}
-use Rattle.std.specs.declared.alloc.Global.{Global}
-use Rattle.std.proofs.lemmas.List.{take-append-le, take_all}
-use Rattle.std.proofs.lemmas.Grind.{flat_map-append}
-use Rattle.kc_display.specs.Difference.{lines_text, most_lines}
-use Rattle.kc_display.specs.Pages.{Adds, IsPage}
-use Rattle.kc_display.specs.declared.page.Page.{Page}
+use Rattle.std.proofs.{Common.{List, Vec, [], ap, append-nil, append_assoc, arith, codes, false, length, length-append, subst, sym, ℕ, ◌++◌, ◌+◌, ◌-◌, ◌<◌, ◌^◌, ◌∙◌, ◌∷◌, ◌≡◌, ◌≤◌}, lemmas.{Grind.flat_map-append, List.{take-append-le, take_all}}}
+use Rattle.std.specs.{Prelude.{min, nat_le}, declared.alloc.Global.Global}
+use Rattle.kc_display.specs.{Difference.{lines_text, most_lines}, Pages.{Adds, IsPage}, declared.page.Page.Page}
 
 min_more : (n m : ℕ) → min (min n m + 1) m ≡ min (n + 1) m
 min_more n m = grind arith

@@ -1,17 +1,7 @@
 -- Places of edits, and lines as they are shown.
-use Rattle.std.proofs.Common.{codes, if◌then◌else◌, ◌==◌, ◌≡◌, ℕ, zero, suc, ◌+◌, ◌-◌, ◌<◌, List, [], ◌∷◌, ◌++◌, take, length, Bool, true, false, refl, ap, sym, ◌∙◌, arith, append-nil, append_assoc, subst, Some, None, Result, Ok, Err, IfOk, Vec}
-use Rattle.std.specs.Prelude.{slice_get}
-use Rattle.std.specs.declared.alloc.AllocError.{AllocError}
-use Rattle.std.specs.declared.alloc.Global.{Global}
-use Rattle.std.proofs.lemmas.List.{take_all}
-use Rattle.std.specs.Fmt.{decimal}
-use Rattle.std.specs.List.{enumerate_from, flat_map}
-use Rattle.std.proofs.lemmas.Grind.{flat_map-append}
-use Rattle.kc_display.specs.Difference.{IsDifference, ShowsDifference, hunk_end, is_shown, lines_at, page_text, range_text, shown_lines}
-use Rattle.kc_display.specs.Pages.{Adds, IsPage, IsTextOf}
-use Rattle.kc_display.specs.Places.{AddsAll, AddsAt}
-use Rattle.kc_display.specs.declared.edits.Edit.{Edit}
-use Rattle.kc_display.specs.declared.page.Page.{Page}
+use Rattle.std.proofs.{Common.{Bool, Err, IfOk, List, None, Ok, Result, Some, Vec, [], ap, append-nil, append_assoc, arith, codes, false, if◌then◌else◌, length, refl, subst, suc, sym, take, true, zero, ℕ, ◌++◌, ◌+◌, ◌-◌, ◌<◌, ◌==◌, ◌∙◌, ◌∷◌, ◌≡◌}, lemmas.{Grind.flat_map-append, List.take_all}}
+use Rattle.std.specs.{Fmt.decimal, List.{enumerate_from, flat_map}, Prelude.slice_get, declared.alloc.{AllocError.AllocError, Global.Global}}
+use Rattle.kc_display.specs.{Difference.{IsDifference, ShowsDifference, hunk_end, is_shown, lines_at, page_text, range_text, shown_lines}, Pages.{Adds, IsPage, IsTextOf}, Places.{AddsAll, AddsAt}, declared.{edits.Edit.Edit, page.Page.Page}}
 use Rattle.kc_display.proofs.PageLemmas.{adds-on}
 
 -- the end of a hunk, one place further

@@ -1,7 +1,6 @@
 -- Trusted: Hints: which diagnostics --quiet-tree leaves out, and the line that --hints adds below a diagnostic (our own).
-use Rattle.std.specs.{Prelude.{◌+◌, ◌&&◌, Bool, true, false, if◌then◌else◌, List, [], ◌∷◌, ◌++◌, Option, None, Some, codes, nat_eq, take, ℕ}, List.{find, flat_map, starts_with}}
-use Rattle.kc_display.specs.Difference.{lines}
-use Rattle.kc_display.specs.declared.{code.Code.{Code, TheVariants.{TypeLines, Prompts, NoType, TextTarget, NoMember, MemberTarget, UnknownSymbol, BadValue, BadLine, SetAgain, Selected, OutsideRange, DefaultOutsideRange, LostValue, Overridden, TextUnset, NoFile, Inclusion, TooManyLines, LongLine, BadToken, Macro, LeftOut, Syntax, Blocks, Misplaced, BadName, TooDeep, ChoiceMember, BadDefault, DependencyLoop, TooManySymbols, LongInputLine, CannotRead, CannotWrite, NoMemory, WarningsRefused, NotUpToDate, UnreadableName, UnknownName}}, display.Showing.Showing}
+use Rattle.std.specs.{List.{find, flat_map, starts_with}, Prelude.{Bool, List, None, Option, Some, [], codes, false, if◌then◌else◌, nat_eq, take, true, ℕ, ◌&&◌, ◌++◌, ◌+◌, ◌∷◌}}
+use Rattle.kc_display.specs.{Difference.lines, declared.{code.Code.{Code, TheVariants.{BadDefault, BadLine, BadName, BadToken, BadValue, Blocks, CannotRead, CannotWrite, ChoiceMember, DefaultOutsideRange, DependencyLoop, Inclusion, LeftOut, LongInputLine, LongLine, LostValue, Macro, MemberTarget, Misplaced, NoFile, NoMember, NoMemory, NoType, NotUpToDate, OutsideRange, Overridden, Prompts, Selected, SetAgain, Syntax, TextTarget, TextUnset, TooDeep, TooManyLines, TooManySymbols, TypeLines, UnknownName, UnknownSymbol, UnreadableName, WarningsRefused}}, display.Showing.Showing}}
 
 -- The text of the code in a diagnostic.
 abbrev pub code_text : Code → List ℕ
@@ -89,7 +88,7 @@ hint_text NotUpToDate = codes "run again with --replace in place of --check; --d
 hint_text UnreadableName = codes "a name in a dependency file has no tab, =, ;, *, ? or [, and does not end in a blank, & or ): rename the file"
 hint_text UnknownName = codes "give the name of a symbol that the tree mentions, with or without the prefix"
 
--- The warnings about the tree (K1 to K6).
+-- The warnings about the tree.
 abbrev pub is_about_tree : Code → Bool
 is_about_tree TypeLines = true
 is_about_tree Prompts = true

@@ -1,8 +1,6 @@
 -- For proofs: A page of lines while it is filled.
-use Rattle.std.specs.Prelude.{◌≡◌, ◌++◌, ◌-◌, ◌^◌, List, Vec, ℕ, length, min, take}
-use Rattle.std.specs.declared.alloc.Global.{Global}
-use Rattle.kc_display.specs.Difference.{lines_text, most_lines, page_text}
-use Rattle.kc_display.specs.declared.page.Page.{Page}
+use Rattle.std.specs.{Prelude.{List, Vec, length, min, take, ℕ, ◌++◌, ◌-◌, ◌^◌, ◌≡◌}, declared.alloc.Global.Global}
+use Rattle.kc_display.specs.{Difference.{lines_text, most_lines, page_text}, declared.page.Page.Page}
 
 -- the page has the first of these lines, and counts all of them
 pub record IsPage (lines : List (List ℕ)) (page : Page) : Type 0 where

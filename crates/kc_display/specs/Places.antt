@@ -1,10 +1,6 @@
 -- For proofs: What is printed for edits.
-use Rattle.std.specs.Prelude.{◌≡◌, List, Some, ℕ, slice_get, take}
-use Rattle.std.specs.List.{enumerate_from, flat_map}
-use Rattle.kc_display.specs.Difference.{lines_at}
-use Rattle.kc_display.specs.Pages.{Adds}
-use Rattle.kc_display.specs.declared.edits.Edit.{Edit}
-use Rattle.kc_display.specs.declared.page.Page.{Page}
+use Rattle.std.specs.{List.{enumerate_from, flat_map}, Prelude.{List, Some, slice_get, take, ℕ, ◌≡◌}}
+use Rattle.kc_display.specs.{Difference.lines_at, Pages.Adds, declared.{edits.Edit.Edit, page.Page.Page}}
 
 -- the lines of the first n edits were added
 abbrev pub AddsAll : List Edit → ℕ → Page → Page → Type 0

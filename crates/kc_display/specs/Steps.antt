@@ -1,7 +1,6 @@
 -- For proofs: The steps of finding edits.
-use Rattle.std.specs.Prelude.{◌≡◌, ◌∷◌, ◌++◌, ◌<◌, [], List, ℕ, if◌then◌else◌, length}
-use Rattle.kc_display.specs.Difference.{is_new, is_old, lines, new_lines, old_lines}
-use Rattle.kc_display.specs.declared.edits.{Edit.Edit, Mark.Mark}
+use Rattle.std.specs.Prelude.{List, [], if◌then◌else◌, length, ℕ, ◌++◌, ◌<◌, ◌∷◌, ◌≡◌}
+use Rattle.kc_display.specs.{Difference.{is_new, is_old, lines, new_lines, old_lines}, declared.edits.{Edit.Edit, Mark.Mark}}
 
 -- the first line of a text, and the rest
 pub record IsFirstLine (text line rest : List ℕ) : Type 0 where

@@ -5,8 +5,8 @@ use Rattle.std.specs.List.{flat_map}
 use Rattle.std.proofs.lemmas.List.{drop_more}
 use Rattle.std.proofs.lemmas.Option.{get_or_from_slice_get, slice_get_within}
 use Rattle.kc_language.specs.declared.expressions.SymId.{SymId}
-use Rattle.kc_language.specs.Explanations.{differs_by_one}
-use Rattle.kc_language.specs.Outcome.{near_text}
+use Rattle.kc_outcome.specs.Explanations.{differs_by_one}
+use Rattle.kc_outcome.specs.Outcome.{near_text}
 use Rattle.kc_language.specs.Symbols.{TreeFacts}
 use Rattle.kc_language.specs.Values.{name}
 use Rattle.kc_language.specs.Text.{byte}

@@ -1,20 +1,20 @@
--- Lines of a file, and which of them belong to a definition.
-use Rattle.std.proofs.Common.{◌≡◌, ℕ, Bool, cond, Option, Some, subst, ◌+◌, ◌-◌, ◌<◌, ◌≤◌, List, [], ◌∷◌, ◌++◌, true, false, length, take, drop, map, get_or, refl, ap, sym, ◌∙◌, arith, append_assoc}
+-- Lines of a file.
+use Rattle.std.proofs.Common.{◌≡◌, ℕ, Bool, cond, Option, Some, suc, subst, ◌+◌, ◌-◌, ◌<◌, ◌≤◌, List, [], ◌∷◌, ◌++◌, true, false, length, take, drop, map, get_or, refl, ap, sym, ◌∙◌, arith, append_assoc}
 use Rattle.std.specs.Prelude.{IfSome}
 use Rattle.std.specs.Map.{lookup}
 use Rattle.std.proofs.lemmas.Map.Entries.{All-lookup}
 use Rattle.indexmap.specs.IndexMap.{insert_entry}
-use Rattle.std.specs.List.{All, flat_map, slice_split, suffix_len, take_while}
+use Rattle.std.specs.List.{All, flat_map, slice_split, suffix_len}
 use Rattle.std.proofs.lemmas.Bool.{false_from_ne_true}
 use Rattle.std.proofs.lemmas.List.{get_or-map, length-map, map-append, take-map, take_rest}
 use Rattle.std.proofs.lemmas.List.Elements.{All-cons, All-from_get_or, All-head, All-nil, All-same, All-tail}
-use Rattle.std.proofs.lemmas.List.Sums.{position_or_len_is, suffix_len-take_no, suffix_len-take_yes, take_while-cons}
+use Rattle.std.proofs.lemmas.List.Sums.{position_or_len_is, suffix_len-take_no, suffix_len-take_yes}
 use Rattle.std.proofs.lemmas.List.Splits.{slice_split_first, slice_split_none}
 use Rattle.bstr.specs.Find.{NoneBefore, Nowhere, Passes, is_byte}
 use Rattle.kc_language.specs.Expansion.{Files}
-use Rattle.kc_language.specs.Explanations.{begins_blank, without_text}
+use Rattle.kc_outcome.specs.Explanations.{without_text}
 use Rattle.kc_language.specs.Lines.{is_line_feed}
-use Rattle.kc_explain.specs.SourceLines.{StandsBehind, comment, lines_of, shown_of}
+use Rattle.kc_explain.specs.SourceLines.{StandsBehind, comment, lines_of, with_text}
 
 -- a line feed ends the first line; or none is there
 pub line_ended : (rest : List ℕ) (n : ℕ) → NoneBefore (Passes (is_byte 10) rest) 0 (length rest) n → Passes (is_byte 10) rest n →
@@ -57,13 +57,13 @@ stands_there files name file passed count rest same all stands = rw (same, all) 
 
 -- the lines are read where they lie in memory
 module _ {X : Type 0} (now : X → List ℕ) where
-  -- one line more begins with a blank
-  pub own_next : (all : List X) (line : X) (lines more whole : List (List ℕ)) → lines ≡ now line ∷ more → begins_blank (now line) ≡ true →
-      map now all ++ take_while begins_blank lines ≡ whole → map now (all ++ line ∷ []) ++ take_while begins_blank more ≡ whole
-  own_next all line lines more whole is blank before =
-      let e : take_while begins_blank lines ≡ now line ∷ take_while begins_blank more =
-      ap (take_while begins_blank) is ∙ take_while-cons begins_blank (now line) more ∙ rw blank refl in
-      rw map-append (append_assoc (map now all) (now line ∷ []) (take_while begins_blank more) ∙ ap (λ xs. map now all ++ xs) (sym e) ∙ before)
+  -- one line more is appended
+  pub one_pushed : (all : List X) (line : X) (lines more whole : List (List ℕ)) (i count : ℕ) → i < count → lines ≡ now line ∷ more →
+      map now all ++ take (count - i) lines ≡ whole → map now (all ++ line ∷ []) ++ take (count - (i + 1)) more ≡ whole
+  one_pushed all line lines more whole i count less is before =
+      let left : count - i ≡ suc (count - (i + 1)) = omega (arith, less) in
+      rw map-append (append_assoc (map now all) (now line ∷ []) (take (count - (i + 1)) more))
+      ∙ ap (λ xs. map now all ++ xs) (sym ((λ j. take (left j) (is j)))) ∙ before
 
   -- one line more at the end has no text; the last one has
   pub textless_more : (lines : List X) (end : ℕ) (d : X) → 0 < end → end ≤ length lines → without_text (now (get_or lines (end - 1) d)) ≡ true →
@@ -87,8 +87,6 @@ module _ {X : Type 0} (now : X → List ℕ) where
   comments_are (line ∷ lines) = ap (λ text. comment (now line) ++ text) (comments_are lines)
 
   -- the comments of the lines that have text behind them
-  pub shown_are : (own : List X) (lines : List (List ℕ)) (n : ℕ) → map now own ≡ take_while begins_blank lines →
-      n ≡ length (map now own) - suffix_len without_text (map now own) → flat_map (λ l. comment (now l)) (take n own) ≡ flat_map comment (shown_of lines)
-  shown_are own lines n is count =
-      comments_are (take n own) ∙ ap (flat_map comment) (sym (take-map now n own) ∙ ap (λ k. take k (map now own)) count
-      ∙ ap (λ (xs : List (List ℕ)). take (length xs - suffix_len without_text xs) xs) is)
+  pub shown_are : (all : List X) (n : ℕ) → n ≡ length (map now all) - suffix_len without_text (map now all) →
+      flat_map (λ l. comment (now l)) (take n all) ≡ flat_map comment (with_text (map now all))
+  shown_are all n count = comments_are (take n all) ∙ ap (flat_map comment) (sym (take-map now n all) ∙ ap (λ k. take k (map now all)) count)

@@ -1,77 +1,60 @@
--- For proofs: Parts of what holds a symbol down, by names of their own.
-use Rattle.std.specs.Prelude.{Bool, List, Option, [], if◌then◌else◌, is_some, ◌&&◌, ◌++◌, ◌∷◌, ℕ}
+-- For proofs: Parts of the definition of what holds a symbol down, with names of their own.
+use Rattle.std.specs.Prelude.{List, Option, [], if◌then◌else◌, is_some, ℕ, ◌++◌, ◌∷◌}
 use Rattle.std.specs.List.{flat_map}
-use Rattle.kc_expr.specs.PartsOfSymbols.{added}
-use Rattle.kc_language.specs.Explanations as rules
-use Rattle.kc_language.specs.Explanations.{ConditionPart, Said}
-use Rattle.kc_language.specs.Expressions.{Form, leaf_symbols, number_of_text, symbols}
-use Rattle.kc_language.specs.Statements.{InputPrompt, Located, Numbered, statements}
-use Rattle.kc_language.specs.Symbols.{Bounds, listed, same_type}
+use Rattle.kc_language.specs.ConfigFile.{UserInput}
+use Rattle.kc_language.specs.Expressions.{Form, leaf_symbols, symbols, value}
+use Rattle.kc_language.specs.Statements.{Located, Numbered, statements}
+use Rattle.kc_language.specs.Symbols.{Bounds, StatedDefault, all_added, listed}
 use Rattle.kc_language.specs.Texts.{Solution, known}
-use Rattle.kc_language.specs.Values.{facts, name, type_in}
-use Rattle.kc_language.specs.declared.expressions.SymId.{SymId}
-use Rattle.kc_language.specs.declared.expressions.SymbolType.TheVariants.{Undefined}
+use Rattle.kc_language.specs.Values.{GivenValue}
+use Rattle.kc_language.specs.declared.expressions.{SymId.{SymId}, Tri.{Tri}}
+use Rattle.kc_outcome.specs.Explanations as rules
+use Rattle.kc_explain.specs.FactViews.{FactView}
+use Rattle.kc_explain.specs.FactViews as fact
+use Rattle.kc_explain.specs.PartViews.{Part}
 
--- the symbols of an expression; those of what a part asks, if that is one; those of a part below y
-abbrev pub form_names : Solution → Form → List SymId
-form_names solution e = symbols solution.tree.modules e
+module _ (solution : Solution) where
+  -- the symbols of an expression below y; of such a condition of a line; of such a part
+  abbrev pub low_names : Form → List SymId
+  low_names e = if rules.is_y (value (known solution) solution.tree.modules e) then [] else symbols solution.tree.modules e
 
-abbrev pub asked_names : Solution → rules.Asked → List SymId
-asked_names solution asks = elim asks [ rules.Worth e ↦ form_names solution e | rules.ModeOf k ↦ [] ]
+  abbrev pub own_names : Option Form → List SymId
+  own_names w = flat_map low_names (listed w)
 
-abbrev pub worth_names : Solution → ConditionPart → List SymId
-worth_names solution p = if rules.is_y (rules.part_value solution.tree (known solution) p) then [] else asked_names solution p.asks
+  abbrev pub worth_names : rules.Asked → List SymId
+  worth_names asks = elim asks [ rules.Worth e ↦ low_names e | rules.ModeOf k ↦ [] ]
 
--- the symbols of the own condition of a line, if it is below y
-abbrev pub when_names : Solution → ℕ → Option Form → List SymId
-when_names solution at w = flat_map (λ e. worth_names solution (rules.worth at e)) (listed w)
+  abbrev pub all_worth_names : List Part → List SymId
+  all_worth_names ps = flat_map (λ (p : Part). worth_names p.asks) ps
 
--- the bounds of a range that are symbols
-abbrev pub bound_names : Said (Bounds × Option Form) → List SymId
-bound_names r = leaf_symbols (r.what).0.low ++ leaf_symbols (r.what).0.high
+  -- those of a default and of what it gives; of a range and of its bounds
+  abbrev pub default_names : StatedDefault → Option GivenValue → List SymId
+  default_names d given = own_names d.when ++ (if is_some given then symbols solution.tree.modules d.value else [])
 
--- a word that is a number; the order once this symbol is added, or all of these, unless they are such words
-abbrev pub is_number_word : Solution → SymId → Bool
-is_number_word solution s = same_type (type_in (facts solution.tree s)) Undefined && is_some (number_of_text (name solution.tree s))
-
-abbrev pub with_one : Solution → List SymId → SymId → List SymId
-with_one solution ids s = if is_number_word solution s then ids else added ids s
-
-abbrev pub with_all : Solution → List SymId → List SymId → List SymId
-with_all solution ids [] = ids
-with_all solution ids (s ∷ ss) = with_all solution (with_one solution ids s) ss
+  abbrev pub range_names : Bounds × Option Form → Option (List ℕ × List ℕ) → List SymId
+  range_names r bounds = own_names r.1 ++ (if is_some bounds then leaf_symbols r.0.low ++ leaf_symbols r.0.high else [])
 
 module _ (lines : List (Located Numbered)) (solution : Solution) where
-  -- those of the prompt of an entry, if there is one, that its mode or it shows
-  abbrev pub shown_worth : Option (Said (InputPrompt Form)) → List SymId
-  shown_worth o = flat_map (λ p. flat_map (worth_names solution) (rules.shown_parts (statements lines) p)) (listed o)
+  -- what holds down the mode of the choice that begins with statement j
+  abbrev pub choice_names : ℕ → List SymId
+  choice_names j = let ss = statements lines in
+      flat_map (rules.worth_names ss solution.tree (known solution)) (rules.dependency_parts ss j)
+      ++ flat_map (λ p. flat_map (rules.worth_names ss solution.tree (known solution)) (rules.shown_parts ss p)) (rules.prompt_lines ss (j ∷ []))
 
-  abbrev pub shown_names : Option (Said (InputPrompt Form)) → List SymId
-  shown_names o = flat_map (λ p. flat_map (rules.part_names lines solution) (rules.shown_parts (statements lines) p)) (listed o)
-
-  -- those that hold the choice down that begins here, if there is one; those of what a part asks
-  abbrev pub entry_names : Option ℕ → List SymId
-  entry_names o = flat_map (rules.choice_names lines solution) (listed o)
-
-  abbrev pub asked_part_names : rules.Asked → List SymId
-  asked_part_names asks = elim asks [
-    | rules.Worth e ↦ form_names solution e
-    | rules.ModeOf k ↦ flat_map (rules.choice_names lines solution) (rules.choice_entry (statements lines) k)
+  -- the symbols of a part with this value; those that a fact names
+  abbrev pub part_names : rules.Asked → Tri → List SymId
+  part_names asks t = if rules.is_y t then [] else elim asks [
+    | rules.Worth e ↦ symbols solution.tree.modules e
+    | rules.ModeOf k ↦ rules.mode_names (statements lines) solution.tree (known solution) k
   ]
 
-  -- those of the dependency of an entry, and of all prompts of some
-  abbrev pub dependency_names : ℕ → List SymId
-  dependency_names i = flat_map (rules.part_names lines solution) (rules.dependency_parts (statements lines) i)
+  abbrev pub names : FactView → List SymId
+  names (fact.PartIs p t) = part_names p.asks t
+  names (fact.DefaultIs kind d t given) = default_names solution d.what given
+  names (fact.RangeIs kind r t bounds) = range_names solution r.what bounds
+  names (fact.MemberDefaultIs d t u) = own_names solution (d.what).1
+  names _ = []
 
-  abbrev pub prompt_names : List ℕ → List SymId
-  prompt_names entries =
-      flat_map (λ p. flat_map (rules.part_names lines solution) (rules.shown_parts (statements lines) p)) (rules.prompt_lines (statements lines) entries)
-
-  -- those of the defaults and ranges of a symbol
-  abbrev pub stated_names : SymId → List SymId
-  stated_names s = flat_map (rules.default_names lines solution) (rules.default_lines lines solution s)
-      ++ flat_map (rules.range_names lines solution) (rules.range_lines lines solution s)
-
-  -- what is reached in one step more
-  abbrev pub wider : List SymId → List SymId → List SymId
-  wider seen front = with_all solution seen (flat_map (rules.holders lines solution) front)
+-- the symbols after one more step
+abbrev pub wider : UserInput → Solution → List SymId → List SymId → List SymId
+wider input solution seen front = all_added seen (flat_map (rules.held input solution) front)

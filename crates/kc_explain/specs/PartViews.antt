@@ -1,45 +1,79 @@
--- For proofs: Parts of conditions and lines that say something, without where they lie in memory.
-use Rattle.std.specs.Prelude.{ℕ, Option}
-use Rattle.kc_expr.specs.Form.{form_of, leaf_of}
-use Rattle.kc_expr.specs.When.{when_view}
-use Rattle.kc_language.specs.Expressions.{Form}
-use Rattle.kc_language.specs.Explanations as rules
-use Rattle.kc_language.specs.Statements.{InputPrompt}
-use Rattle.kc_language.specs.Symbols.{Bounds, StatedDefault}
-use Rattle.kc_read.specs.StatementViews.{input_prompt_view}
-use Rattle.kc_read.specs.declared.statement.Prompt.{Prompt}
-use Rattle.kc_tree.specs.declared.rows.SymbolDefault.{SymbolDefault}
-use Rattle.kc_tree.specs.declared.rows.SymbolRange.{SymbolRange}
+-- For proofs: Parts of conditions and contents of lines, each with its line, without their layout in memory.
+use Rattle.std.specs.Prelude.{List, map, Option, Some, option_map, slice_get}
+use Rattle.std.specs.List.{filter_map, flat_map}
+use Rattle.kc_expr.specs.Form.{form_of}
+use Rattle.kc_language.specs.Expressions.{Form, least, lesser, value}
+use Rattle.kc_language.specs.declared.expressions.Tri.{Tri}
+use Rattle.kc_outcome.specs.Explanations as rules
+use Rattle.kc_language.specs.Statements.{InputPrompt, Located, Numbered}
+use Rattle.kc_language.specs.Symbols.{listed}
+use Rattle.kc_language.specs.Texts.{Solution, known}
+use Rattle.kc_language.specs.Values.{choice_at, mode_of}
+use Rattle.kc_entries.specs.StatementViews.{input_prompt_view}
+use Rattle.kc_explain.specs.LineViews.{line_view}
 use Rattle.kc_explain.specs.declared.parts.Asked.{Asked}
 use Rattle.kc_explain.specs.declared.parts.Asked.TheVariants as asked
 use Rattle.kc_explain.specs.declared.parts.ConditionPart.{ConditionPart}
-use Rattle.kc_explain.specs.declared.parts.Said.{Said}
+use Rattle.kc_explain.specs.declared.parts.PromptLine.{PromptLine}
 
--- what a part of a condition asks, and the part
+-- a part of a condition with its line
+pub record Part : Type 0 where
+  pub line : Option (Located Numbered)
+  pub asks : rules.Asked
+
+-- the content of a line
+pub record Said (X : Type 0) : Type 0 where
+  pub line : Option (Located Numbered)
+  pub what : X
+
+-- ---- As the code has them
 abbrev pub asked_view : Asked → rules.Asked
 asked_view (asked.Worth e) = rules.Worth (form_of e.now)
 asked_view (asked.ModeOf k) = rules.ModeOf k
 
-abbrev pub part_view : ConditionPart → rules.ConditionPart
-part_view p = record { at = p.at; asks = asked_view p.asks }
+abbrev pub part_view : ConditionPart → Part
+part_view p = record { line = Some (line_view p.line); asks = asked_view p.asks }
 
--- a default and a range
-abbrev pub default_view : SymbolDefault → StatedDefault
-default_view d = record { value = form_of d.value.value; when = when_view d.when }
+abbrev pub prompt_said : PromptLine → Said (InputPrompt Form)
+prompt_said p = record { line = Some (line_view p.line); what = input_prompt_view p.prompt.now }
 
-abbrev pub range_view : SymbolRange → Bounds × Option Form
-range_view r = (record { low = leaf_of r.low; high = leaf_of r.high }, when_view r.when)
+-- ---- From the lines of a tree
+abbrev pub part_in : List (Located Numbered) → rules.ConditionPart → Part
+part_in lines p = record { line = slice_get lines p.at; asks = p.asks }
 
--- what a line says
-abbrev pub prompt_said : Said Prompt → rules.Said (InputPrompt Form)
-prompt_said s = record { entry = s.entry; at = s.at; what = input_prompt_view s.what.now }
+abbrev pub said_in : {X : Type 0} → List (Located Numbered) → rules.Said X → Said X
+said_in lines s = record { line = slice_get lines s.at; what = s.what }
 
-abbrev pub default_said : Said SymbolDefault → rules.Said StatedDefault
-default_said s = record { entry = s.entry; at = s.at; what = default_view s.what.now }
+-- ---- From one line, and from those of an entry
+-- the content that `read` accepts
+abbrev pub said_one : {X : Type 0} → (Numbered → Option X) → Located Numbered → Option (Said X)
+said_one read l = option_map (λ x. record { line = Some l; what = x }) (read l.statement)
 
-abbrev pub range_said : Said SymbolRange → rules.Said (Bounds × Option Form)
-range_said s = record { entry = s.entry; at = s.at; what = range_view s.what.now }
+abbrev pub said_of : {X : Type 0} → (Numbered → Option X) → List (Located Numbered) → List (Said X)
+said_of read own = filter_map (said_one read) own
 
--- the own condition of a line of an entry
-abbrev pub condition_said : ℕ → ℕ → Option Form → rules.Said (Option Form)
-condition_said entry at when = record { entry = entry; at = at; what = when }
+-- the parts of a line with this condition; the parts of lines
+abbrev pub worth_parts : Option (Located Numbered) → Option Form → List Part
+worth_parts line w = map (λ e. record { line = line; asks = rules.Worth e }) (listed w)
+
+abbrev pub asked_of : (Numbered → Option Form) → List (Located Numbered) → List Part
+asked_of read own = flat_map (λ (l : Located Numbered). worth_parts (Some l) (read l.statement)) own
+
+-- ---- Values
+module _ (solution : Solution) where
+  -- the value of a part, from its content; of a condition with these parts; of the own condition of a line
+  abbrev pub asked_value : rules.Asked → Tri
+  asked_value asks = elim asks [
+    | rules.Worth e ↦ value (known solution) solution.tree.modules e
+    | rules.ModeOf k ↦ mode_of solution.tree (known solution) (choice_at solution.tree k)
+  ]
+
+  abbrev pub parts_value : List Part → Tri
+  parts_value ps = least (map (λ (p : Part). asked_value p.asks) ps)
+
+  abbrev pub when_value : Option Form → Tri
+  when_value w = least (map (value (known solution) solution.tree.modules) (listed w))
+
+  -- the value of a line with this condition, given the value of the dependency
+  abbrev pub value_under : Tri → Option Form → Tri
+  value_under t w = lesser t (when_value w)

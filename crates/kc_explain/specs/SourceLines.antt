@@ -1,33 +1,36 @@
--- For proofs: Lines of a file, and which of them belong to a definition.
+-- For proofs: Lines of a file.
 use Rattle.std.specs.List.{slice_split, suffix_len}
-use Rattle.std.specs.Prelude.{List, None, Option, Some, [], codes, drop, length, take, take_while, ℕ, ◌++◌, ◌-◌, ◌∷◌, ◌≡◌}
+use Rattle.std.specs.Prelude.{List, None, Option, Some, [], codes, drop, length, take, ℕ, ◌++◌, ◌-◌, ◌≡◌}
 use Rattle.kc_language.specs.Expansion.{Files}
-use Rattle.kc_language.specs.Explanations.{begins_blank, without_text}
-use Rattle.kc_language.specs.Lines.{is_line_feed}
+use Rattle.kc_language.specs.Lines.{Physical, is_line_feed, physical_lines}
+use Rattle.kc_outcome.specs.Explanations.{without_text}
+use Rattle.kc_explain.specs.declared.statement_lines.ReadLine.{ReadLine}
 
--- the lines of what is left of a file
+-- the lines of the rest of a file
 abbrev pub lines_left : Option (List ℕ) → List (List ℕ)
 lines_left None = []
 lines_left (Some rest) = slice_split is_line_feed rest
 
--- the lines of a file, none where there is no such file
+-- the lines of a file, or no lines if it does not exist
 abbrev pub lines_of : Files → List ℕ → List (List ℕ)
 lines_of files file = lines_left (files.bytes file)
 
--- what is left of a file is what is behind so many of its lines
+-- the same as they are read
+abbrev pub read_left : Option (List ℕ) → List Physical
+read_left None = []
+read_left (Some rest) = physical_lines rest
+
+-- a line as it is read
+abbrev pub read_view : ReadLine → Physical
+read_view l = record { text = l.text.now; ended = l.ended }
+
+-- the rest of a file comes after its first `passed` lines
 abbrev pub StandsBehind : List (List ℕ) → ℕ → Option (List ℕ) → Type 0
 StandsBehind lines passed rest = lines_left rest ≡ drop passed lines
 
 abbrev pub comment : List ℕ → List ℕ
 comment line = codes "# " ++ line ++ codes "\n"
 
--- those of the lines behind a definition's first line that belong to it
-abbrev pub shown_of : List (List ℕ) → List (List ℕ)
-shown_of lines = let own = take_while begins_blank lines in take (length own - suffix_len without_text own) own
-
--- the first of the lines, with those that belong to it
-abbrev pub excerpt_in : List (List ℕ) → List (List ℕ)
-excerpt_in lines = elim lines [
-  | [] ↦ []
-  | line ∷ more ↦ let own = take_while begins_blank more in line ∷ take (length own - suffix_len without_text own) own
-]
+-- these lines without those at the end that have no text
+abbrev pub with_text : List (List ℕ) → List (List ℕ)
+with_text all = take (length all - suffix_len without_text all) all

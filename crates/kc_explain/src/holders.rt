@@ -1,34 +1,42 @@
-//! What holds a symbol down.
+//! The symbols that hold a symbol down.
 
-ghost use Rattle.std.specs.Prelude.{◌≡◌, ◌++◌, [], ◌∷◌, List, IfOk, OnOk, drop, if◌then◌else◌, is_some, length, map, option_map};
+ghost use Rattle.std.specs.Prelude.{◌≡◌, ◌++◌, [], ◌∷◌, List, IfOk, OnOk, filter, if◌then◌else◌, is_some, map, not, option_map};
 ghost use Rattle.std.specs.List.{flat_map};
 ghost use Rattle.kc_expr.specs.Form.{form_of};
 ghost use Rattle.kc_expr.specs.PartsOfSymbols.{added};
-ghost use Rattle.kc_language.specs.Explanations as rules;
-ghost use Rattle.kc_language.specs.Expressions.{number_of_text};
+ghost use Rattle.kc_language.specs.Expressions.{number_of_text, symbols};
 ghost use Rattle.kc_language.specs.Statements.{statements};
-ghost use Rattle.kc_language.specs.Symbols.{same_type};
-ghost use Rattle.kc_explain.specs.Holding as held;
-ghost use Rattle.kc_explain.specs.PartViews.{asked_view, default_said, part_view, prompt_said, range_said};
+ghost use Rattle.kc_language.specs.Symbols.{all_added, same_type};
+ghost use Rattle.kc_language.specs.Texts.{known};
+ghost use Rattle.kc_language.specs.declared.expressions.SymbolType.{SymbolType as AnyType};
+ghost use Rattle.kc_outcome.specs.Explanations as rules;
+ghost use Rattle.kc_tree.specs.LineParts as written;
+ghost use Rattle.kc_explain.specs.FactViews.{bounds_by, fact_view, given_by_default};
+ghost use Rattle.kc_explain.specs.Holding as told;
+ghost use Rattle.kc_explain.specs.LineViews.{at_entry, lines_of};
+ghost use Rattle.kc_explain.specs.PartViews.{asked_view, part_view, prompt_said};
+ghost use Rattle.kc_explain.specs.PartsOfExplanations as named;
 
-use crate::attributes::condition;
-use crate::lines::Lines;
+use crate::fact::Fact;
+use crate::facts::facts_of;
+use crate::lines::choice_entry;
 use crate::parts::{
-    Asked, ConditionPart, Said, default_lines, dependency_parts, is_met_default, part_value,
-    prompt_at, range_lines, shown_parts,
+    Asked, ConditionPart, PromptLine, dependency_parts, expression_value, prompt_at, shown_parts,
 };
 use crate::seen::Seen;
+use crate::teller::Teller;
+use kc_entries::statement::{SymbolDefault, SymbolRange};
 use kc_expr::expression::{Expr, SymId, SymbolType, Tri};
 use kc_expr::values::{Values, symbol_into, symbols_into};
-use kc_language::explanations::Source;
-use kc_read::statement::Prompt;
 use kc_solve::solved::Solved;
 use kc_text::{has_hex_prefix, read_hex, read_int};
-use kc_tree::rows::{SymbolDefault, SymbolRange};
+use kc_tree::attributes::condition;
+use kc_tree::layout::Layout;
+use kc_tree::rows::EntryId;
 use kc_values::table::name;
 use std::alloc::{AllocError, Global};
 
-// ---- parts of conditions
+// ---- conditions
 
 // Whether a value is y.
 fn is_y(value: Tri) -> bool
@@ -37,49 +45,59 @@ fn is_y(value: Tri) -> bool
     matches!(value, Tri::Y)
 }
 
-// Adds the symbols of an expression.
+// Appends the symbols of an expression.
 fn add_form_names(solved: &Solved<'_>, e: &Expr, all: &mut Vec<SymId>) -> Result<(), AllocError>
-    ensures { OnOk result (all.new.items ≡ all.old.items ++ held.form_names solved.now (form_of e.now)) }
+    ensures { OnOk result (all.new.items ≡ all.old.items ++ symbols solved.now.tree.modules (form_of e.now)) }
 {
     symbols_into(e, solved.modules(), all)
 }
 
-// Adds the symbols of what a part asks, if that is an expression.
-fn add_asked_names(
-    solved: &Solved<'_>,
-    asks: Asked<'_>,
-    all: &mut Vec<SymId>,
-) -> Result<(), AllocError>
-    ensures { OnOk result (all.new.items ≡ all.old.items ++ held.asked_names solved.now (asked_view asks.entry)) }
+// Appends the symbols of an expression below y.
+fn add_low_names(solved: &Solved<'_>, e: &Expr, all: &mut Vec<SymId>) -> Result<(), AllocError>
+    ensures { OnOk result (all.new.items ≡ all.old.items ++ told.low_names solved.now (form_of e.now)) }
 {
-    match asks {
-        Asked::Worth(e) => add_form_names(solved, e, all),
-        Asked::ModeOf(_) => Ok(()),
+    if is_y(expression_value(solved, e)) {
+        Ok(())
+    } else {
+        add_form_names(solved, e, all)
     }
 }
 
-// Adds the symbols of a part that is an expression below y.
+// Appends the symbols of a line's own condition, if it is below y.
+fn add_own_names(
+    solved: &Solved<'_>,
+    when: Option<&Expr>,
+    all: &mut Vec<SymId>,
+) -> Result<(), AllocError>
+    ensures { OnOk result (all.new.items ≡ all.old.items ++ told.own_names solved.now (option_map (λ e. form_of e.now) when.entry)) }
+{
+    match when {
+        Some(e) => add_low_names(solved, e, all),
+        None => Ok(()),
+    }
+}
+
+// Appends the symbols of a part that is an expression below y.
 fn add_worth_names(
     solved: &Solved<'_>,
     part: &ConditionPart<'_>,
     all: &mut Vec<SymId>,
 ) -> Result<(), AllocError>
-    ensures { OnOk result (all.new.items ≡ all.old.items ++ held.worth_names solved.now (part_view part.now)) }
+    ensures { OnOk result (all.new.items ≡ all.old.items ++ told.worth_names solved.now (asked_view part.now.asks)) }
 {
-    if is_y(part_value(solved, part)) {
-        Ok(())
-    } else {
-        add_asked_names(solved, part.asks, all)
+    match part.asks {
+        Asked::Worth(e) => add_low_names(solved, e, all),
+        Asked::ModeOf(_) => Ok(()),
     }
 }
 
-// Adds those of all parts that are expressions.
+// Appends the symbols of all parts that are expressions below y.
 fn add_all_worth_names(
     solved: &Solved<'_>,
     parts: &[ConditionPart<'_>],
     all: &mut Vec<SymId>,
 ) -> Result<(), AllocError>
-    ensures { OnOk result (all.new.items ≡ all.old.items ++ flat_map (held.worth_names solved.now) (map part_view parts.now)) }
+    ensures { OnOk result (all.new.items ≡ all.old.items ++ told.all_worth_names solved.now (map part_view parts.now)) }
 {
     for part in parts {
         add_worth_names(solved, part, all)?;
@@ -89,342 +107,151 @@ fn add_all_worth_names(
 
 // ---- choices
 
-// Adds what holds the prompt of a choice down, if there is one.
+// Appends what holds down the mode of the choice that begins with an entry, which has this prompt.
 fn add_shown_worth(
     alloc: Global,
-    lines: &Lines<'_>,
+    layout: &Layout,
     solved: &Solved<'_>,
-    prompt: Option<Said<'_, Prompt>>,
+    entry: EntryId,
+    prompt: &PromptLine<'_>,
     all: &mut Vec<SymId>,
 ) -> Result<(), AllocError>
-    ensures { OnOk result (all.new.items ≡ all.old.items ++ held.shown_worth lines.now solved.now (option_map prompt_said prompt.entry)) }
+    ensures { OnOk result (all.new.items ≡ all.old.items
+        ++ told.all_worth_names solved.now (named.shown_parts layout.now entry (prompt_said prompt.now))) }
 {
-    match prompt {
-        Some(prompt) => {
-            let shown = shown_parts(alloc, lines, &prompt)?;
-            add_all_worth_names(solved, &shown, all)
-        }
-        None => Ok(()),
-    }
+    let shown = shown_parts(alloc, layout, entry, prompt)?;
+    add_all_worth_names(solved, &shown, all)
 }
 
-// Adds what holds the mode of the choice down that begins with a line.
-#[tactic(auto, using(crate::proofs::HoldingLemmas::listed_is))]
+// Appends what holds down the mode of the choice that begins with an entry.
 fn add_choice_names(
     alloc: Global,
-    lines: &Lines<'_>,
+    layout: &Layout,
     solved: &Solved<'_>,
-    entry: usize,
+    entry: EntryId,
     all: &mut Vec<SymId>,
 ) -> Result<(), AllocError>
-    ensures { OnOk result (all.new.items ≡ all.old.items ++ rules.choice_names lines.now solved.now entry) }
+    ensures { OnOk result (all.new.items ≡ all.old.items ++ at_entry layout.now (told.choice_names (lines_of layout.now) solved.now) entry) }
 {
-    let parts = dependency_parts(alloc, lines, entry)?;
+    let parts = dependency_parts(alloc, layout, entry)?;
     add_all_worth_names(solved, &parts, all)?;
-    let prompt = prompt_at(alloc, lines, entry)?;
-    add_shown_worth(alloc, lines, solved, prompt, all)
-}
-
-// Adds what holds a choice down, if there is one.
-fn add_entry_names(
-    alloc: Global,
-    lines: &Lines<'_>,
-    solved: &Solved<'_>,
-    entry: Option<usize>,
-    all: &mut Vec<SymId>,
-) -> Result<(), AllocError>
-    ensures { OnOk result (all.new.items ≡ all.old.items ++ held.entry_names lines.now solved.now entry) }
-{
-    match entry {
-        Some(entry) => add_choice_names(alloc, lines, solved, entry, all),
+    match prompt_at(layout, entry) {
+        Some(prompt) => add_shown_worth(alloc, layout, solved, entry, &prompt, all),
         None => Ok(()),
     }
 }
 
-// ---- dependencies and prompts
-
-// Adds the symbols of what a part asks, or what holds its choice down.
-fn add_asked_part_names(
+// Appends what holds down the mode of the choice with this number.
+fn add_mode_names(
     alloc: Global,
-    lines: &Lines<'_>,
+    layout: &Layout,
     solved: &Solved<'_>,
-    asks: Asked<'_>,
+    choice: usize,
     all: &mut Vec<SymId>,
 ) -> Result<(), AllocError>
-    ensures { OnOk result (all.new.items ≡ all.old.items ++ held.asked_part_names lines.now solved.now (asked_view asks.entry)) }
+    ensures { OnOk result (all.new.items ≡ all.old.items
+        ++ rules.mode_names (statements (lines_of layout.now)) solved.now.tree (known solved.now) choice) }
 {
-    match asks {
-        Asked::Worth(e) => add_form_names(solved, e, all),
-        Asked::ModeOf(choice) => {
-            add_entry_names(alloc, lines, solved, lines.choice_entry(choice), all)
-        }
+    match choice_entry(layout, choice) {
+        Some(entry) => add_choice_names(alloc, layout, solved, entry, all),
+        None => Ok(()),
     }
 }
 
-// Adds what holds a part down.
+// ---- facts
+
+// Appends what holds down a part of a condition with this value.
 fn add_part_names(
     alloc: Global,
-    lines: &Lines<'_>,
-    solved: &Solved<'_>,
+    t: &Teller<'_, '_, '_>,
     part: &ConditionPart<'_>,
+    value: Tri,
     all: &mut Vec<SymId>,
 ) -> Result<(), AllocError>
-    ensures { OnOk result (all.new.items ≡ all.old.items ++ rules.part_names lines.now solved.now (part_view part.now)) }
+    ensures { OnOk result (all.new.items ≡ all.old.items
+        ++ told.part_names (lines_of t.now.layout.now) t.now.solved.now (asked_view part.now.asks) value) }
 {
-    if is_y(part_value(solved, part)) {
-        Ok(())
-    } else {
-        add_asked_part_names(alloc, lines, solved, part.asks, all)
+    if is_y(value) {
+        return Ok(());
+    }
+    match part.asks {
+        Asked::Worth(e) => add_form_names(t.solved, e, all),
+        Asked::ModeOf(choice) => add_mode_names(alloc, t.layout, t.solved, choice, all),
     }
 }
 
-// Adds what holds these parts down.
-fn add_all_part_names(
-    alloc: Global,
-    lines: &Lines<'_>,
-    solved: &Solved<'_>,
-    parts: &[ConditionPart<'_>],
-    all: &mut Vec<SymId>,
-) -> Result<(), AllocError>
-    ensures { OnOk result (all.new.items ≡ all.old.items ++ flat_map (rules.part_names lines.now solved.now) (map part_view parts.now)) }
-{
-    for part in parts {
-        add_part_names(alloc, lines, solved, part, all)?;
-    }
-    Ok(())
-}
-
-// Adds what holds the dependency of an entry down.
-fn add_dependency_names(
-    alloc: Global,
-    lines: &Lines<'_>,
-    solved: &Solved<'_>,
-    entry: usize,
-    all: &mut Vec<SymId>,
-) -> Result<(), AllocError>
-    ensures { OnOk result (all.new.items ≡ all.old.items ++ held.dependency_names lines.now solved.now entry) }
-{
-    let parts = dependency_parts(alloc, lines, entry)?;
-    add_all_part_names(alloc, lines, solved, &parts, all)
-}
-
-// Adds what holds the dependencies of these entries down.
-fn add_all_dependency_names(
-    alloc: Global,
-    lines: &Lines<'_>,
-    solved: &Solved<'_>,
-    entries: &[usize],
-    all: &mut Vec<SymId>,
-) -> Result<(), AllocError>
-    ensures { OnOk result (all.new.items ≡ all.old.items ++ flat_map (held.dependency_names lines.now solved.now) entries.now) }
-{
-    for entry in entries {
-        add_dependency_names(alloc, lines, solved, *entry, all)?;
-    }
-    Ok(())
-}
-
-// Adds what holds a prompt down, if there is one.
-fn add_shown_names(
-    alloc: Global,
-    lines: &Lines<'_>,
-    solved: &Solved<'_>,
-    prompt: Option<Said<'_, Prompt>>,
-    all: &mut Vec<SymId>,
-) -> Result<(), AllocError>
-    ensures { OnOk result (all.new.items ≡ all.old.items ++ held.shown_names lines.now solved.now (option_map prompt_said prompt.entry)) }
-{
-    match prompt {
-        Some(prompt) => {
-            let shown = shown_parts(alloc, lines, &prompt)?;
-            add_all_part_names(alloc, lines, solved, &shown, all)
-        }
-        None => Ok(()),
-    }
-}
-
-// Adds what holds the prompt of an entry down.
-#[tactic(auto, using(crate::proofs::HoldingLemmas::listed_is))]
-fn add_prompt_names(
-    alloc: Global,
-    lines: &Lines<'_>,
-    solved: &Solved<'_>,
-    entry: usize,
-    all: &mut Vec<SymId>,
-) -> Result<(), AllocError>
-    ensures { OnOk result (all.new.items ≡ all.old.items ++ held.prompt_names lines.now solved.now (entry ∷ [])) }
-{
-    let prompt = prompt_at(alloc, lines, entry)?;
-    add_shown_names(alloc, lines, solved, prompt, all)
-}
-
-// Adds what holds the prompts of these entries down.
-fn add_all_prompt_names(
-    alloc: Global,
-    lines: &Lines<'_>,
-    solved: &Solved<'_>,
-    entries: &[usize],
-    all: &mut Vec<SymId>,
-) -> Result<(), AllocError>
-    ensures { OnOk result (all.new.items ≡ all.old.items ++ held.prompt_names lines.now solved.now entries.now) }
-{
-    for entry in entries {
-        add_prompt_names(alloc, lines, solved, *entry, all)?;
-    }
-    Ok(())
-}
-
-// ---- defaults and ranges
-
-// Adds the symbols of the own condition of a line, if it is below y.
-fn add_when_names(
-    solved: &Solved<'_>,
-    at: usize,
-    when: Option<&Expr>,
-    all: &mut Vec<SymId>,
-) -> Result<(), AllocError>
-    ensures { OnOk result (all.new.items ≡ all.old.items ++ held.when_names solved.now at (option_map (λ e. form_of e.now) when.entry)) }
-{
-    match when {
-        Some(e) => {
-            let asks = Asked::Worth(e);
-            add_worth_names(solved, &ConditionPart { at, asks }, all)
-        }
-        None => Ok(()),
-    }
-}
-
-// Adds what holds a default down, and the symbols of its value if it applied.
+// Appends what holds down a default, and the symbols of its value if it counts.
 fn add_default_names(
-    alloc: Global,
-    lines: &Lines<'_>,
     solved: &Solved<'_>,
-    default: &Said<'_, SymbolDefault>,
+    what: &SymbolDefault,
+    counts: bool,
     all: &mut Vec<SymId>,
 ) -> Result<(), AllocError>
-    ensures { OnOk result (all.new.items ≡ all.old.items ++ rules.default_names lines.now solved.now (default_said default.now)) }
+    ensures { (kind : AnyType) → OnOk result (all.new.items ≡ all.old.items
+        ++ told.default_names solved.now (written.default_said what.now) (given_by_default solved.now counts kind (written.default_said what.now))) }
 {
-    add_when_names(solved, default.at, condition(&default.what.when), all)?;
-    if is_met_default(alloc, lines, solved, default)? {
-        add_form_names(solved, &default.what.value, all)
+    add_own_names(solved, condition(&what.when), all)?;
+    if counts {
+        add_form_names(solved, &what.value, all)
     } else {
         Ok(())
     }
 }
 
-// Adds those of these defaults.
-fn add_all_default_names(
-    alloc: Global,
-    lines: &Lines<'_>,
+// Appends what holds down a range, and the symbols of its bounds if it counts.
+fn add_range_names(
     solved: &Solved<'_>,
-    defaults: &[Said<'_, SymbolDefault>],
+    what: &SymbolRange,
+    counts: bool,
     all: &mut Vec<SymId>,
 ) -> Result<(), AllocError>
-    ensures { OnOk result (all.new.items ≡ all.old.items ++ flat_map (rules.default_names lines.now solved.now) (map default_said defaults.now)) }
+    ensures { (kind : AnyType) → OnOk result (all.new.items ≡ all.old.items
+        ++ told.range_names solved.now (written.range_said what.now) (bounds_by solved.now counts kind (written.range_said what.now).0)) }
 {
-    for default in defaults {
-        add_default_names(alloc, lines, solved, default, all)?;
+    add_own_names(solved, condition(&what.when), all)?;
+    if counts {
+        symbol_into(&what.low, all)?;
+        symbol_into(&what.high, all)
+    } else {
+        Ok(())
+    }
+}
+
+// Appends the symbols that a fact names as holding the symbol down.
+fn add_names(
+    alloc: Global,
+    t: &Teller<'_, '_, '_>,
+    fact: &Fact<'_>,
+    all: &mut Vec<SymId>,
+) -> Result<(), AllocError>
+    ensures { OnOk result (all.new.items ≡ all.old.items ++ told.names (lines_of t.now.layout.now) t.now.solved.now (fact_view t.now.solved.now fact.now)) }
+{
+    match *fact {
+        Fact::Part { part, value } => add_part_names(alloc, t, &part, value, all),
+        Fact::Default { what, counts, .. } => add_default_names(t.solved, what, counts, all),
+        Fact::Range { what, counts, .. } => add_range_names(t.solved, what, counts, all),
+        Fact::MemberDefault { when, .. } => add_own_names(t.solved, condition(when), all),
+        _ => Ok(()),
+    }
+}
+
+// Appends those of these facts.
+fn add_all_names(
+    alloc: Global,
+    t: &Teller<'_, '_, '_>,
+    facts: &[Fact<'_>],
+    all: &mut Vec<SymId>,
+) -> Result<(), AllocError>
+    ensures { OnOk result (all.new.items ≡ all.old.items
+        ++ flat_map (told.names (lines_of t.now.layout.now) t.now.solved.now) (map (fact_view t.now.solved.now) facts.now)) }
+{
+    for fact in facts {
+        add_names(alloc, t, fact, all)?;
     }
     Ok(())
-}
-
-// Adds the symbols that are bounds of a range.
-fn add_bound_names(range: &Said<'_, SymbolRange>, all: &mut Vec<SymId>) -> Result<(), AllocError>
-    ensures { OnOk result (all.new.items ≡ all.old.items ++ held.bound_names (range_said range.now)) }
-{
-    symbol_into(&range.what.low, all)?;
-    symbol_into(&range.what.high, all)
-}
-
-// Adds those of these ranges.
-fn add_all_bound_names(
-    ranges: &[Said<'_, SymbolRange>],
-    all: &mut Vec<SymId>,
-) -> Result<(), AllocError>
-    ensures { OnOk result (all.new.items ≡ all.old.items ++ flat_map held.bound_names (map range_said ranges.now)) }
-{
-    for range in ranges {
-        add_bound_names(range, all)?;
-    }
-    Ok(())
-}
-
-// Adds those of the defaults of a symbol up to the one that applied, and of its ranges up to the active one.
-fn add_stated_names(
-    alloc: Global,
-    lines: &Lines<'_>,
-    solved: &Solved<'_>,
-    id: SymId,
-    all: &mut Vec<SymId>,
-) -> Result<(), AllocError>
-    ensures { OnOk result (all.new.items ≡ all.old.items ++ held.stated_names lines.now solved.now id) }
-{
-    let defaults = default_lines(alloc, lines, solved, id)?;
-    add_all_default_names(alloc, lines, solved, &defaults, all)?;
-    let ranges = range_lines(alloc, lines, solved, id)?;
-    add_all_bound_names(&ranges, all)
 }
 
 // ---- a symbol
-
-// Whether the defaults decide.
-fn is_by_default(source: Source) -> bool
-    ensures { result ≡ rules.is_by_default source }
-{
-    matches!(
-        source,
-        Source::Implied | Source::Default | Source::MovedDefault | Source::NoDefault
-    )
-}
-
-// Whether the defaults of a symbol decide its value; a symbol that the tree does not have has none.
-fn has_default_source(solved: &Solved<'_>, id: SymId) -> bool
-    ensures { result ≡ rules.is_by_default (rules.source solved.now id) }
-{
-    if id.0 < solved.tree().name_count() {
-        is_by_default(solved.source(id))
-    } else {
-        false
-    }
-}
-
-// Adds the symbols that hold a symbol down.
-fn add_holders(
-    alloc: Global,
-    lines: &Lines<'_>,
-    solved: &Solved<'_>,
-    id: SymId,
-    all: &mut Vec<SymId>,
-) -> Result<(), AllocError>
-    ensures { OnOk result (all.new.items ≡ all.old.items ++ rules.holders lines.now solved.now id) }
-{
-    let entries = lines.definitions_of(alloc, id)?;
-    add_all_dependency_names(alloc, lines, solved, &entries, all)?;
-    add_all_prompt_names(alloc, lines, solved, &entries, all)?;
-    if has_default_source(solved, id) {
-        add_stated_names(alloc, lines, solved, id, all)
-    } else {
-        Ok(())
-    }
-}
-
-// Adds the symbols that hold these down.
-fn add_all_holders(
-    alloc: Global,
-    lines: &Lines<'_>,
-    solved: &Solved<'_>,
-    front: &[SymId],
-    all: &mut Vec<SymId>,
-) -> Result<(), AllocError>
-    ensures { OnOk result (all.new.items ≡ all.old.items ++ flat_map (rules.holders lines.now solved.now) front.now) }
-{
-    for id in front {
-        add_holders(alloc, lines, solved, *id, all)?;
-    }
-    Ok(())
-}
-
-// ---- what is reached
 
 // Whether a text is a number.
 fn is_number(text: &[u8]) -> bool
@@ -437,21 +264,75 @@ fn is_number(text: &[u8]) -> bool
     }
 }
 
-// Whether this is no type.
+// Whether a symbol of this type has no type.
 fn is_untyped(symbol_type: SymbolType) -> bool
     ensures { result ≡ same_type symbol_type SymbolType.Undefined }
 {
     matches!(symbol_type, SymbolType::Undefined)
 }
 
-// Whether a symbol is a word that is a number.
-fn is_number_word(solved: &Solved<'_>, id: SymId) -> bool
-    ensures { result ≡ held.is_number_word solved.now id }
+// Whether the name of a symbol without a type is a number.
+fn is_number_word(t: &Teller<'_, '_, '_>, id: SymId) -> bool
+    ensures { result ≡ rules.is_number_word t.now.input.now t.now.solved.now id }
 {
-    is_untyped(solved.symbol_type(id)) && is_number(name(solved.tree(), id))
+    is_untyped(t.solved.symbol_type(id)) && is_number(name(t.solved.tree(), id))
 }
 
-// Adds a symbol to those that were reached, and to the next ones if it is new.
+// These symbols without those whose names are numbers.
+fn without_numbers(
+    alloc: Global,
+    t: &Teller<'_, '_, '_>,
+    found: &[SymId],
+) -> Result<Vec<SymId>, AllocError>
+    ensures { IfOk result (λ all. all.items ≡ filter (λ s. not (rules.is_number_word t.now.input.now t.now.solved.now s)) found.now) }
+{
+    let mut all = Vec::new(alloc);
+    for id in found {
+        if !is_number_word(t, *id) {
+            all.push(*id)?;
+        }
+    }
+    Ok(all)
+}
+
+// The symbols that the facts about a symbol name.
+fn names_of(alloc: Global, t: &Teller<'_, '_, '_>, id: SymId) -> Result<Vec<SymId>, AllocError>
+    ensures { IfOk result (λ all. all.items
+        ≡ rules.holders (statements t.now.solved.now.tree.lines) t.now.solved.now.tree t.now.input.now (known t.now.solved.now) id) }
+{
+    let facts = facts_of(alloc, t, id)?;
+    let mut all = Vec::new(alloc);
+    add_all_names(alloc, t, &facts, &mut all)?;
+    Ok(all)
+}
+
+/// Returns the symbols that hold a symbol down. The only error is that memory runs out.
+pub fn held(alloc: Global, t: &Teller<'_, '_, '_>, id: SymId) -> Result<Vec<SymId>, AllocError>
+    ensures { IfOk result (λ all. all.items ≡ rules.held t.now.input.now t.now.solved.now id) }
+{
+    let found = names_of(alloc, t, id)?;
+    without_numbers(alloc, t, &found)
+}
+
+// ---- the symbols that are reached
+
+// Appends the symbols that hold these symbols down.
+fn add_all_held(
+    alloc: Global,
+    t: &Teller<'_, '_, '_>,
+    front: &[SymId],
+    all: &mut Vec<SymId>,
+) -> Result<(), AllocError>
+    ensures { OnOk result (all.new.items ≡ all.old.items ++ flat_map (rules.held t.now.input.now t.now.solved.now) front.now) }
+{
+    for id in front {
+        let found = held(alloc, t, *id)?;
+        all.extend_from_slice(&found)?;
+    }
+    Ok(())
+}
+
+// Adds a symbol to those reached, and to the next ones if it is new.
 fn add_new(id: SymId, seen: &mut Seen, next: &mut Vec<SymId>) -> Result<(), AllocError>
     ensures seen { OnOk result (seen.new ≡ added seen.old id) }
     ensures next { (before : List SymId) → seen.old ≡ before ++ next.old.items → OnOk result (seen.new ≡ before ++ next.new.items) }
@@ -462,68 +343,44 @@ fn add_new(id: SymId, seen: &mut Seen, next: &mut Vec<SymId>) -> Result<(), Allo
     Ok(())
 }
 
-// The same, unless it is a word that is a number.
-fn add_one(
-    solved: &Solved<'_>,
-    id: SymId,
-    seen: &mut Seen,
-    next: &mut Vec<SymId>,
-) -> Result<(), AllocError>
-    ensures seen { OnOk result (seen.new ≡ held.with_one solved.now seen.old id) }
-    ensures next { (before : List SymId) → seen.old ≡ before ++ next.old.items → OnOk result (seen.new ≡ before ++ next.new.items) }
-{
-    if is_number_word(solved, id) {
-        Ok(())
-    } else {
-        add_new(id, seen, next)
-    }
-}
-
-// Adds these symbols, those that are words of numbers left out, to those that were reached, and to the next ones if they are new.
-fn add_all(
-    solved: &Solved<'_>,
-    found: &[SymId],
-    seen: &mut Seen,
-    next: &mut Vec<SymId>,
-) -> Result<(), AllocError>
-    ensures seen { OnOk result (seen.new ≡ held.with_all solved.now seen.old found.now) }
+// Adds these symbols to those reached, and the new ones to the next ones.
+fn add_all(found: &[SymId], seen: &mut Seen, next: &mut Vec<SymId>) -> Result<(), AllocError>
+    ensures seen { OnOk result (seen.new ≡ all_added seen.old found.now) }
     ensures next { (before : List SymId) → seen.old ≡ before ++ next.old.items → OnOk result (seen.new ≡ before ++ next.new.items) }
 {
     for id in found {
-        add_one(solved, *id, seen, next)?;
+        add_new(*id, seen, next)?;
     }
     Ok(())
 }
 
-// The symbols that are reached in one step more.
+// Returns the symbols that one more step reaches.
 fn step(
     alloc: Global,
-    lines: &Lines<'_>,
-    solved: &Solved<'_>,
+    t: &Teller<'_, '_, '_>,
     front: &[SymId],
     seen: &mut Seen,
 ) -> Result<Vec<SymId>, AllocError>
-    ensures seen { OnOk result (seen.new ≡ held.wider lines.now solved.now seen.old front.now) }
+    ensures seen { OnOk result (seen.new ≡ told.wider t.now.input.now t.now.solved.now seen.old front.now) }
     ensures next { IfOk result (λ next. seen.new ≡ seen.old ++ next.items) }
 {
     let mut found = Vec::new(alloc);
-    add_all_holders(alloc, lines, solved, front, &mut found)?;
+    add_all_held(alloc, t, front, &mut found)?;
     let mut next = Vec::new(alloc);
-    add_all(solved, &found, seen, &mut next)?;
+    add_all(&found, seen, &mut next)?;
     Ok(next)
 }
 
-// Adds what is reached in so many steps more.
+// Adds the symbols that `depth` more steps reach.
 #[tactic(auto, using(crate::proofs::HoldingLemmas::reached_next, crate::proofs::HoldingLemmas::reached_stops))]
 fn reach(
     alloc: Global,
-    lines: &Lines<'_>,
-    solved: &Solved<'_>,
+    t: &Teller<'_, '_, '_>,
     depth: usize,
     first: Vec<SymId>,
     seen: &mut Seen,
 ) -> Result<(), AllocError>
-    ensures { OnOk result (seen.new ≡ rules.reached lines.now solved.now depth seen.old first.items) }
+    ensures { OnOk result (seen.new ≡ rules.reached t.now.input.now t.now.solved.now depth seen.old first.items) }
 {
     let mut front = first;
     let mut left = depth;
@@ -531,27 +388,26 @@ fn reach(
         if front.is_empty() {
             return Ok(());
         }
-        front = step(alloc, lines, solved, &front, seen)?;
+        front = step(alloc, t, &front, seen)?;
         left -= 1;
     }
     Ok(())
 }
 
-/// The symbol, and then those that hold it down in so many steps, each once, the nearer ones first. Its only error is to be
-/// out of memory.
+/// Returns the symbol, and then those that hold it down in `depth` steps, each once, the nearer ones first. The only error is
+/// that memory runs out.
 pub(crate) fn reached(
     alloc: Global,
-    lines: &Lines<'_>,
-    solved: &Solved<'_>,
+    t: &Teller<'_, '_, '_>,
     depth: usize,
     id: SymId,
 ) -> Result<Seen, AllocError>
-    ensures { IfOk result (λ all. all ≡ rules.reached lines.now solved.now depth (id ∷ []) (id ∷ [])) }
+    ensures { IfOk result (λ all. all ≡ rules.reached t.now.input.now t.now.solved.now depth (id ∷ []) (id ∷ [])) }
 {
     let mut seen = Seen::new(alloc);
     seen.add(id)?;
     let mut front = Vec::new(alloc);
     front.push(id)?;
-    reach(alloc, lines, solved, depth, front, &mut seen)?;
+    reach(alloc, t, depth, front, &mut seen)?;
     Ok(seen)
 }

@@ -1,26 +1,36 @@
 #![tactic(auto)]
 //! Why a symbol has its value, and how it is defined.
 //!
-//! - [`Lines`]: the lines of a tree, with what stands where.
-//! - [`add_explanation`]: the lines that explain a symbol.
-//! - [`new_text_with_help`]: the list of new symbols with their definitions as they are written.
+//! - [`Teller`]: what explanations are made from.
+//! - [`add_explanation`], [`add_symbol_lines`], [`add_value_words`]: append the lines that explain a symbol, or a part of them.
+//! - [`held`]: what holds a symbol down.
+//! - [`DefinitionReader`]: gives the definitions of symbols as they are written.
+//! - [`Seen`]: symbols in the order in which they were seen.
 //! - [`asked_symbol`], [`near_text`]: the symbol of a name, and names that differ from one by one letter ([`differs_by_one`]).
 
-mod attributes;
-mod blocks;
+mod choice_facts;
 pub mod excerpt;
+mod fact;
+mod fact_text;
+mod facts;
 mod holders;
 pub mod laws;
-mod line_text;
-pub mod lines;
+mod lines;
+mod menus;
 pub mod names;
 mod parts;
-mod said;
+mod places;
+mod raises;
 mod seen;
 mod source_lines;
+mod stated;
+mod statement_lines;
+pub mod teller;
 pub mod text;
 
-pub use excerpt::new_text_with_help;
-pub use lines::Lines;
+pub use excerpt::DefinitionReader;
+pub use holders::held;
 pub use names::{asked_symbol, differs_by_one, near_text};
-pub use text::add_explanation;
+pub use seen::Seen;
+pub use teller::Teller;
+pub use text::{add_explanation, add_symbol_lines, add_value_words};

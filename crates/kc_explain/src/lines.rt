@@ -1,485 +1,247 @@
-//! The lines of a tree in order, and what stands where.
+//! The lines of a tree: their locations, blocks and entries.
 
-ghost use Rattle.std.specs.Prelude.{◌≡◌, ◌<◌, ◌==◌, ◌++◌, ◌∷◌, [], ℕ, List, if◌then◌else◌, length, map, option_map, slice_get, suc, filter, is_some, IfOk, OnOk, count_by, drop, nat_lt, take_while};
-ghost use Rattle.std.specs.List.{enumerate_from, flat_map};
-ghost use Rattle.std.specs.List.Sorted.{IsNonDecreasing};
-ghost use Rattle.kc_language.specs.Expansion.{attributes, enclosing};
-ghost use Rattle.kc_expr.specs.When.{when_view};
-ghost use Rattle.kc_language.specs.Explanations.{choice_entry, naming_lines, targets};
-ghost use Rattle.kc_language.specs.Statements.{statements};
+ghost use Rattle.std.specs.Prelude.{◌≡◌, ◌<◌, length, map, option_map, slice_get, ◌++◌, IfOk, OnOk};
+ghost use Rattle.std.specs.List.{flat_map};
+ghost use Rattle.kc_language.specs.Expansion.{enclosing, last_of};
+ghost use Rattle.kc_outcome.specs.Explanations.{choice_entry, raising_lines};
 ghost use Rattle.kc_language.specs.Symbols as whole;
-ghost use Rattle.kc_read.specs.Entries.{first_line, lines_in, own_lines};
-ghost use Rattle.kc_language.specs.Expansion.{bracket, defined_name, is_attribute, opened};
-ghost use Rattle.kc_language.specs.Symbols.{is_block, is_symbol_of};
-ghost use Rattle.kc_language.specs.declared.statements.Block.{Block};
-ghost use Rattle.kc_read.specs.StatementViews.{attribute_view};
-ghost use Rattle.kc_explain.specs.LineIndexes.{IsIndex, IsNext, attribute_in, entry_after, innermost_after, innermost_at, named, one_if, row_of, target_when};
-ghost use Rattle.kc_explain.specs.LineViews.{attribute_at_view, line_view, said_by, target_at_view};
+ghost use Rattle.kc_entries.specs.Entries.{attribute_line as line_of_attribute, first_line as line_of_head};
+ghost use Rattle.kc_entries.specs.PartsOfSymbols.{first_of};
+ghost use Rattle.kc_tree.specs.EntryViews.{definitions_from};
+ghost use Rattle.kc_tree.specs.Layouts as see;
+ghost use Rattle.kc_tree.specs.Stored.{stored};
+ghost use Rattle.kc_explain.specs.LineViews.{AreAt, attribute_in, line_at, line_view, lines_of, target_at, target_by, target_in, target_of_row, target_view};
 
+use kc_entries::entries::{AttributeLine, Entry};
+use kc_entries::statement::{Attribute, Head};
 use kc_expr::expression::{Expr, SymId};
 use kc_language::symbols::SelectOrImply;
-use kc_read::entries::{Entries, EntryLines};
-use kc_read::statement::{Attribute, Head};
+use kc_tree::attributes::target_of;
+use kc_tree::layout::Layout;
+use kc_tree::rows::{AttributeId, Choice, EntryId, Selector, SelectorId};
 use std::alloc::{AllocError, Global};
-use std::marker::Model;
 use std::rc::Rc;
 
-/// What a line says: it begins an entry, or is an attribute of the entry that was begun last (our own).
-#[derive(Clone, Copy, Debug)]
-pub enum LineStatement<'a> {
+/// The content of a line: it begins an entry, or is an attribute of the entry before it (our own).
+#[derive(Clone, Copy)]
+pub(crate) enum LineStatement<'a> {
     First(&'a Head),
     Attribute(&'a Attribute),
 }
 
-/// A line of a tree: its file, its number in it, and what it says (our own).
-#[derive(Clone, Copy, Debug)]
-pub struct Line<'a> {
+/// A line of a tree: its file, its line number, and its content (our own).
+#[derive(Clone, Copy)]
+pub(crate) struct Line<'a> {
     pub file: &'a [u8],
     pub number: u32,
     pub statement: LineStatement<'a>,
 }
 
-/// An attribute, and the number of its line among all lines of the tree.
-#[derive(Clone, Copy)]
-pub(crate) struct AttributeAt<'a> {
-    pub at: usize,
-    pub attribute: &'a Attribute,
-}
-
-/// A line that selects or implies a symbol: the number of its entry, its own number, and its condition.
+/// A line that selects or implies a symbol, the symbol and the entry that it belongs to, and its condition.
 #[derive(Clone, Copy)]
 pub(crate) struct TargetAt<'a> {
-    pub entry: usize,
-    pub at: usize,
+    pub by: SymId,
+    pub entry: EntryId,
+    pub line: Line<'a>,
     pub when: &'a Option<Rc<Expr>>,
 }
 
-// What is kept of the lines of a tree: by the number of a symbol the `config` lines that define it and the lines that select
-// and imply it, the lines that begin a choice, and for each line the innermost block that is open before it. `innermost` is the
-// innermost open block behind them, and `entry` the `config` line whose entry an attribute would belong to.
-#[derive(Drop)]
-struct LineIndex<'a> {
-    lines: Vec<Line<'a>>,
-    definitions: Vec<Vec<usize>>,
-    selectors: Vec<Vec<TargetAt<'a>>>,
-    impliers: Vec<Vec<TargetAt<'a>>>,
-    choices: Vec<usize>,
-    inner: Vec<Option<usize>>,
-    innermost: Option<usize>,
-    entry: Option<usize>,
-}
-
-// Adds empty rows until there is one with this number.
-fn make_room<T: Drop>(alloc: Global, rows: &mut Vec<Vec<T>>, row: usize) -> Result<(), AllocError>
-    ensures there { OnOk result (row < length rows.new.items) }
-    ensures same { OnOk result ((k : ℕ) → row_of rows.new.items k ≡ row_of rows.old.items k) }
+/// The line that begins an entry.
+pub(crate) fn head_line<'a>(first: &'a Entry) -> Line<'a>
+    ensures { line_view result ≡ line_of_head first.now }
 {
-    'rows: while rows.len() <= row {
-        rows.push(Vec::new(alloc))?;
+    Line {
+        file: &first.file,
+        number: first.line,
+        statement: LineStatement::First(&first.head),
     }
-    Ok(())
 }
 
-// Adds a value to a row.
-fn add_to_row<T: Drop>(
+/// The line of an attribute of the entry that begins with this line.
+pub(crate) fn attribute_line<'a>(first: &'a Entry, own: &'a AttributeLine) -> Line<'a>
+    ensures { line_view result ≡ line_of_attribute first.now.file.value.items own.now.line own.now.attribute }
+{
+    Line {
+        file: &first.file,
+        number: own.line,
+        statement: LineStatement::Attribute(&own.attribute),
+    }
+}
+
+/// The line that begins the entry with this number.
+pub(crate) fn first_line(layout: &Layout, entry: EntryId) -> Option<Line<'_>>
+    ensures { option_map line_view result ≡ line_at layout.now entry.0 }
+{
+    match layout.entry(entry) {
+        Some(own) => Some(head_line(own.first)),
+        None => None,
+    }
+}
+
+// The first definition of a symbol.
+fn first_definition(layout: &Layout, id: SymId) -> EntryId
+    ensures { result.0 ≡ stored (first_of (definitions_from layout.now.entries id 0)) }
+{
+    match layout.symbol(id) {
+        Some(symbol) => symbol.first,
+        None => EntryId::top(),
+    }
+}
+
+/// The definitions of a symbol, in order.
+pub(crate) fn definitions_of(
     alloc: Global,
-    rows: &mut Vec<Vec<T>>,
-    row: usize,
-    value: T,
-) -> Result<(), AllocError>
-    ensures { OnOk result ((k : ℕ) → row_of rows.new.items k ≡ row_of rows.old.items k ++ (if row == k then value ∷ [] else [])) }
+    layout: &Layout,
+    id: SymId,
+) -> Result<Vec<EntryId>, AllocError>
+    ensures { IfOk result (λ all. AreAt layout.now all.items (whole.definitions_of (see.statements_in layout.now) id)) }
 {
-    make_room(alloc, rows, row)?;
-    rows[row].push(value)?;
-    Ok(())
-}
-
-// What a row holds.
-fn row_at<T>(rows: &[Vec<T>], row: usize) -> &[T]
-    ensures { result.now ≡ row_of rows.now row }
-{
-    match rows.get(row) {
-        Some(values) => values,
-        None => &[],
+    let mut all = Vec::new(alloc);
+    let mut at = first_definition(layout, id);
+    'definitions: while at.is_some() {
+        all.push(at)?;
+        at = layout.next(at);
     }
+    Ok(all)
 }
 
-// The symbol that a `config` line defines.
-#[inline(always)]
-fn symbol_of(statement: LineStatement<'_>) -> Option<SymId>
-    ensures { result ≡ defined_name (said_by statement.entry) }
-{
-    match statement {
-        LineStatement::First(Head::Config(symbol)) => Some(*symbol),
-        _ => None,
-    }
-}
-
-// The attribute that a line is.
-fn attribute_of<'a>(statement: LineStatement<'a>) -> Option<&'a Attribute>
-    ensures { option_map (λ a. attribute_view a.now) result ≡ attribute_in (said_by statement.entry) }
-{
-    match statement {
-        LineStatement::First(_) => None,
-        LineStatement::Attribute(attribute) => Some(attribute),
-    }
-}
-
-// Whether a line begins a choice.
-#[inline(always)]
-fn is_choice(statement: LineStatement<'_>) -> bool
-    ensures { result ≡ is_block Block.Choice (opened (bracket (said_by statement.entry))) }
-{
-    matches!(statement, LineStatement::First(Head::Choice))
-}
-
-// The `config` line whose entry goes on after a line.
-#[inline(always)]
-fn entry_after(entry: Option<usize>, at: usize, statement: LineStatement<'_>) -> Option<usize>
-    ensures { result ≡ entry_after entry at (said_by statement.entry) }
-{
-    match statement {
-        LineStatement::First(Head::Config(_)) => Some(at),
-        LineStatement::First(_) => None,
-        LineStatement::Attribute(_) => entry,
-    }
-}
-
-// The innermost open block after a line.
-#[inline(always)]
-fn innermost_after(
-    inner: &[Option<usize>],
-    innermost: Option<usize>,
-    at: usize,
-    statement: LineStatement<'_>,
-) -> Option<usize>
-    ensures { result ≡ innermost_after inner.now innermost at (bracket (said_by statement.entry)) }
-{
-    match statement {
-        LineStatement::First(Head::If(_) | Head::Menu(_) | Head::Choice) => Some(at),
-        LineStatement::First(Head::EndIf | Head::EndMenu | Head::EndChoice) => {
-            let opener = innermost?;
-            *inner.get(opener)?
-        }
-        _ => innermost,
-    }
-}
-
-// The symbol that a line selects or implies, and under what condition.
-#[inline(always)]
-fn target_of<'a>(
-    word: SelectOrImply,
-    statement: LineStatement<'a>,
-) -> Option<(SymId, &'a Option<Rc<Expr>>)>
-    ensures { (s : SymId) → targets word s (said_by statement.entry) ≡ target_when s (option_map (λ t. (t.0, when_view t.1.now)) result) }
-{
-    match (word, statement) {
-        (SelectOrImply::Select, LineStatement::Attribute(Attribute::Select(symbol, when))) => {
-            Some((*symbol, when))
-        }
-        (SelectOrImply::Imply, LineStatement::Attribute(Attribute::Imply(symbol, when))) => {
-            Some((*symbol, when))
-        }
-        _ => None,
-    }
-}
-
-// Notes a `config` line.
-#[inline(always)]
-fn note_definition(
+/// The blocks around an entry, the outermost first.
+pub(crate) fn enclosing(
     alloc: Global,
-    rows: &mut Vec<Vec<usize>>,
-    at: usize,
-    statement: LineStatement<'_>,
-) -> Result<(), AllocError>
-    ensures { OnOk result ((s : SymId) → row_of rows.new.items s.0 ≡ row_of rows.old.items s.0 ++ one_if (is_symbol_of s (defined_name (said_by statement.entry))) at) }
+    layout: &Layout,
+    entry: EntryId,
+) -> Result<Vec<EntryId>, AllocError>
+    ensures { IfOk result (λ all. AreAt layout.now all.items (flat_map (enclosing (see.statements_in layout.now)) (whole.listed (see.index_at layout.now entry.0)))) }
 {
-    let Some(symbol) = symbol_of(statement) else {
-        return Ok(());
-    };
-    add_to_row(alloc, rows, symbol.0, at)?;
-    Ok(())
-}
-
-// Notes a line of this entry that selects or implies a symbol.
-#[inline(always)]
-fn note_target<'a>(
-    alloc: Global,
-    rows: &mut Vec<Vec<TargetAt<'a>>>,
-    word: SelectOrImply,
-    entry: Option<usize>,
-    at: usize,
-    statement: LineStatement<'a>,
-) -> Result<(), AllocError>
-    ensures { OnOk result ((s : SymId) → map target_at_view (row_of rows.new.items s.0)
-        ≡ map target_at_view (row_of rows.old.items s.0) ++ named word s entry at (said_by statement.entry)) }
-{
-    let Some(entry) = entry else {
-        return Ok(());
-    };
-    let Some((symbol, when)) = target_of(word, statement) else {
-        return Ok(());
-    };
-    add_to_row(alloc, rows, symbol.0, TargetAt { entry, at, when })?;
-    Ok(())
-}
-
-// Notes a line that begins a choice.
-#[inline(always)]
-fn note_choice(
-    choices: &mut Vec<usize>,
-    at: usize,
-    statement: LineStatement<'_>,
-) -> Result<(), AllocError>
-    ensures { OnOk result (choices.new.items ≡ choices.old.items ++ one_if (is_block Block.Choice (opened (bracket (said_by statement.entry)))) at) }
-{
-    if is_choice(statement) {
-        choices.push(at)?;
+    let mut all = Vec::new(alloc);
+    let mut at = layout.outer(entry);
+    'around: while at.is_some() {
+        all.push(at)?;
+        at = layout.outer(at);
     }
-    Ok(())
+    all.reverse();
+    Ok(all)
 }
 
-// Adds the attributes from a line on, up to the next line that is none.
-fn add_attributes<'a>(
-    lines: &[Line<'a>],
-    from: usize,
-    all: &mut Vec<AttributeAt<'a>>,
-) -> Result<(), AllocError>
-    ensures { OnOk result (map attribute_at_view all.new.items
-        ≡ map attribute_at_view all.old.items ++ enumerate_from from (take_while is_attribute (drop from (statements (map line_view lines.now))))) }
+// The choice with this number.
+fn choice_row(choices: &[Choice], choice: usize) -> Option<&Choice>
+    ensures { option_map (λ c. c.now) result ≡ slice_get choices.now choice }
 {
-    for at in from..lines.len() {
-        let Some(attribute) = attribute_of(lines[at].statement) else {
-            return Ok(());
-        };
-        all.push(AttributeAt { at, attribute })?;
-    }
-    Ok(())
+    choices.get(choice)
 }
 
-// How many numbers, which rise, are below a bound.
-fn count_below(numbers: &[usize], bound: usize) -> usize
-    requires { IsNonDecreasing numbers.now }
-    ensures { result ≡ count_by (λ n. nat_lt n bound) numbers.now }
+/// The entry of the choice with this number.
+pub(crate) fn choice_entry(layout: &Layout, choice: usize) -> Option<EntryId>
+    ensures { AreAt layout.now (whole.listed result) (choice_entry (see.statements_in layout.now) choice) }
 {
-    numbers.partition_point(|number| *number < bound)
+    match choice_row(layout.choices(), choice) {
+        Some(row) => Some(row.entry),
+        None => None,
+    }
 }
 
-impl<'a> LineIndex<'a> {
-    // Of no lines.
-    fn new(alloc: Global) -> LineIndex<'a>
-        ensures lines { result.lines.items ≡ [] }
-        ensures index { IsIndex result }
-    {
-        LineIndex {
-            lines: Vec::new(alloc),
-            definitions: Vec::new(alloc),
-            selectors: Vec::new(alloc),
-            impliers: Vec::new(alloc),
-            choices: Vec::new(alloc),
-            inner: Vec::new(alloc),
-            innermost: None,
-            entry: None,
-        }
+// The attribute with this number.
+fn attribute_at(layout: &Layout, id: AttributeId) -> Option<&AttributeLine>
+    ensures { option_map (λ a. a.now) result ≡ attribute_in layout.now id.0 }
+{
+    match id.index() {
+        Some(i) => layout.entries.attributes.get(i),
+        None => None,
     }
+}
 
-    // Of one line more.
-    #[inline(always)]
-    fn add(&mut self, alloc: Global, line: Line<'a>) -> Result<(), AllocError>
-        ensures lines { OnOk result (self.new.lines.items ≡ self.old.lines.items ++ line.entry ∷ []) }
-        ensures next { OnOk result (IsNext (length self.old.lines.items) (said_by line.entry.statement) self.old self.new) }
-    {
-        let at = self.lines.len();
-        let statement = line.statement;
-        let entry = self.entry;
-        note_definition(alloc, &mut self.definitions, at, statement)?;
-        note_target(
-            alloc,
-            &mut self.selectors,
-            SelectOrImply::Select,
+// The line of an attribute of an entry of a symbol, if the attribute selects or implies.
+fn target_by<'a>(
+    by: SymId,
+    entry: EntryId,
+    first: &'a Entry,
+    own: &'a AttributeLine,
+    layout: &Layout,
+) -> Option<TargetAt<'a>>
+    ensures { option_map (target_view layout.now) result ≡ target_by layout.now entry first.now own.now by }
+{
+    match target_of(&own.attribute) {
+        Some(target) => Some(TargetAt {
+            by,
             entry,
-            at,
-            statement,
-        )?;
-        note_target(
-            alloc,
-            &mut self.impliers,
-            SelectOrImply::Imply,
-            entry,
-            at,
-            statement,
-        )?;
-        note_choice(&mut self.choices, at, statement)?;
-        let innermost = innermost_after(&self.inner, self.innermost, at, statement);
-        self.inner.push(self.innermost)?;
-        self.innermost = innermost;
-        self.entry = entry_after(entry, at, statement);
-        self.lines.push(line)?;
-        Ok(())
-    }
-
-    // Of an entry's lines more.
-    fn add_entry(&mut self, alloc: Global, own: EntryLines<'a>) -> Result<(), AllocError>
-        ensures lines { OnOk result (map line_view self.new.lines.items
-            ≡ map line_view self.old.lines.items ++ first_line own.entry.first.now ∷ own_lines own.entry.first.now own.entry.attributes.now) }
-        ensures index { OnOk result (IsIndex self.old → IsIndex self.new) }
-    {
-        let file: &'a [u8] = &own.first.file;
-        let first = Line {
-            file,
-            number: own.first.line,
-            statement: LineStatement::First(&own.first.head),
-        };
-        self.add(alloc, first)?;
-        for next in own.attributes {
-            let line = Line {
-                file,
-                number: next.line,
-                statement: LineStatement::Attribute(&next.attribute),
-            };
-            self.add(alloc, line)?;
-        }
-        Ok(())
+            line: attribute_line(first, own),
+            when: target.when,
+        }),
+        None => None,
     }
 }
 
-/// The lines of a tree in order, with what stands where: a list of them (our own).
-#[derive(Drop)]
-pub struct Lines<'a> {
-    index: LineIndex<'a>,
-}
-
-impl<'a> Model for Lines<'a> {
-    ghost use Rattle.std.specs.Prelude.{List, map};
-    ghost use Rattle.std.specs.Coded.{coded_list};
-    ghost use Rattle.kc_explain.specs.LineCode.{line_code};
-    ghost use Rattle.kc_explain.specs.LineIndexes.{IsIndex};
-    ghost use Rattle.kc_explain.specs.LineViews.{line_view};
-    ghost use Rattle.kc_language.specs.Statements.{Located, Numbered};
-
-    ghost Value = { List (Located Numbered) };
-
-    ghost coded = { coded_list line_code };
-
-    ghost view = { λ l. map line_view l.index.lines.items };
-
-    ghost invariant = { λ l. IsIndex l.index };
-}
-
-impl<'a> Lines<'a> {
-    /// The lines of the entries. Fails only when it is out of memory.
-    pub fn of(alloc: Global, entries: &'a Entries) -> Result<Lines<'a>, AllocError>
-        ensures { IfOk result (λ l. l ≡ lines_in entries.now) }
-    {
-        let mut index = LineIndex::new(alloc);
-        let mut at = 0;
-        'entries: while let Some(entry) = entries.entry(at) {
-            index.add_entry(alloc, entry)?;
-            at += 1;
-        }
-        Ok(Lines { index })
-    }
-
-    /// The line with a number, counted from 0.
-    pub(crate) fn get(&self, i: usize) -> Option<Line<'a>>
-        ensures { option_map line_view result ≡ slice_get self.now i }
-    {
-        self.index.lines.get(i).copied()
-    }
-
-    /// The symbol that a line defines.
-    pub(crate) fn symbol_at(&self, i: usize) -> Option<SymId>
-        ensures { result ≡ whole.symbol_at (statements self.now) i }
-    {
-        match self.get(i) {
-            Some(line) => symbol_of(line.statement),
+// The line with this number in an entry.
+fn target_at<'a>(
+    layout: &'a Layout,
+    entry: EntryId,
+    first: &'a Entry,
+    attribute: AttributeId,
+) -> Option<TargetAt<'a>>
+    ensures { option_map (target_view layout.now) result ≡ target_at layout.now entry first.now attribute.0 }
+{
+    match attribute_at(layout, attribute) {
+        Some(own) => match layout.symbol_of(entry) {
+            Some(by) => target_by(by, entry, first, own, layout),
             None => None,
-        }
+        },
+        None => None,
     }
+}
 
-    /// The attributes of the entry that begins with a line, each with its number.
-    pub(crate) fn attributes(
-        &self,
-        alloc: Global,
-        i: usize,
-    ) -> Result<Vec<AttributeAt<'a>>, AllocError>
-        ensures { IfOk result (λ all. map attribute_at_view all.items ≡ enumerate_from (suc i) (attributes (statements self.now) i)) }
-    {
-        let mut all = Vec::new(alloc);
-        if i >= self.index.lines.len() {
-            return Ok(all);
-        }
-        add_attributes(&self.index.lines, i + 1, &mut all)?;
-        Ok(all)
+// The line that a row of the layout stores.
+fn target_of_row<'a>(layout: &'a Layout, row: &Selector) -> Option<TargetAt<'a>>
+    ensures { option_map (target_view layout.now) result ≡ target_of_row layout.now row.now }
+{
+    match layout.entry(row.entry) {
+        Some(lines) => target_at(layout, row.entry, lines.first, row.attribute),
+        None => None,
     }
+}
 
-    /// The `config` lines of a symbol.
-    pub(crate) fn definitions_of(&self, alloc: Global, id: SymId) -> Result<Vec<usize>, AllocError>
-        ensures { IfOk result (λ all. all.items ≡ whole.definitions_of (statements self.now) id) }
-    {
-        Vec::from_slice(alloc, row_at(&self.index.definitions, id.0))
+// Appends a line, if there is one.
+fn add_target<'a>(
+    target: Option<TargetAt<'a>>,
+    all: &mut Vec<TargetAt<'a>>,
+) -> Result<(), AllocError>
+    ensures { OnOk result (all.new.items ≡ all.old.items ++ whole.listed target.entry) }
+{
+    if let Some(target) = target {
+        all.push(target)?;
     }
+    Ok(())
+}
 
-    // The innermost block that is open before a line.
-    fn innermost_before(&self, i: usize) -> Option<usize>
-        ensures { result ≡ innermost_at (statements self.now) i }
-    {
-        match self.index.inner.get(i) {
-            Some(innermost) => *innermost,
-            None => self.index.innermost,
-        }
+// The last row that selects or implies a symbol.
+fn last_target(layout: &Layout, word: SelectOrImply, id: SymId) -> SelectorId
+    requires { id.0 < length layout.now.symbols.items }
+    ensures { result.0 ≡ stored (last_of (see.lines_up_to layout.now word id (length layout.now.selectors.items))) }
+{
+    match layout.symbol(id) {
+        Some(symbol) => match word {
+            SelectOrImply::Select => symbol.last_select,
+            SelectOrImply::Imply => symbol.last_imply,
+        },
+        None => SelectorId::none(),
     }
+}
 
-    // Adds the lines that begin the blocks around a line. So deep as blocks lie in one another it calls itself.
-    fn add_enclosing(&self, i: usize, all: &mut Vec<usize>) -> Result<(), AllocError>
-        ensures { OnOk result (all.new.items ≡ all.old.items ++ enclosing (statements self.now) i) }
-    {
-        match self.innermost_before(i) {
-            Some(opener) => {
-                self.add_enclosing(opener, all)?;
-                all.push(opener)?;
-                Ok(())
-            }
-            None => Ok(()),
-        }
+/// Returns the lines that select or imply a symbol, if that has an effect.
+pub(crate) fn targets(
+    alloc: Global,
+    layout: &Layout,
+    word: SelectOrImply,
+    id: SymId,
+) -> Result<Vec<TargetAt<'_>>, AllocError>
+    requires { id.0 < length layout.now.symbols.items }
+    ensures { IfOk result (λ all. map (target_view layout.now) all.items ≡ map (target_in (lines_of layout.now)) (raising_lines (see.statements_in layout.now) word id)) }
+{
+    let mut all = Vec::new(alloc);
+    let mut next = last_target(layout, word, id);
+    'lines: while let Some(row) = layout.selector(next) {
+        add_target(target_of_row(layout, row), &mut all)?;
+        next = row.next;
     }
-
-    /// The lines that begin the blocks around a line, the outermost first.
-    pub(crate) fn enclosing(&self, alloc: Global, i: usize) -> Result<Vec<usize>, AllocError>
-        ensures { IfOk result (λ all. all.items ≡ enclosing (statements self.now) i) }
-    {
-        let mut all = Vec::new(alloc);
-        self.add_enclosing(i, &mut all)?;
-        Ok(all)
-    }
-
-    /// The number of the choice that begins with a line: how many begin before it.
-    pub(crate) fn choice_number(&self, i: usize) -> usize
-        ensures { result ≡ whole.choice_number (statements self.now) i }
-    {
-        count_below(&self.index.choices, i)
-    }
-
-    /// The line that begins the choice with a number.
-    pub(crate) fn choice_entry(&self, choice: usize) -> Option<usize>
-        ensures { whole.listed result ≡ choice_entry (statements self.now) choice }
-    {
-        self.index.choices.get(choice).copied()
-    }
-
-    /// The lines of symbols that select or imply a symbol.
-    pub(crate) fn targets(
-        &self,
-        alloc: Global,
-        word: SelectOrImply,
-        id: SymId,
-    ) -> Result<Vec<TargetAt<'a>>, AllocError>
-        ensures { IfOk result (λ all. map target_at_view all.items ≡ naming_lines (statements self.now) word id) }
-    {
-        let rows = match word {
-            SelectOrImply::Select => &self.index.selectors,
-            SelectOrImply::Imply => &self.index.impliers,
-        };
-        Vec::from_slice(alloc, row_at(rows, id.0))
-    }
+    all.reverse();
+    Ok(all)
 }

@@ -1,24 +1,24 @@
-//! Names that are asked for, and names like them.
+//! Requested names, and names that differ from them by one letter.
 
 ghost use Rattle.std.specs.Prelude.{◌≡◌, IfOk, OnOk, option_and_then};
 ghost use Rattle.kc_language.specs.ConfigFile.{symbol_named, without_prefix};
-ghost use Rattle.kc_language.specs.Explanations as whole;
-ghost use Rattle.kc_language.specs.Outcome as outcome;
+ghost use Rattle.kc_outcome.specs.Explanations as whole;
+ghost use Rattle.kc_outcome.specs.Outcome as outcome;
 ghost use Rattle.kc_explain.specs.NearNames.{before_near, differs_here, with_near};
 
-use kc_config_file::prefix::Prefix;
 use kc_expr::expression::SymId;
+use kc_input::prefix::Prefix;
 use kc_tree::tree::Tree;
 use std::alloc::{AllocError, Global};
 
-// The symbol whose name stands behind the prefix.
+// The symbol whose name follows the prefix.
 fn symbol_behind(tree: &Tree, prefix: &Prefix, asked: &[u8]) -> Option<SymId>
     ensures { result ≡ option_and_then (symbol_named tree.now) (without_prefix prefix.now.prefix asked.now) }
 {
     tree.find(asked.strip_prefix(prefix.as_bytes())?)
 }
 
-/// The symbol of a name that is asked for, which may have the prefix in front (our own).
+/// The symbol of a requested name. The name may begin with the prefix (our own).
 pub fn asked_symbol(tree: &Tree, prefix: &Prefix, asked: &[u8]) -> Option<SymId>
     ensures { result ≡ whole.asked_symbol tree.now prefix.now.prefix asked.now }
 {
@@ -28,7 +28,7 @@ pub fn asked_symbol(tree: &Tree, prefix: &Prefix, asked: &[u8]) -> Option<SymId>
     }
 }
 
-// Whether two names that begin with different letters differ by one.
+// Whether two names that begin with different letters differ by one letter.
 fn differs_here(asked: &[u8], name: &[u8]) -> bool
     ensures { result ≡ differs_here asked.now name.now }
 {
@@ -41,7 +41,7 @@ fn differs_here(asked: &[u8], name: &[u8]) -> bool
     }
 }
 
-/// Whether two names differ by one letter: it is another one, or only one of them has it (our own).
+/// Whether two names differ by one letter: one letter is different, or only one name has it (our own).
 pub fn differs_by_one(mut asked: &[u8], mut name: &[u8]) -> bool
     ensures { result ≡ whole.differs_by_one asked.entry.now name.entry.now }
 {
@@ -60,7 +60,7 @@ pub fn differs_by_one(mut asked: &[u8], mut name: &[u8]) -> bool
     differs_here(asked, name)
 }
 
-// What stands before the next name.
+// The text before the next name.
 fn before_near(text: &[u8]) -> &'static [u8]
     ensures { result.now ≡ before_near text.now }
 {
@@ -71,7 +71,7 @@ fn before_near(text: &[u8]) -> &'static [u8]
     }
 }
 
-// Adds the name where it differs by one letter.
+// Appends the name if it differs by one letter.
 fn add_near(asked: &[u8], name: &[u8], text: &mut Vec<u8>) -> Result<(), AllocError>
     ensures { OnOk result (text.new.items ≡ with_near asked.now text.old.items name.now) }
 {
@@ -83,8 +83,8 @@ fn add_near(asked: &[u8], name: &[u8], text: &mut Vec<u8>) -> Result<(), AllocEr
     text.extend_from_slice(name)
 }
 
-/// The names of defined symbols that differ from the one that is asked for by one letter, with what stands before them; no
-/// text if there are none (our own). Its only error is to be out of memory.
+/// Returns the names of defined symbols that differ from the requested name by one letter, with the text before them. The text
+/// is empty if there are none (our own). The only error is that memory runs out.
 pub fn near_text(alloc: Global, tree: &Tree, asked: &[u8]) -> Result<Vec<u8>, AllocError>
     ensures { IfOk result (λ t. t.items ≡ outcome.near_text tree.now asked.now) }
 {

@@ -1,55 +1,58 @@
-//! The parts of conditions, their values, and the defaults and ranges that count.
+//! The parts of conditions, and their values.
 
-ghost use Rattle.std.specs.Prelude.{◌≡◌, ◌++◌, map, not, option_map, IfOk, OnOk};
-ghost use Rattle.std.specs.List.{flat_map};
+ghost use Rattle.std.specs.Prelude.{◌≡◌, ◌++◌, map, option_map, Some, IfOk, OnOk};
+ghost use Rattle.std.specs.List.{filter_map, flat_map};
+ghost use Rattle.std.specs.Option.{option_and_then};
 ghost use Rattle.kc_expr.specs.Form.{form_of};
-ghost use Rattle.kc_language.specs.Explanations as rules;
-ghost use Rattle.kc_language.specs.Expressions.{lesser, value};
-ghost use Rattle.kc_language.specs.Statements.{statements};
-ghost use Rattle.kc_language.specs.Symbols as whole;
+ghost use Rattle.kc_language.specs.Expansion.{last_of};
+ghost use Rattle.kc_outcome.specs.Explanations as rules;
+ghost use Rattle.kc_language.specs.Symbols as line_rules;
 ghost use Rattle.kc_language.specs.Texts.{known};
-ghost use Rattle.kc_language.specs.Values.{is_n};
-ghost use Rattle.kc_read.specs.StatementViews.{attribute_view, head_view};
-ghost use Rattle.kc_explain.specs.LineViews.{attribute_at_view};
-ghost use Rattle.kc_explain.specs.PartViews.{condition_said, default_said, part_view, prompt_said, range_said};
+ghost use Rattle.kc_language.specs.Values.{and_value, is_n};
+ghost use Rattle.kc_entries.specs.Entries.{attribute_line as line_of, own_lines};
+ghost use Rattle.kc_entries.specs.StatementViews.{attribute_view};
+ghost use Rattle.kc_tree.specs.EntryViews.{statements_of};
+ghost use Rattle.kc_tree.specs.Layouts as see;
+ghost use Rattle.kc_explain.specs.LineViews.{at_entry, line_view, lines_of, own_of};
+ghost use Rattle.kc_explain.specs.PartViews as view;
+ghost use Rattle.kc_explain.specs.PartViews.{part_view, prompt_said};
 ghost use Rattle.kc_explain.specs.PartsOfExplanations as named;
 
-use crate::attributes::{condition, depends_of, visible_of};
-use crate::blocks::{opens, statement_at};
-use crate::lines::{AttributeAt, LineStatement, Lines};
-pub(crate) use crate::said::{defaults_at, prompt_at};
-use crate::said::{defaults_of, ranges_of};
-use kc_expr::expression::{Expr, SymId, Tri};
+use crate::lines::{Line, attribute_line, enclosing, first_line, head_line};
+use crate::teller::Teller;
+use kc_entries::entries::{AttributeLine, Entry, EntryLines};
+use kc_entries::statement::{Attribute, Head, Prompt};
+use kc_expr::expression::{Expr, Tri};
 use kc_expr::values::{eval, lesser};
-use kc_language::statements::Block;
-use kc_read::statement::{Attribute, Head, Prompt};
 use kc_solve::solved::Solved;
-use kc_tree::rows::{SymbolDefault, SymbolRange};
+use kc_tree::attributes::{condition, depends_of, prompt_of, visible_of};
+use kc_tree::layout::Layout;
+use kc_tree::rows::EntryId;
+use kc_values::conditions::context;
 use std::alloc::{AllocError, Global};
 
-/// What a part of a condition asks: an expression, or the mode of a choice (our own).
+/// The content of a part of a condition: an expression, or the mode of a choice (our own).
 #[derive(Clone, Copy)]
 pub(crate) enum Asked<'a> {
     Worth(&'a Expr),
     ModeOf(usize),
 }
 
-/// A part of a condition, and the number of the line that asks it (our own).
+/// A part of a condition, and the line that adds it (our own).
 #[derive(Clone, Copy)]
 pub(crate) struct ConditionPart<'a> {
-    pub at: usize,
+    pub line: Line<'a>,
     pub asks: Asked<'a>,
 }
 
-/// What a line says: the number of its entry, its own number, and what it is (our own).
-#[derive(Drop)]
-pub(crate) struct Said<'a, X> {
-    pub entry: usize,
-    pub at: usize,
-    pub what: &'a X,
+/// A prompt, and its line (our own).
+#[derive(Clone, Copy)]
+pub(crate) struct PromptLine<'a> {
+    pub line: Line<'a>,
+    pub prompt: &'a Prompt,
 }
 
-// Which conditions of an entry are meant.
+// The conditions of an entry: its `depends on` lines or its `visible if` lines.
 #[derive(Clone, Copy)]
 enum OwnCondition {
     Depends,
@@ -57,7 +60,7 @@ enum OwnCondition {
 }
 
 // The expression of a line of this kind.
-fn own_condition<'a>(word: OwnCondition, attribute: &'a Attribute) -> Option<&'a Expr>
+fn own_condition(word: OwnCondition, attribute: &Attribute) -> Option<&Expr>
     ensures { option_map (λ e. form_of e.now) result ≡ named.read_by word (attribute_view attribute.now) }
 {
     match word {
@@ -66,216 +69,208 @@ fn own_condition<'a>(word: OwnCondition, attribute: &'a Attribute) -> Option<&'a
     }
 }
 
-// Adds an expression, where there is one.
+// Appends the condition of a line of this kind, if it is one.
 fn add_worth<'a>(
-    at: usize,
+    line: Line<'a>,
     when: Option<&'a Expr>,
     parts: &mut Vec<ConditionPart<'a>>,
 ) -> Result<(), AllocError>
     ensures { OnOk result (map part_view parts.new.items ≡ map part_view parts.old.items
-        ++ map (rules.worth at) (whole.listed (option_map (λ e. form_of e.now) when.entry))) }
+        ++ view.worth_parts (Some (line_view line.entry)) (option_map (λ e. form_of e.now) when.entry)) }
 {
     match when {
         Some(e) => {
-            parts.push(ConditionPart {
-                at,
-                asks: Asked::Worth(e),
-            })?;
+            let asks = Asked::Worth(e);
+            parts.push(ConditionPart { line, asks })?;
             Ok(())
         }
         None => Ok(()),
     }
 }
 
-// Adds what an attribute asks.
-fn add_own_part<'a>(
+// Appends the conditions of the lines of an entry.
+fn add_own<'a>(
+    own: EntryLines<'a>,
     word: OwnCondition,
-    line: &AttributeAt<'a>,
     parts: &mut Vec<ConditionPart<'a>>,
 ) -> Result<(), AllocError>
-    ensures { OnOk result (map part_view parts.new.items ≡ map part_view parts.old.items ++ named.own_parts word (attribute_at_view line.now)) }
+    ensures { OnOk result (map part_view parts.new.items ≡ map part_view parts.old.items
+        ++ view.asked_of (named.read_by word) (own_lines own.entry.first.now own.entry.attributes.now)) }
 {
-    add_worth(line.at, own_condition(word, line.attribute), parts)
-}
-
-// Adds what these attributes ask.
-fn add_all_own_parts<'a>(
-    word: OwnCondition,
-    all: &[AttributeAt<'a>],
-    parts: &mut Vec<ConditionPart<'a>>,
-) -> Result<(), AllocError>
-    ensures { OnOk result (map part_view parts.new.items ≡ map part_view parts.old.items ++ flat_map (λ a. named.own_parts word (attribute_at_view a)) all.now) }
-{
-    for line in all {
-        add_own_part(word, line, parts)?;
+    for line in own.attributes {
+        let when = own_condition(word, &line.attribute);
+        add_worth(attribute_line(own.first, line), when, parts)?;
     }
     Ok(())
-}
-
-// Adds what the attributes of an entry ask.
-fn add_own_parts<'a>(
-    alloc: Global,
-    lines: &Lines<'a>,
-    word: OwnCondition,
-    i: usize,
-    parts: &mut Vec<ConditionPart<'a>>,
-) -> Result<(), AllocError>
-    ensures { OnOk result (map part_view parts.new.items ≡ map part_view parts.old.items ++ rules.parts_at (statements lines.now) (named.read_by word) i) }
-{
-    let all = lines.attributes(alloc, i)?;
-    add_all_own_parts(word, &all, parts)
 }
 
 // ---- Blocks
 
-// Adds what a block asks that begins with this line, if it is one.
-fn add_head_parts<'a>(
-    alloc: Global,
-    lines: &Lines<'a>,
-    head: &'a Head,
-    j: usize,
+// Appends the conditions that a block adds for all that is in it.
+fn add_block<'a>(
+    layout: &'a Layout,
+    block: EntryId,
     parts: &mut Vec<ConditionPart<'a>>,
 ) -> Result<(), AllocError>
-    ensures { OnOk result (map part_view parts.new.items ≡ map part_view parts.old.items ++ named.head_parts (statements lines.now) j (head_view head.now)) }
+    ensures { OnOk result (map part_view parts.new.items ≡ map part_view parts.old.items ++ at_entry layout.now (named.block_parts (lines_of layout.now)) block) }
 {
-    match head {
-        Head::If(e) => add_worth(j, Some(e), parts),
-        Head::Menu(_) => add_own_parts(alloc, lines, OwnCondition::Depends, j, parts),
-        _ => Ok(()),
-    }
-}
-
-// Adds what the block asks that begins at a number.
-fn add_block_parts<'a>(
-    alloc: Global,
-    lines: &Lines<'a>,
-    j: usize,
-    parts: &mut Vec<ConditionPart<'a>>,
-) -> Result<(), AllocError>
-    ensures { OnOk result (map part_view parts.new.items ≡ map part_view parts.old.items ++ rules.block_parts (statements lines.now) j) }
-{
-    match statement_at(lines, j) {
-        Some(LineStatement::First(head)) => add_head_parts(alloc, lines, head, j, parts),
-        Some(LineStatement::Attribute(_)) => Ok(()),
+    match layout.entry(block) {
+        Some(own) => match &own.first.head {
+            Head::If(e) => add_worth(head_line(own.first), Some(e), parts),
+            Head::Menu(_) => add_own(own, OwnCondition::Depends, parts),
+            _ => Ok(()),
+        },
         None => Ok(()),
     }
 }
 
-// Adds what these blocks ask.
-fn add_parts_of_blocks<'a>(
-    alloc: Global,
-    lines: &Lines<'a>,
-    around: &[usize],
+// Appends the conditions that these blocks add.
+fn add_blocks<'a>(
+    layout: &'a Layout,
+    around: &[EntryId],
     parts: &mut Vec<ConditionPart<'a>>,
 ) -> Result<(), AllocError>
-    ensures { OnOk result (map part_view parts.new.items ≡ map part_view parts.old.items ++ flat_map (rules.block_parts (statements lines.now)) around.now) }
+    ensures { OnOk result (map part_view parts.new.items ≡ map part_view parts.old.items
+        ++ flat_map (at_entry layout.now (named.block_parts (lines_of layout.now))) around.now) }
 {
-    for j in around {
-        add_block_parts(alloc, lines, *j, parts)?;
+    for block in around {
+        add_block(layout, *block, parts)?;
     }
     Ok(())
 }
 
-// The innermost choice among these blocks.
-fn innermost_choice(lines: &Lines<'_>, around: &[usize]) -> Option<usize>
-    ensures { result ≡ named.innermost_choice (statements lines.now) around.now }
+// The mode that a block adds, if it is a choice.
+fn mode_part<'a>(layout: &'a Layout, block: EntryId) -> Option<ConditionPart<'a>>
+    ensures { option_map part_view result ≡ option_and_then (named.mode_part (lines_of layout.now)) (see.index_at layout.now block.0) }
+{
+    match first_line(layout, block) {
+        Some(line) => match layout.choice_of(block) {
+            Some(choice) => Some(ConditionPart {
+                line,
+                asks: Asked::ModeOf(choice.0 as usize),
+            }),
+            None => None,
+        },
+        None => None,
+    }
+}
+
+// The mode of the innermost choice among these blocks.
+fn innermost_mode<'a>(layout: &'a Layout, around: &[EntryId]) -> Option<ConditionPart<'a>>
+    ensures { option_map part_view result
+        ≡ last_of (filter_map (λ b. option_and_then (named.mode_part (lines_of layout.now)) (see.index_at layout.now b.0)) around.now) }
 {
     let mut last = None;
-    for j in around {
-        if opens(lines, Block::Choice, *j) {
-            last = Some(*j);
-        }
+    for block in around {
+        last = mode_part(layout, *block).or(last);
     }
     last
 }
 
-// Adds the mode of the innermost choice among these blocks.
-fn add_mode<'a>(
-    lines: &Lines<'a>,
-    around: &[usize],
+// Appends a part, if there is one.
+fn add_part_of<'a>(
+    part: Option<ConditionPart<'a>>,
     parts: &mut Vec<ConditionPart<'a>>,
 ) -> Result<(), AllocError>
-    ensures { OnOk result (map part_view parts.new.items ≡ map part_view parts.old.items ++ named.mode_parts (statements lines.now) around.now) }
+    ensures { OnOk result (map part_view parts.new.items ≡ map part_view parts.old.items ++ line_rules.listed (option_map part_view part.entry)) }
 {
-    match innermost_choice(lines, around) {
-        Some(j) => {
-            let asks = Asked::ModeOf(lines.choice_number(j));
-            parts.push(ConditionPart { at: j, asks })?;
+    match part {
+        Some(part) => {
+            parts.push(part)?;
             Ok(())
         }
         None => Ok(()),
     }
+}
+
+// What this entry depends on.
+fn parts_of<'a>(
+    alloc: Global,
+    layout: &'a Layout,
+    entry: EntryId,
+    own: EntryLines<'a>,
+) -> Result<Vec<ConditionPart<'a>>, AllocError>
+    requires first { see.entry_at layout.now entry.0 ≡ Some own.first.now }
+    requires own { own.attributes.now ≡ see.own_at layout.now entry.0 }
+    ensures { IfOk result (λ ps. map part_view ps.items ≡ at_entry layout.now (named.dependency_parts (lines_of layout.now)) entry) }
+{
+    let around = enclosing(alloc, layout, entry)?;
+    let mut parts = Vec::new(alloc);
+    add_blocks(layout, &around, &mut parts)?;
+    add_own(own, OwnCondition::Depends, &mut parts)?;
+    add_part_of(innermost_mode(layout, &around), &mut parts)?;
+    Ok(parts)
 }
 
 /// What an entry depends on: what the blocks around it and its own lines ask, and the mode of the innermost choice around it.
 /// Its only error is to be out of memory.
 pub(crate) fn dependency_parts<'a>(
     alloc: Global,
-    lines: &Lines<'a>,
-    i: usize,
+    layout: &'a Layout,
+    entry: EntryId,
 ) -> Result<Vec<ConditionPart<'a>>, AllocError>
-    ensures { IfOk result (λ ps. map part_view ps.items ≡ rules.dependency_parts (statements lines.now) i) }
+    ensures { IfOk result (λ ps. map part_view ps.items ≡ at_entry layout.now (named.dependency_parts (lines_of layout.now)) entry) }
 {
-    let around = lines.enclosing(alloc, i)?;
-    let mut parts = Vec::new(alloc);
-    add_parts_of_blocks(alloc, lines, &around, &mut parts)?;
-    add_own_parts(alloc, lines, OwnCondition::Depends, i, &mut parts)?;
-    add_mode(lines, &around, &mut parts)?;
-    Ok(parts)
-}
-
-// Adds what a menu asks of what is visible, if it is one.
-fn add_visible_of<'a>(
-    alloc: Global,
-    lines: &Lines<'a>,
-    j: usize,
-    parts: &mut Vec<ConditionPart<'a>>,
-) -> Result<(), AllocError>
-    ensures { OnOk result (map part_view parts.new.items ≡ map part_view parts.old.items ++ named.visible_parts (statements lines.now) j) }
-{
-    if opens(lines, Block::Menu, j) {
-        add_own_parts(alloc, lines, OwnCondition::Visible, j, parts)
-    } else {
-        Ok(())
+    match layout.entry(entry) {
+        Some(own) => parts_of(alloc, layout, entry, own),
+        None => Ok(Vec::new(alloc)),
     }
 }
 
-// Adds what the menus among these blocks ask of what is visible.
-fn add_visible_parts<'a>(
-    alloc: Global,
-    lines: &Lines<'a>,
-    around: &[usize],
+// Appends the `visible if` conditions of a block, if it is a menu.
+fn add_menu<'a>(
+    layout: &'a Layout,
+    block: EntryId,
     parts: &mut Vec<ConditionPart<'a>>,
 ) -> Result<(), AllocError>
-    ensures { OnOk result (map part_view parts.new.items ≡ map part_view parts.old.items ++ flat_map (named.visible_parts (statements lines.now)) around.now) }
+    ensures { OnOk result (map part_view parts.new.items ≡ map part_view parts.old.items ++ at_entry layout.now (named.visible_parts (lines_of layout.now)) block) }
 {
-    for j in around {
-        add_visible_of(alloc, lines, *j, parts)?;
+    match layout.entry(block) {
+        Some(own) => match &own.first.head {
+            Head::Menu(_) => add_own(own, OwnCondition::Visible, parts),
+            _ => Ok(()),
+        },
+        None => Ok(()),
+    }
+}
+
+// Appends the `visible if` conditions of the menus among these blocks.
+fn add_menus<'a>(
+    layout: &'a Layout,
+    around: &[EntryId],
+    parts: &mut Vec<ConditionPart<'a>>,
+) -> Result<(), AllocError>
+    ensures { OnOk result (map part_view parts.new.items ≡ map part_view parts.old.items
+        ++ flat_map (at_entry layout.now (named.visible_parts (lines_of layout.now))) around.now) }
+{
+    for block in around {
+        add_menu(layout, *block, parts)?;
     }
     Ok(())
 }
 
-/// What a prompt is shown under besides what its entry depends on: the `visible if` lines of the menus around it, and its own
-/// condition. Its only error is to be out of memory.
+/// Returns the conditions of a prompt besides the dependency of its entry: the `visible if` lines of the menus around it, and
+/// its own condition. The only error is that memory runs out.
 pub(crate) fn shown_parts<'a>(
     alloc: Global,
-    lines: &Lines<'a>,
-    prompt: &Said<'a, Prompt>,
+    layout: &'a Layout,
+    entry: EntryId,
+    prompt: &PromptLine<'a>,
 ) -> Result<Vec<ConditionPart<'a>>, AllocError>
-    ensures { IfOk result (λ ps. map part_view ps.items ≡ rules.shown_parts (statements lines.now) (prompt_said prompt.now)) }
+    ensures { IfOk result (λ ps. map part_view ps.items ≡ named.shown_parts layout.now entry (prompt_said prompt.now)) }
 {
-    let around = lines.enclosing(alloc, prompt.entry)?;
+    let around = enclosing(alloc, layout, entry)?;
     let mut parts = Vec::new(alloc);
-    add_visible_parts(alloc, lines, &around, &mut parts)?;
-    add_worth(prompt.at, condition(&prompt.what.when), &mut parts)?;
+    add_menus(layout, &around, &mut parts)?;
+    add_worth(prompt.line, condition(&prompt.prompt.when), &mut parts)?;
     Ok(parts)
 }
 
 // ---- Values
 
-// The value of an expression.
-fn expression_value(solved: &Solved<'_>, e: &Expr) -> Tri
-    ensures { result ≡ value (known solved.now) solved.now.tree.modules (form_of e.now) }
+/// The value of an expression.
+pub(crate) fn expression_value(solved: &Solved<'_>, e: &Expr) -> Tri
+    ensures { result ≡ view.asked_value solved.now (rules.Worth (form_of e.now)) }
 {
     solved.tells_known();
     eval(e, solved)
@@ -283,7 +278,7 @@ fn expression_value(solved: &Solved<'_>, e: &Expr) -> Tri
 
 /// The value of a part of a condition.
 pub(crate) fn part_value(solved: &Solved<'_>, part: &ConditionPart<'_>) -> Tri
-    ensures { result ≡ rules.part_value solved.now.tree (known solved.now) (part_view part.now) }
+    ensures { result ≡ view.asked_value solved.now (view.asked_view part.now.asks) }
 {
     match part.asks {
         Asked::Worth(e) => expression_value(solved, e),
@@ -291,9 +286,9 @@ pub(crate) fn part_value(solved: &Solved<'_>, part: &ConditionPart<'_>) -> Tri
     }
 }
 
-/// The value of a condition with these parts: the least of theirs.
+/// The value of a condition with these parts: the least of their values.
 pub(crate) fn parts_value(solved: &Solved<'_>, parts: &[ConditionPart<'_>]) -> Tri
-    ensures { result ≡ rules.parts_value solved.now.tree (known solved.now) (map part_view parts.now) }
+    ensures { result ≡ view.parts_value solved.now (map part_view parts.now) }
 {
     let mut least = Tri::Y;
     for part in parts {
@@ -302,166 +297,92 @@ pub(crate) fn parts_value(solved: &Solved<'_>, parts: &[ConditionPart<'_>]) -> T
     least
 }
 
-// The value of an own condition; y without one.
+// The value of a line's own condition; y without one.
 #[tactic(auto, using(kc_values::proofs::TriLemmas::lesser_y))]
-fn own_value(solved: &Solved<'_>, at: usize, when: Option<&Expr>) -> Tri
-    ensures { result ≡ rules.parts_value solved.now.tree (known solved.now)
-        (map (rules.worth at) (whole.listed (option_map (λ e. form_of e.now) when.entry))) }
+fn when_value(solved: &Solved<'_>, when: Option<&Expr>) -> Tri
+    ensures { result ≡ view.when_value solved.now (option_map (λ e. form_of e.now) when.entry) }
 {
     match when {
-        Some(e) => {
-            let part = ConditionPart {
-                at,
-                asks: Asked::Worth(e),
-            };
-            part_value(solved, &part)
-        }
+        Some(e) => expression_value(solved, e),
         None => Tri::Y,
     }
 }
 
-// The lesser of a value and of what an entry depends on, which is looked at only if the value is not n.
-#[tactic(auto, using(kc_values::proofs::TriLemmas::lesser_n))]
-fn under_dependency(
-    alloc: Global,
-    lines: &Lines<'_>,
-    solved: &Solved<'_>,
-    entry: usize,
-    value: Tri,
-) -> Result<Tri, AllocError>
-    ensures { IfOk result (λ t. t ≡ lesser (rules.parts_value solved.now.tree (known solved.now) (rules.dependency_parts (statements lines.now) entry)) value) }
+/// The value of a line with this condition, given the value of its entry's dependency.
+pub(crate) fn value_under(solved: &Solved<'_>, dependency: Tri, when: Option<&Expr>) -> Tri
+    ensures { result ≡ view.value_under solved.now dependency (option_map (λ e. form_of e.now) when.entry) }
 {
-    match value {
-        Tri::N => Ok(Tri::N),
-        Tri::M | Tri::Y => {
-            let parts = dependency_parts(alloc, lines, entry)?;
-            Ok(lesser(parts_value(solved, &parts), value))
-        }
+    lesser(dependency, when_value(solved, when))
+}
+
+// The least of what the `depends on` lines among these ask.
+fn own_least(solved: &Solved<'_>, attributes: &[AttributeLine]) -> Tri
+    ensures { result ≡ and_value solved.now.tree (known solved.now) (filter_map line_rules.dependency_in (statements_of attributes.now)) }
+{
+    let mut least = Tri::Y;
+    for line in attributes {
+        least = lesser(least, when_value(solved, depends_of(&line.attribute)));
+    }
+    least
+}
+
+/// The value of what an entry depends on. What the blocks around it ask is already computed.
+pub(crate) fn dependency_value(t: &Teller<'_, '_, '_>, entry: EntryId) -> Tri
+    ensures { result ≡ view.parts_value t.now.solved.now (at_entry t.now.layout.now (named.dependency_parts (lines_of t.now.layout.now)) entry) }
+{
+    let table = t.solved.table();
+    match table.layout.entry(entry) {
+        Some(own) => lesser(
+            context(table, table.layout.outer_context(entry)),
+            own_least(t.solved, own.attributes),
+        ),
+        None => Tri::Y,
     }
 }
 
-/// The value of what an entry depends on and of the own condition of a line of it. Its only error is to be out of memory.
-pub(crate) fn line_value(
-    alloc: Global,
-    lines: &Lines<'_>,
-    solved: &Solved<'_>,
-    entry: usize,
-    at: usize,
-    when: Option<&Expr>,
-) -> Result<Tri, AllocError>
-    ensures { IfOk result (λ t. t ≡ rules.line_value lines.now solved.now (λ w. w)
-        (condition_said entry at (option_map (λ e. form_of e.now) when.entry))) }
-{
-    let own = own_value(solved, at, when);
-    let worth = under_dependency(alloc, lines, solved, entry, own)?;
-    Ok(worth)
-}
-
-// Whether a value is not n.
-fn is_not_n(t: Tri) -> bool
-    ensures { result ≡ not (is_n t) }
+/// Whether a value is n.
+pub(crate) fn is_n(t: Tri) -> bool
+    ensures { result ≡ is_n t }
 {
     match t {
-        Tri::N => false,
-        Tri::M => true,
-        Tri::Y => true,
+        Tri::N => true,
+        Tri::M => false,
+        Tri::Y => false,
     }
 }
 
-/// Whether the condition of a default is not n. Its only error is to be out of memory.
-pub(crate) fn is_met_default(
-    alloc: Global,
-    lines: &Lines<'_>,
-    solved: &Solved<'_>,
-    d: &Said<'_, SymbolDefault>,
-) -> Result<bool, AllocError>
-    ensures { IfOk result (λ b. b ≡ rules.is_met lines.now solved.now (λ g. g.when) (default_said d.now)) }
-{
-    let worth = line_value(alloc, lines, solved, d.entry, d.at, condition(&d.what.when))?;
-    Ok(is_not_n(worth))
-}
+// ---- Prompts
 
-// Whether the condition of a range is not n.
-fn is_met_range(
-    alloc: Global,
-    lines: &Lines<'_>,
-    solved: &Solved<'_>,
-    r: &Said<'_, SymbolRange>,
-) -> Result<bool, AllocError>
-    ensures { IfOk result (λ b. b ≡ rules.is_met lines.now solved.now (λ x. x.1) (range_said r.now)) }
+// The prompt of a line of an entry.
+fn prompt_in<'a>(first: &'a Entry, line: &'a AttributeLine) -> Option<PromptLine<'a>>
+    ensures { option_map prompt_said result ≡ view.said_one line_rules.prompt_of (line_of first.now.file.value.items line.now.line line.now.attribute) }
 {
-    let worth = line_value(alloc, lines, solved, r.entry, r.at, condition(&r.what.when))?;
-    Ok(is_not_n(worth))
-}
-
-// Those up to the first whose condition is not n.
-fn through_met_defaults<'a>(
-    alloc: Global,
-    lines: &Lines<'_>,
-    solved: &Solved<'_>,
-    all: &[Said<'a, SymbolDefault>],
-) -> Result<Vec<Said<'a, SymbolDefault>>, AllocError>
-    ensures { IfOk result (λ met. map default_said met.items ≡ rules.through (rules.is_met lines.now solved.now (λ g. g.when)) (map default_said all.now)) }
-{
-    let mut met = Vec::new(alloc);
-    for d in all {
-        met.push(Said {
-            entry: d.entry,
-            at: d.at,
-            what: d.what,
-        })?;
-        if is_met_default(alloc, lines, solved, d)? {
-            return Ok(met);
-        }
+    match prompt_of(&line.attribute) {
+        Some(prompt) => Some(PromptLine {
+            line: attribute_line(first, line),
+            prompt,
+        }),
+        None => None,
     }
-    Ok(met)
 }
 
-/// The defaults of a symbol that count: those up to the first whose condition is not n. Its only error is to be out of memory.
-pub(crate) fn default_lines<'a>(
-    alloc: Global,
-    lines: &Lines<'a>,
-    solved: &Solved<'_>,
-    id: SymId,
-) -> Result<Vec<Said<'a, SymbolDefault>>, AllocError>
-    ensures { IfOk result (λ ds. map default_said ds.items ≡ rules.default_lines lines.now solved.now id) }
+// The last prompt of an entry.
+fn last_prompt<'a>(own: EntryLines<'a>) -> Option<PromptLine<'a>>
+    ensures { option_map prompt_said result ≡ last_of (view.said_of line_rules.prompt_of (own_lines own.entry.first.now own.entry.attributes.now)) }
 {
-    let all = defaults_of(alloc, lines, id)?;
-    through_met_defaults(alloc, lines, solved, &all)
-}
-
-// Those up to the first whose condition is not n.
-fn through_met_ranges<'a>(
-    alloc: Global,
-    lines: &Lines<'_>,
-    solved: &Solved<'_>,
-    all: &[Said<'a, SymbolRange>],
-) -> Result<Vec<Said<'a, SymbolRange>>, AllocError>
-    ensures { IfOk result (λ met. map range_said met.items ≡ rules.through (rules.is_met lines.now solved.now (λ x. x.1)) (map range_said all.now)) }
-{
-    let mut met = Vec::new(alloc);
-    for r in all {
-        met.push(Said {
-            entry: r.entry,
-            at: r.at,
-            what: r.what,
-        })?;
-        if is_met_range(alloc, lines, solved, r)? {
-            return Ok(met);
-        }
+    let mut last = None;
+    for line in own.attributes {
+        last = prompt_in(own.first, line).or(last);
     }
-    Ok(met)
+    last
 }
 
-/// The ranges of a symbol that count: those up to the first whose condition is not n. Its only error is to be out of memory.
-pub(crate) fn range_lines<'a>(
-    alloc: Global,
-    lines: &Lines<'a>,
-    solved: &Solved<'_>,
-    id: SymId,
-) -> Result<Vec<Said<'a, SymbolRange>>, AllocError>
-    ensures { IfOk result (λ rs. map range_said rs.items ≡ rules.range_lines lines.now solved.now id) }
+/// The prompt that counts for an entry: its last one.
+pub(crate) fn prompt_at<'a>(layout: &'a Layout, entry: EntryId) -> Option<PromptLine<'a>>
+    ensures { option_map prompt_said result ≡ last_of (view.said_of line_rules.prompt_of (own_of layout.now entry.0)) }
 {
-    let all = ranges_of(alloc, lines, id)?;
-    through_met_ranges(alloc, lines, solved, &all)
+    match layout.entry(entry) {
+        Some(own) => last_prompt(own),
+        None => None,
+    }
 }

@@ -1,6 +1,7 @@
 //! Symbols that were seen.
 
-ghost use Rattle.std.specs.Prelude.{◌≡◌, [], not, IfOk};
+ghost use Rattle.std.specs.Prelude.{◌≡◌, [], not, position, IfOk};
+ghost use Rattle.kc_language.specs.Expressions.{same_symbol};
 ghost use Rattle.kc_expr.specs.PartsOfSymbols.{added, stands_in};
 
 use indexmap::IndexSet;
@@ -8,10 +9,10 @@ use kc_expr::expression::SymId;
 use std::alloc::{AllocError, Global};
 use std::marker::Model;
 
-/// Symbols in the order in which they were seen, each once. What it costs depends on how many they are, and not on the tree.
-/// A contract sees the list of the symbols.
+/// Symbols in the order in which they were seen, each once. The cost depends on how many they are, not on the size of the tree.
+/// Contracts see the list of the symbols.
 #[derive(Drop)]
-pub(crate) struct Seen {
+pub struct Seen {
     symbols: IndexSet<SymId>,
 }
 
@@ -25,8 +26,8 @@ impl Model for Seen {
 }
 
 impl Seen {
-    /// No symbols.
-    pub(crate) fn new(alloc: Global) -> Self
+    /// Returns a list without symbols.
+    pub fn new(alloc: Global) -> Self
         ensures { result ≡ [] }
     {
         Seen {
@@ -34,8 +35,8 @@ impl Seen {
         }
     }
 
-    /// Adds the symbol, and tells whether it is a new one. Fails only when it is out of memory.
-    pub(crate) fn add(&mut self, id: SymId) -> Result<bool, AllocError>
+    /// Adds the symbol, and returns whether it is new. Fails only if memory runs out.
+    pub fn add(&mut self, id: SymId) -> Result<bool, AllocError>
         ensures seen { IfOk result (λ is_new. self.new ≡ added self.old id) }
         ensures told { IfOk result (λ is_new. is_new ≡ not (stands_in self.old id)) }
     {
@@ -43,10 +44,17 @@ impl Seen {
         Ok(is_new)
     }
 
-    /// The symbols in their order. Takes no memory.
-    pub(crate) fn symbols(&self) -> &[SymId]
+    /// The symbols in their order. It allocates nothing.
+    pub fn symbols(&self) -> &[SymId]
         ensures { result.now ≡ self.now }
     {
         self.symbols.as_slice()
+    }
+
+    /// The index of the symbol, if it was seen. It allocates nothing.
+    pub fn position(&self, id: SymId) -> Option<usize>
+        ensures { result ≡ position (same_symbol id) self.now }
+    {
+        self.symbols.get_index_of(&id)
     }
 }

@@ -1,12 +1,12 @@
-//! A definition as it is written: a line of a file, and the lines that belong to it.
+//! The lines of files, and lines as comments.
 
 ghost use Rattle.kc_read.specs.Files.{files_in};
-ghost use Rattle.std.specs.Prelude.{◌≡◌, ◌≤◌, ◌∷◌, ◌-◌, ◌++◌, length, map, drop, take_while, IfOk, OnOk, flat_map};
+ghost use Rattle.std.specs.Prelude.{◌≡◌, ◌≤◌, ◌∷◌, ◌-◌, ◌++◌, length, map, drop, take, IfOk, OnOk, flat_map};
 ghost use Rattle.std.specs.Option.{option_copied};
 ghost use Rattle.std.specs.List.{slice_split, suffix_len};
-ghost use Rattle.kc_language.specs.Explanations as whole;
+ghost use Rattle.kc_outcome.specs.Explanations as whole;
 ghost use Rattle.kc_language.specs.Lines.{is_line_feed};
-ghost use Rattle.kc_explain.specs.SourceLines.{StandsBehind, comment, excerpt_in, lines_left, lines_of, shown_of};
+ghost use Rattle.kc_explain.specs.SourceLines.{StandsBehind, comment, lines_left, lines_of, with_text};
 
 use bstr::ByteSlice;
 use indexmap::IndexMap;
@@ -16,7 +16,7 @@ use kc_text::is_blank;
 use std::alloc::{AllocError, Global};
 use std::marker::Model;
 
-// A place in a file: how many lines are passed, and what is left behind them.
+// A position in a file: how many lines were passed, and the rest of the file after them.
 #[derive(Clone, Copy)]
 struct LinePlace<'f, 'n> {
     file: &'n [u8],
@@ -24,7 +24,7 @@ struct LinePlace<'f, 'n> {
     rest: Option<&'f [u8]>,
 }
 
-/// Files whose lines are read, mostly one behind another: it keeps its place in each file.
+/// Reads lines of files, mostly in ascending order. It remembers its position in each file.
 #[derive(Drop)]
 pub(crate) struct LineReader<'f, 'n> {
     files: &'f FileMap,
@@ -45,7 +45,7 @@ impl<'f, 'n> Model for LineReader<'f, 'n> {
 }
 
 impl<'f, 'n> LineReader<'f, 'n> {
-    /// A reader of these files.
+    /// Returns a reader of these files.
     pub(crate) fn new(alloc: Global, files: &'f FileMap) -> Self
         ensures { result ≡ files.now }
     {
@@ -55,7 +55,7 @@ impl<'f, 'n> LineReader<'f, 'n> {
         }
     }
 
-    // The place that is kept for the file, else its start.
+    // The remembered position in the file, otherwise its start.
     fn kept_place(&self, file: &'n [u8]) -> LinePlace<'f, 'n>
         ensures { StandsBehind (lines_of (files_in self.now) result.file.now) result.passed (option_copied result.rest) }
     {
@@ -65,7 +65,7 @@ impl<'f, 'n> LineReader<'f, 'n> {
         }
     }
 
-    /// What is behind so many lines of the file, if it has more lines.
+    /// The rest of the file after `count` lines, if it has more lines.
     pub(crate) fn behind(
         &mut self,
         file: &'n [u8],
@@ -94,7 +94,7 @@ fn start_of<'f, 'n>(files: &'f FileMap, file: &'n [u8]) -> LinePlace<'f, 'n>
     }
 }
 
-// The place, if it is in the file and has passed no more lines than these; else the start of the file.
+// The position, if it is in this file and has not passed more lines than these; otherwise the start of the file.
 fn nearest_place<'f, 'n>(
     files: &'f FileMap,
     place: LinePlace<'f, 'n>,
@@ -111,7 +111,7 @@ fn nearest_place<'f, 'n>(
     start_of(files, file)
 }
 
-// The place behind so many lines of the file.
+// The position after `count` lines of the file.
 fn place_behind<'f, 'n>(
     files: &'f FileMap,
     place: LinePlace<'f, 'n>,
@@ -131,7 +131,7 @@ fn place_behind<'f, 'n>(
     }
 }
 
-// The first line, and what is behind its line feed.
+// The first line, and the rest after its line feed.
 fn next_line(rest: &[u8]) -> (&[u8], Option<&[u8]>)
     ensures { slice_split is_line_feed rest.now ≡ result.0.now ∷ lines_left (option_copied result.1) }
 {
@@ -141,7 +141,7 @@ fn next_line(rest: &[u8]) -> (&[u8], Option<&[u8]>)
     }
 }
 
-// What is behind the first line.
+// The rest after the first line.
 fn without_line(rest: Option<&[u8]>) -> Option<&[u8]>
     ensures { lines_left (option_copied result) ≡ drop 1 (lines_left (option_copied rest.entry)) }
 {
@@ -154,7 +154,7 @@ fn without_line(rest: Option<&[u8]>) -> Option<&[u8]>
     }
 }
 
-// What is behind so many lines.
+// The rest after `count` lines.
 fn behind_lines(from: Option<&[u8]>, count: usize) -> Option<&[u8]>
     ensures { lines_left (option_copied result) ≡ drop count (lines_left (option_copied from.entry)) }
 {
@@ -165,41 +165,36 @@ fn behind_lines(from: Option<&[u8]>, count: usize) -> Option<&[u8]>
     rest
 }
 
-// Whether the line is empty or begins with a blank.
-fn begins_blank(line: &[u8]) -> bool
-    ensures { result ≡ whole.begins_blank line.now }
+/// Appends the first `count` lines.
+pub(crate) fn push_lines<'a>(
+    from: Option<&'a [u8]>,
+    count: usize,
+    all: &mut Vec<&'a [u8]>,
+) -> Result<(), AllocError>
+    ensures { OnOk result (map (λ l. l.now) all.new.items ≡ map (λ l. l.now) all.old.items ++ take count (lines_left (option_copied from.entry))) }
 {
-    match line {
-        [first, ..] => is_blank(*first) || *first == b'\r',
-        [] => true,
+    let mut rest = from;
+    for _i in 0..count {
+        match rest {
+            None => return Ok(()),
+            Some(text) => {
+                let (line, behind) = next_line(text);
+                all.push(line)?;
+                rest = behind;
+            }
+        }
     }
+    Ok(())
 }
 
-// Whether the line has nothing but blanks.
+// Whether the line has only blanks.
 fn is_without_text(line: &[u8]) -> bool
     ensures { result ≡ whole.without_text line.now }
 {
     line.iter().all(|b| is_blank(*b) || *b == b'\r')
 }
 
-// The lines up to the first that begins with text.
-fn own_lines<'a>(alloc: Global, first: Option<&'a [u8]>) -> Result<Vec<&'a [u8]>, AllocError>
-    ensures { IfOk result (λ all. map (λ l. l.now) all.items ≡ take_while whole.begins_blank (lines_left (option_copied first.entry))) }
-{
-    let mut all = Vec::new(alloc);
-    let mut rest = first;
-    'lines: while let Some(text) = rest {
-        let (line, behind) = next_line(text);
-        if !begins_blank(line) {
-            return Ok(all);
-        }
-        all.push(line)?;
-        rest = behind;
-    }
-    Ok(all)
-}
-
-// How many lines there are without those at the end that have no text.
+// The number of lines without those at the end that have no text.
 fn lines_with_text(lines: &[&[u8]]) -> usize
     ensures { let own = map (λ l. l.now) lines.now in result ≡ length own - suffix_len whole.without_text own }
 {
@@ -210,7 +205,7 @@ fn lines_with_text(lines: &[&[u8]]) -> usize
     end
 }
 
-// Adds the line as a comment.
+// Appends the line as a comment.
 fn add_comment(line: &[u8], text: &mut Vec<u8>) -> Result<(), AllocError>
     ensures { OnOk result (text.new.items ≡ text.old.items ++ comment line.now) }
 {
@@ -219,7 +214,7 @@ fn add_comment(line: &[u8], text: &mut Vec<u8>) -> Result<(), AllocError>
     text.extend_from_slice(b"\n")
 }
 
-// Adds the lines as comments.
+// Appends the lines as comments.
 fn add_comments(lines: &[&[u8]], text: &mut Vec<u8>) -> Result<(), AllocError>
     ensures { OnOk result (text.new.items ≡ text.old.items ++ flat_map (λ l. comment l.now) lines.now) }
 {
@@ -229,29 +224,10 @@ fn add_comments(lines: &[&[u8]], text: &mut Vec<u8>) -> Result<(), AllocError>
     Ok(())
 }
 
-// Adds the lines that belong to the line before them.
-fn add_own_lines(alloc: Global, rest: Option<&[u8]>, text: &mut Vec<u8>) -> Result<(), AllocError>
-    ensures { OnOk result (text.new.items ≡ text.old.items ++ flat_map comment (shown_of (lines_left (option_copied rest.entry)))) }
+/// Appends the lines of a definition as comments, except lines without text at the end (our own). The only error is that memory
+/// runs out.
+pub(crate) fn add_excerpt(lines: &[&[u8]], text: &mut Vec<u8>) -> Result<(), AllocError>
+    ensures { OnOk result (text.new.items ≡ text.old.items ++ flat_map comment (with_text (map (λ l. l.now) lines.now))) }
 {
-    let own = own_lines(alloc, rest)?;
-    add_comments(&own[..lines_with_text(&own)], text)
-}
-
-/// Adds the first line of what is left of a file, and the lines that belong to it, as comments: those after it that are
-/// empty or begin with a blank, but none without text at the end (our own). Its only error is to be out of memory.
-pub(crate) fn add_excerpt(
-    alloc: Global,
-    left: Option<&[u8]>,
-    text: &mut Vec<u8>,
-) -> Result<(), AllocError>
-    ensures { OnOk result (text.new.items ≡ text.old.items ++ flat_map comment (excerpt_in (lines_left (option_copied left.entry)))) }
-{
-    match left {
-        None => Ok(()),
-        Some(rest) => {
-            let (line, behind) = next_line(rest);
-            add_comment(line, text)?;
-            add_own_lines(alloc, behind, text)
-        }
-    }
+    add_comments(&lines[..lines_with_text(lines)], text)
 }

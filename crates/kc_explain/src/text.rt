@@ -1,293 +1,42 @@
 //! The lines that explain a symbol.
 
-ghost use Rattle.std.specs.Prelude.{◌≡◌, ◌<◌, ◌++◌, [], ◌∷◌, OnOk, IfSome, codes, drop, map, option_map, slice_get};
+ghost use Rattle.std.specs.Prelude.{◌≡◌, ◌<◌, ◌++◌, [], ◌∷◌, OnOk, drop, map};
 ghost use Rattle.std.specs.List.{flat_map};
-ghost use Rattle.kc_language.specs.ConfigFile.{place_at, value_text};
-ghost use Rattle.kc_language.specs.Explanations as rules;
-ghost use Rattle.kc_language.specs.Statements.{statements};
-ghost use Rattle.kc_language.specs.Symbols.{is_selectable, listed};
-ghost use Rattle.kc_language.specs.Values.{SymbolPlace, facts, name_count, type_in};
-ghost use Rattle.kc_user.specs.ValueView.{given_of_value};
-ghost use Rattle.kc_values.specs.Small.{HasSmallBounds};
-ghost use Rattle.kc_values.specs.User.{given_in};
-ghost use Rattle.kc_config_file.specs.ShownView.{location_of};
-ghost use Rattle.kc_explain.specs.LineViews.{target_at_view};
-ghost use Rattle.kc_explain.specs.PartViews.{default_said, part_view, prompt_said, range_said};
-ghost use Rattle.kc_explain.specs.SymbolsTold as spec;
-ghost use Rattle.kc_explain.specs.Told as told;
-ghost use Rattle.kc_explain.specs.Told.{led};
+ghost use Rattle.kc_language.specs.Values as values;
+ghost use Rattle.kc_language.specs.Values.{facts, name_count, type_in};
+ghost use Rattle.kc_outcome.specs.Explanations as rules;
+ghost use Rattle.kc_outcome.specs.Explanations.{text_of_lines};
+ghost use Rattle.kc_explain.specs.FactTexts as told;
+ghost use Rattle.kc_explain.specs.FactViews.{fact_view};
+ghost use Rattle.kc_explain.specs.SymbolTexts as spec;
 
+use crate::fact::Fact;
+use crate::fact_text::{add_fact, add_name, add_shown, type_text};
+use crate::facts::facts_of;
 use crate::holders::reached;
-use crate::line_text::{
-    Teller, add_active, add_choice_default, add_member, add_modules, add_name, add_place,
-    add_range, add_symbol_default, add_target, add_with_parts, add_worth,
-};
-use crate::lines::{Lines, TargetAt};
-use crate::parts::{
-    ConditionPart, Said, default_lines, defaults_at, dependency_parts, parts_value, prompt_at,
-    range_lines, shown_parts,
-};
-use kc_config_file::shown::{InputLine, add_value, shown_given};
-use kc_config_file::user_input::UserInput;
-use kc_expr::expression::{SymId, SymbolType, Tri};
-use kc_expr::values::{Values, lesser};
-use kc_language::explanations::Source;
-use kc_language::symbols::SelectOrImply;
-use kc_language::values::Interval;
-use kc_read::statement::Prompt;
-use kc_solve::solved::Solved;
-use kc_tree::rows::{Choice, SymbolDefault, SymbolRange};
-use kc_user::value::UserValue;
-use kc_values::laws::rows_tell_facts;
+use crate::lines::definitions_of;
+use crate::menus::add_menu_path;
+use crate::teller::Teller;
+use kc_expr::expression::{SymId, SymbolType};
+use kc_expr::values::Values;
+use kc_language::sources::Source;
+use kc_tree::rows::EntryId;
 use std::alloc::{AllocError, Global};
 
-// ---- definitions and prompts
+// ---- the first line
 
-// Adds what an entry that defines a symbol depends on.
-fn add_definition(
-    alloc: Global,
+/// Appends a symbol with its value. Fails only if memory runs out. Then a part may have been added.
+pub fn add_value_words(
     t: &Teller<'_, '_, '_>,
-    entry: usize,
-    text: &mut Vec<u8>,
-) -> Result<(), AllocError>
-    ensures { OnOk result (text.new.items ≡ text.old.items ++ led t.now.lead.now (rules.definition_text t.now.lines.now t.now.solved.now entry)) }
-{
-    let parts = dependency_parts(alloc, t.lines, entry)?;
-    let value = parts_value(t.solved, &parts);
-    add_with_parts(t, entry, b"dependencies", value, &parts, text)
-}
-
-// Adds what these entries depend on.
-fn add_definitions(
-    alloc: Global,
-    t: &Teller<'_, '_, '_>,
-    entries: &[usize],
-    text: &mut Vec<u8>,
-) -> Result<(), AllocError>
-    ensures { OnOk result (text.new.items ≡ text.old.items
-        ++ led t.now.lead.now (flat_map (rules.definition_text t.now.lines.now t.now.solved.now) entries.now)) }
-{
-    for entry in entries {
-        add_definition(alloc, t, *entry, text)?;
-    }
-    Ok(())
-}
-
-// The value of these parts of a condition and of more.
-#[tactic(auto, using(crate::proofs::ToldLemmas::parts_value_both))]
-fn value_of_both(
-    solved: &Solved<'_>,
-    first: &[ConditionPart<'_>],
-    more: &[ConditionPart<'_>],
-) -> Tri
-    ensures { result ≡ spec.value_of_both solved.now (map part_view first.now) (map part_view more.now) }
-{
-    lesser(parts_value(solved, first), parts_value(solved, more))
-}
-
-// Adds a prompt, with the parts of its condition that it has beside those that its entry depends on.
-fn add_prompt(
-    alloc: Global,
-    t: &Teller<'_, '_, '_>,
-    prompt: &Said<'_, Prompt>,
-    text: &mut Vec<u8>,
-) -> Result<(), AllocError>
-    ensures { OnOk result (text.new.items ≡ text.old.items
-        ++ led t.now.lead.now (rules.prompt_text t.now.lines.now t.now.solved.now (prompt_said prompt.now))) }
-{
-    let parts = dependency_parts(alloc, t.lines, prompt.entry)?;
-    let shown = shown_parts(alloc, t.lines, prompt)?;
-    let value = value_of_both(t.solved, &parts, &shown);
-    add_with_parts(t, prompt.at, b"prompt", value, &shown, text)
-}
-
-// Adds a prompt, if there is one.
-fn add_prompt_of(
-    alloc: Global,
-    t: &Teller<'_, '_, '_>,
-    prompt: Option<Said<'_, Prompt>>,
-    text: &mut Vec<u8>,
-) -> Result<(), AllocError>
-    ensures { OnOk result (text.new.items ≡ text.old.items
-        ++ led t.now.lead.now (spec.prompt_texts t.now.lines.now t.now.solved.now (option_map prompt_said prompt.entry))) }
-{
-    match prompt {
-        None => Ok(()),
-        Some(prompt) => add_prompt(alloc, t, &prompt, text),
-    }
-}
-
-// Adds the prompt of an entry that counts.
-fn add_prompt_at(
-    alloc: Global,
-    t: &Teller<'_, '_, '_>,
-    entry: usize,
-    text: &mut Vec<u8>,
-) -> Result<(), AllocError>
-    ensures { OnOk result (text.new.items ≡ text.old.items
-        ++ led t.now.lead.now (spec.prompts_at t.now.lines.now t.now.solved.now entry)) }
-{
-    let prompt = prompt_at(alloc, t.lines, entry)?;
-    add_prompt_of(alloc, t, prompt, text)
-}
-
-// Adds the prompts of these entries that count, entry by entry.
-fn add_prompts_each(
-    alloc: Global,
-    t: &Teller<'_, '_, '_>,
-    entries: &[usize],
-    text: &mut Vec<u8>,
-) -> Result<(), AllocError>
-    ensures { OnOk result (text.new.items ≡ text.old.items
-        ++ led t.now.lead.now (flat_map (spec.prompts_at t.now.lines.now t.now.solved.now) entries.now)) }
-{
-    for entry in entries {
-        add_prompt_at(alloc, t, *entry, text)?;
-    }
-    Ok(())
-}
-
-// Adds the prompts of these entries that count.
-fn add_prompts(
-    alloc: Global,
-    t: &Teller<'_, '_, '_>,
-    entries: &[usize],
-    text: &mut Vec<u8>,
-) -> Result<(), AllocError>
-    ensures { OnOk result (text.new.items ≡ text.old.items
-        ++ led t.now.lead.now (flat_map (rules.prompt_text t.now.lines.now t.now.solved.now) (rules.prompt_lines (statements t.now.lines.now) entries.now))) }
-{
-    add_prompts_each(alloc, t, entries, text)
-}
-
-// ---- what the user gave
-
-// Begins a line about a line of an input file.
-fn begin_input_line(
-    t: &Teller<'_, '_, '_>,
-    at: &InputLine<'_>,
-    text: &mut Vec<u8>,
-) -> Result<(), AllocError>
-    ensures { OnOk result (text.new.items ≡ text.old.items ++ t.now.lead.now ++ spec.input_place (location_of at.now)) }
-{
-    text.extend_from_slice(t.lead)?;
-    text.extend_from_slice(b"  ")?;
-    add_place(at.file, at.number, text)
-}
-
-// Adds the line of a value that the user gave.
-fn add_given(
-    t: &Teller<'_, '_, '_>,
-    symbol_type: SymbolType,
-    given: &UserValue,
-    at: Option<InputLine<'_>>,
-    text: &mut Vec<u8>,
-) -> Result<(), AllocError>
-    ensures { OnOk result (text.new.items ≡ text.old.items
-        ++ led t.now.lead.now (spec.input_lines (codes "user value " ++ value_text t.now.is_raw symbol_type (given_of_value given.now)) (option_map location_of at.entry))) }
-{
-    match at {
-        None => Ok(()),
-        Some(at) => {
-            begin_input_line(t, &at, text)?;
-            text.extend_from_slice(b"user value ")?;
-            add_value(t.is_raw, symbol_type, shown_given(given), text)?;
-            text.extend_from_slice(b"\n")
-        }
-    }
-}
-
-// The same, if there is one.
-fn add_given_of(
-    t: &Teller<'_, '_, '_>,
-    symbol_type: SymbolType,
-    given: Option<&UserValue>,
-    at: Option<InputLine<'_>>,
-    text: &mut Vec<u8>,
-) -> Result<(), AllocError>
-    ensures { OnOk result (text.new.items ≡ text.old.items
-        ++ led t.now.lead.now (spec.given_lines t.now.is_raw symbol_type (given_in given.entry) (option_map location_of at.entry))) }
-{
-    match given {
-        None => Ok(()),
-        Some(given) => add_given(t, symbol_type, given, at, text),
-    }
-}
-
-// Adds the line of a value that is not allowed.
-fn add_refused(
-    t: &Teller<'_, '_, '_>,
-    at: Option<InputLine<'_>>,
-    text: &mut Vec<u8>,
-) -> Result<(), AllocError>
-    ensures { OnOk result (text.new.items ≡ text.old.items
-        ++ led t.now.lead.now (spec.input_lines (codes "value not allowed") (option_map location_of at.entry))) }
-{
-    match at {
-        None => Ok(()),
-        Some(at) => {
-            begin_input_line(t, &at, text)?;
-            text.extend_from_slice(b"value not allowed\n")
-        }
-    }
-}
-
-// What stands in the symbol's place.
-fn given_at<'a>(solved: &'a Solved<'_>, id: SymId) -> Option<&'a UserValue>
-    ensures { given_in result ≡ place_at solved.now.places (SymbolPlace id.0) }
-{
-    solved.user().symbols().get(id.0)
-}
-
-// Adds the lines of a value that the user gave and of one that is not allowed.
-fn add_user_of(
-    t: &Teller<'_, '_, '_>,
-    symbol_type: SymbolType,
-    given: Option<&UserValue>,
-    at: Option<InputLine<'_>>,
-    refused: Option<InputLine<'_>>,
-    text: &mut Vec<u8>,
-) -> Result<(), AllocError>
-    ensures { OnOk result (text.new.items ≡ text.old.items ++ led t.now.lead.now
-        (spec.user_lines t.now.is_raw symbol_type (given_in given.entry) (option_map location_of at.entry) (option_map location_of refused.entry))) }
-{
-    add_given_of(t, symbol_type, given, at, text)?;
-    add_refused(t, refused, text)
-}
-
-// Adds the lines of the user's values.
-fn add_user(
-    t: &Teller<'_, '_, '_>,
-    input: &UserInput<'_>,
     id: SymId,
     text: &mut Vec<u8>,
 ) -> Result<(), AllocError>
-    ensures { OnOk result (text.new.items ≡ text.old.items ++ led t.now.lead.now (rules.user_text t.now.lines.now t.now.solved.now input.now t.now.is_raw id)) }
+    ensures { OnOk result (text.new.items ≡ text.old.items ++ rules.value_words t.now.input.now t.now.solved.now t.now.is_raw id) }
 {
-    let symbol_type = t.solved.symbol_type(id);
-    let given = given_at(t.solved, id);
-    let at = input.plain_line(id);
-    let refused = input.plain_refused_line(id);
-    add_user_of(t, symbol_type, given, at, refused, text)
+    add_shown(t, id, text)
 }
 
-// ---- the symbol
-
-// A type in words.
-fn type_text(symbol_type: SymbolType) -> &'static [u8]
-    ensures { result.now ≡ rules.type_text symbol_type }
-{
-    match symbol_type {
-        SymbolType::Undefined => b"no type",
-        SymbolType::Bool => b"bool",
-        SymbolType::Tristate => b"tristate",
-        SymbolType::Str => b"string",
-        SymbolType::Int => b"int",
-        SymbolType::Hex => b"hex",
-    }
-}
-
-// A source in words.
+// The text of a source.
 fn source_text(from: Source) -> &'static [u8]
     ensures { result.now ≡ rules.source_text from }
 {
@@ -305,9 +54,9 @@ fn source_text(from: Source) -> &'static [u8]
     }
 }
 
-// What is said of a name without a type that these entries define.
-fn untyped_text(entries: &[usize]) -> &'static [u8]
-    ensures { result.now ≡ rules.untyped_text entries.now }
+// The text about a name without a type that these entries define.
+fn untyped_text(entries: &[EntryId]) -> &'static [u8]
+    ensures { result.now ≡ spec.untyped_text entries.now }
 {
     if entries.is_empty() {
         b": not a symbol, only mentioned"
@@ -316,39 +65,20 @@ fn untyped_text(entries: &[usize]) -> &'static [u8]
     }
 }
 
-// Adds the first line of a name without a type that these entries define.
+// Appends a name without a type that these entries define.
 fn add_untyped_head(
     t: &Teller<'_, '_, '_>,
-    entries: &[usize],
+    entries: &[EntryId],
     id: SymId,
     text: &mut Vec<u8>,
 ) -> Result<(), AllocError>
-    ensures { OnOk result (text.new.items ≡ text.old.items ++ led t.now.lead.now (spec.untyped_head t.now.solved.now entries.now id ∷ [])) }
+    ensures { OnOk result (text.new.items ≡ text.old.items ++ (values.name t.now.solved.now.tree id ++ spec.untyped_text entries.now)) }
 {
-    text.extend_from_slice(t.lead)?;
     add_name(t, id, text)?;
-    text.extend_from_slice(untyped_text(entries))?;
-    text.extend_from_slice(b"\n")
+    text.extend_from_slice(untyped_text(entries))
 }
 
-// Adds a symbol of this type, with its value and where that comes from.
-fn add_typed(
-    t: &Teller<'_, '_, '_>,
-    id: SymId,
-    symbol_type: SymbolType,
-    text: &mut Vec<u8>,
-) -> Result<(), AllocError>
-    requires { id.0 < name_count t.now.solved.now.tree }
-    ensures { OnOk result (text.new.items ≡ text.old.items ++ spec.typed_head t.now.lines.now t.now.solved.now t.now.is_raw id symbol_type) }
-{
-    add_worth(t, id, text)?;
-    text.extend_from_slice(b" (")?;
-    text.extend_from_slice(type_text(symbol_type))?;
-    text.extend_from_slice(b"): ")?;
-    text.extend_from_slice(source_text(t.solved.source(id)))
-}
-
-// Adds the first line of a symbol of this type.
+// Appends a symbol of this type, with its value and its source.
 fn add_typed_head(
     t: &Teller<'_, '_, '_>,
     id: SymId,
@@ -356,26 +86,26 @@ fn add_typed_head(
     text: &mut Vec<u8>,
 ) -> Result<(), AllocError>
     requires { id.0 < name_count t.now.solved.now.tree }
-    ensures { OnOk result (text.new.items ≡ text.old.items
-        ++ led t.now.lead.now (spec.typed_head t.now.lines.now t.now.solved.now t.now.is_raw id symbol_type ∷ [])) }
+    ensures { OnOk result (text.new.items ≡ text.old.items ++ spec.typed_head t.now id symbol_type) }
 {
-    text.extend_from_slice(t.lead)?;
-    add_typed(t, id, symbol_type, text)?;
-    text.extend_from_slice(b"\n")
+    add_value_words(t, id, text)?;
+    text.extend_from_slice(b" (")?;
+    text.extend_from_slice(type_text(symbol_type))?;
+    text.extend_from_slice(b"): ")?;
+    text.extend_from_slice(source_text(t.solved.source(id)))
 }
 
-// Adds the first line of a symbol that has this type and that these entries define.
-#[tactic(auto, using(crate::proofs::ToldLemmas::typed_within))]
+// Appends a symbol that has this type and that these entries define.
+#[tactic(auto, using(crate::proofs::SymbolLemmas::typed_within))]
 fn add_head_of(
     t: &Teller<'_, '_, '_>,
-    entries: &[usize],
+    entries: &[EntryId],
     id: SymId,
     symbol_type: SymbolType,
     text: &mut Vec<u8>,
 ) -> Result<(), AllocError>
     requires { symbol_type ≡ type_in (facts t.now.solved.now.tree id) }
-    ensures { OnOk result (text.new.items ≡ text.old.items
-        ++ led t.now.lead.now (spec.head_of t.now.lines.now t.now.solved.now t.now.is_raw entries.now id symbol_type ∷ [])) }
+    ensures { OnOk result (text.new.items ≡ text.old.items ++ spec.head_of t.now entries.now id symbol_type) }
 {
     match symbol_type {
         SymbolType::Undefined => add_untyped_head(t, entries, id, text),
@@ -383,337 +113,115 @@ fn add_head_of(
     }
 }
 
-// Adds the first line of a symbol that these entries define.
+// Appends the first line of a symbol that these entries define.
 fn add_head(
     t: &Teller<'_, '_, '_>,
-    entries: &[usize],
+    lead: &[u8],
+    entries: &[EntryId],
     id: SymId,
     text: &mut Vec<u8>,
 ) -> Result<(), AllocError>
     ensures { OnOk result (text.new.items ≡ text.old.items
-        ++ led t.now.lead.now (spec.head_of t.now.lines.now t.now.solved.now t.now.is_raw entries.now id (type_in (facts t.now.solved.now.tree id)) ∷ [])) }
+        ++ text_of_lines lead.now (spec.head_of t.now entries.now id (type_in (facts t.now.solved.now.tree id)) ∷ [])) }
 {
-    add_head_of(t, entries, id, t.solved.symbol_type(id), text)
+    text.extend_from_slice(lead)?;
+    add_head_of(t, entries, id, t.solved.symbol_type(id), text)?;
+    text.extend_from_slice(b"\n")
 }
 
-// ---- a symbol outside a choice
+// ---- the menus and the facts
 
-// Adds these defaults of a symbol of this type.
-fn add_defaults(
+// Appends the menus around the first of these entries.
+fn add_menus(
     alloc: Global,
     t: &Teller<'_, '_, '_>,
-    symbol_type: SymbolType,
-    defaults: &[Said<'_, SymbolDefault>],
+    lead: &[u8],
+    entries: &[EntryId],
+    text: &mut Vec<u8>,
+) -> Result<(), AllocError>
+    ensures { OnOk result (text.new.items ≡ text.old.items ++ spec.menus_text t.now lead.now entries.now) }
+{
+    match entries {
+        [] => Ok(()),
+        [first, ..] => {
+            let mut indented = Vec::from_slice(alloc, lead)?;
+            indented.extend_from_slice(b"  ")?;
+            add_menu_path(alloc, t.layout, &indented, *first, text)
+        }
+    }
+}
+
+// Appends the lines of these facts.
+fn add_facts(
+    t: &Teller<'_, '_, '_>,
+    lead: &[u8],
+    facts: &[Fact<'_>],
     text: &mut Vec<u8>,
 ) -> Result<(), AllocError>
     ensures { OnOk result (text.new.items ≡ text.old.items
-        ++ led t.now.lead.now (map (told.default_line t.now.lines.now t.now.solved.now symbol_type) (map default_said defaults.now))) }
+        ++ told.facts_text t.now.is_raw t.now.solved.now.tree lead.now (map (fact_view t.now.solved.now) facts.now)) }
 {
-    for default in defaults {
-        add_symbol_default(alloc, t, symbol_type, default, text)?;
+    for fact in facts {
+        add_fact(t, lead, fact, text)?;
     }
     Ok(())
-}
-
-// Adds these ranges.
-fn add_ranges(
-    alloc: Global,
-    t: &Teller<'_, '_, '_>,
-    ranges: &[Said<'_, SymbolRange>],
-    text: &mut Vec<u8>,
-) -> Result<(), AllocError>
-    ensures { OnOk result (text.new.items ≡ text.old.items
-        ++ led t.now.lead.now (map (rules.range_text t.now.lines.now t.now.solved.now) (map range_said ranges.now))) }
-{
-    for range in ranges {
-        add_range(alloc, t, range, text)?;
-    }
-    Ok(())
-}
-
-// Adds an active range, if there is one.
-fn add_active_of(
-    alloc: Global,
-    t: &Teller<'_, '_, '_>,
-    symbol_type: SymbolType,
-    range: Option<Interval>,
-    text: &mut Vec<u8>,
-) -> Result<(), AllocError>
-    requires { IfSome range HasSmallBounds }
-    ensures { OnOk result (text.new.items ≡ text.old.items ++ led t.now.lead.now (map (told.active_line symbol_type) (listed range))) }
-{
-    match range {
-        None => Ok(()),
-        Some(range) => add_active(alloc, t, symbol_type, range, text),
-    }
-}
-
-// Adds these lines that select or imply.
-fn add_targets(
-    alloc: Global,
-    t: &Teller<'_, '_, '_>,
-    word: &[u8],
-    targets: &[TargetAt<'_>],
-    text: &mut Vec<u8>,
-) -> Result<(), AllocError>
-    ensures { OnOk result (text.new.items ≡ text.old.items
-        ++ led t.now.lead.now (map (rules.target_text t.now.lines.now t.now.solved.now t.now.is_raw word.now) (map target_at_view targets.now))) }
-{
-    for target in targets {
-        add_target(alloc, t, word, target, text)?;
-    }
-    Ok(())
-}
-
-// Whether a symbol of this type can be selected.
-fn is_selectable(symbol_type: SymbolType) -> bool
-    ensures { result ≡ is_selectable symbol_type }
-{
-    matches!(
-        symbol_type,
-        SymbolType::Undefined | SymbolType::Bool | SymbolType::Tristate
-    )
-}
-
-// Adds who selects and implies a symbol of this type.
-fn add_naming(
-    alloc: Global,
-    t: &Teller<'_, '_, '_>,
-    id: SymId,
-    symbol_type: SymbolType,
-    text: &mut Vec<u8>,
-) -> Result<(), AllocError>
-    ensures { OnOk result (text.new.items ≡ text.old.items
-        ++ led t.now.lead.now (spec.naming_text t.now.lines.now t.now.solved.now t.now.is_raw id symbol_type)) }
-{
-    if is_selectable(symbol_type) {
-        let selects = t.lines.targets(alloc, SelectOrImply::Select, id)?;
-        let implies = t.lines.targets(alloc, SelectOrImply::Imply, id)?;
-        add_targets(alloc, t, b"selected by ", &selects, text)?;
-        add_targets(alloc, t, b"implied by ", &implies, text)
-    } else {
-        Ok(())
-    }
-}
-
-// Adds the modules symbol of a tristate.
-fn add_modules_of(
-    t: &Teller<'_, '_, '_>,
-    symbol_type: SymbolType,
-    text: &mut Vec<u8>,
-) -> Result<(), AllocError>
-    ensures { OnOk result (text.new.items ≡ text.old.items ++ led t.now.lead.now (spec.modules_text t.now.lines.now t.now.solved.now t.now.is_raw symbol_type)) }
-{
-    match symbol_type {
-        SymbolType::Tristate => match t.solved.modules() {
-            Some(modules) => add_modules(t, modules, text),
-            None => Ok(()),
-        },
-        _ => Ok(()),
-    }
-}
-
-// Adds what gives a symbol of this type its value.
-fn add_plain(
-    alloc: Global,
-    t: &Teller<'_, '_, '_>,
-    id: SymId,
-    symbol_type: SymbolType,
-    active: Option<Interval>,
-    text: &mut Vec<u8>,
-) -> Result<(), AllocError>
-    requires { IfSome active HasSmallBounds }
-    ensures { OnOk result (text.new.items ≡ text.old.items
-        ++ led t.now.lead.now (spec.plain_of t.now.lines.now t.now.solved.now t.now.is_raw id symbol_type active)) }
-{
-    let defaults = default_lines(alloc, t.lines, t.solved, id)?;
-    let ranges = range_lines(alloc, t.lines, t.solved, id)?;
-    add_defaults(alloc, t, symbol_type, &defaults, text)?;
-    add_ranges(alloc, t, &ranges, text)?;
-    add_active_of(alloc, t, symbol_type, active, text)?;
-    add_naming(alloc, t, id, symbol_type, text)?;
-    add_modules_of(t, symbol_type, text)
-}
-
-// ---- a member of a choice
-
-// Adds these defaults of a choice.
-fn add_choice_defaults(
-    alloc: Global,
-    t: &Teller<'_, '_, '_>,
-    defaults: &[Said<'_, SymbolDefault>],
-    text: &mut Vec<u8>,
-) -> Result<(), AllocError>
-    ensures { OnOk result (text.new.items ≡ text.old.items
-        ++ led t.now.lead.now (map (rules.default_text t.now.lines.now t.now.solved.now) (map default_said defaults.now))) }
-{
-    for default in defaults {
-        add_choice_default(alloc, t, default, text)?;
-    }
-    Ok(())
-}
-
-// Adds these members.
-fn add_members(
-    t: &Teller<'_, '_, '_>,
-    members: &[SymId],
-    text: &mut Vec<u8>,
-) -> Result<(), AllocError>
-    ensures { OnOk result (text.new.items ≡ text.old.items
-        ++ led t.now.lead.now (map (rules.member_text t.now.lines.now t.now.solved.now t.now.is_raw) members.now)) }
-{
-    for member in members {
-        add_member(t, *member, text)?;
-    }
-    Ok(())
-}
-
-// The choice with a number.
-fn choice_row(choices: &[Choice], choice: usize) -> Option<&Choice>
-    ensures { option_map (λ c. c.now) result ≡ slice_get choices.now choice }
-{
-    choices.get(choice)
-}
-
-// The members of a choice, none of no choice.
-fn members_in(row: Option<&Choice>) -> &[SymId]
-    ensures { result.now ≡ spec.row_members (option_map (λ c. c.now) row.entry) }
-{
-    match row {
-        None => &[],
-        Some(choice) => &choice.members,
-    }
-}
-
-// The members of a choice.
-fn members_of<'a>(solved: &'a Solved<'_>, choice: usize) -> &'a [SymId]
-    ensures { result.now ≡ spec.members_at solved.now choice }
-{
-    members_in(choice_row(solved.tree().choices(), choice))
-}
-
-// Adds the mode of a choice, which the entry begins, and what it depends on.
-fn add_mode(
-    alloc: Global,
-    t: &Teller<'_, '_, '_>,
-    choice: usize,
-    entry: usize,
-    text: &mut Vec<u8>,
-) -> Result<(), AllocError>
-    ensures { OnOk result (text.new.items ≡ text.old.items ++ led t.now.lead.now (spec.mode_lines t.now.lines.now t.now.solved.now choice entry)) }
-{
-    let parts = dependency_parts(alloc, t.lines, entry)?;
-    let mode = t.solved.mode(choice);
-    add_with_parts(t, entry, b"choice", mode, &parts, text)
-}
-
-// Adds a choice, which the entry begins.
-fn add_choice_at(
-    alloc: Global,
-    t: &Teller<'_, '_, '_>,
-    choice: usize,
-    entry: usize,
-    text: &mut Vec<u8>,
-) -> Result<(), AllocError>
-    ensures { OnOk result (text.new.items ≡ text.old.items ++ led t.now.lead.now (spec.choice_lines t.now.lines.now t.now.solved.now t.now.is_raw choice entry)) }
-{
-    let defaults = defaults_at(alloc, t.lines, entry)?;
-    add_mode(alloc, t, choice, entry, text)?;
-    add_prompt_at(alloc, t, entry, text)?;
-    add_choice_defaults(alloc, t, &defaults, text)?;
-    add_members(t, members_of(t.solved, choice), text)
-}
-
-// Adds a choice, if an entry begins it.
-fn add_choice_of(
-    alloc: Global,
-    t: &Teller<'_, '_, '_>,
-    choice: usize,
-    entry: Option<usize>,
-    text: &mut Vec<u8>,
-) -> Result<(), AllocError>
-    ensures { OnOk result (text.new.items ≡ text.old.items
-        ++ led t.now.lead.now (flat_map (spec.choice_lines t.now.lines.now t.now.solved.now t.now.is_raw choice) (listed entry))) }
-{
-    match entry {
-        None => Ok(()),
-        Some(entry) => add_choice_at(alloc, t, choice, entry, text),
-    }
-}
-
-// Adds a choice.
-fn add_choice(
-    alloc: Global,
-    t: &Teller<'_, '_, '_>,
-    choice: usize,
-    text: &mut Vec<u8>,
-) -> Result<(), AllocError>
-    ensures { OnOk result (text.new.items ≡ text.old.items ++ led t.now.lead.now (rules.choice_text t.now.lines.now t.now.solved.now t.now.is_raw choice)) }
-{
-    add_choice_of(alloc, t, choice, t.lines.choice_entry(choice), text)
 }
 
 // ---- the whole
 
-// Adds what gives a symbol its value.
-fn add_body(
+// Appends the lines of a symbol that these entries define and that has these facts.
+fn add_symbol_of(
     alloc: Global,
     t: &Teller<'_, '_, '_>,
+    lead: &[u8],
+    entries: &[EntryId],
+    facts: &[Fact<'_>],
     id: SymId,
     text: &mut Vec<u8>,
 ) -> Result<(), AllocError>
-    ensures { OnOk result (text.new.items ≡ text.old.items ++ led t.now.lead.now (spec.body_lines t.now.lines.now t.now.solved.now t.now.is_raw id)) }
+    ensures { OnOk result (text.new.items ≡ text.old.items
+        ++ spec.symbol_text t.now lead.now entries.now id (map (fact_view t.now.solved.now) facts.now)) }
 {
-    rows_tell_facts();
-    let layout = t.solved.tree().layout();
-    match layout.symbol(id) {
-        None => Ok(()),
-        Some(symbol) => match symbol.choice.get() {
-            Some(choice) => add_choice(alloc, t, choice.0 as usize, text),
-            None => {
-                let active = t.solved.active_range(id);
-                add_plain(alloc, t, id, symbol.symbol_type, active, text)
-            }
-        },
-    }
+    add_head(t, lead, entries, id, text)?;
+    add_menus(alloc, t, lead, entries, text)?;
+    add_facts(t, lead, facts, text)
 }
 
-// Adds the lines of a symbol.
-fn add_symbol(
+/// Appends the lines of a symbol, each after the lead: its value, the menus around it, and its facts. Fails only if memory runs
+/// out. Then a part may have been added.
+pub fn add_symbol_lines(
     alloc: Global,
     t: &Teller<'_, '_, '_>,
-    input: &UserInput<'_>,
+    lead: &[u8],
     id: SymId,
     text: &mut Vec<u8>,
 ) -> Result<(), AllocError>
-    ensures { OnOk result (text.new.items ≡ text.old.items ++ led t.now.lead.now (rules.symbol_lines t.now.lines.now t.now.solved.now input.now t.now.is_raw id)) }
+    ensures { OnOk result (text.new.items ≡ text.old.items
+        ++ text_of_lines lead.now (rules.symbol_lines t.now.input.now t.now.solved.now t.now.is_raw id)) }
 {
-    let entries = t.lines.definitions_of(alloc, id)?;
-    add_head(t, &entries, id, text)?;
-    add_definitions(alloc, t, &entries, text)?;
-    add_prompts(alloc, t, &entries, text)?;
-    add_user(t, input, id, text)?;
-    add_body(alloc, t, id, text)
+    let entries = definitions_of(alloc, t.layout, id)?;
+    let facts = facts_of(alloc, t, id)?;
+    add_symbol_of(alloc, t, lead, &entries, &facts, id, text)
 }
 
-// Adds the lines of these symbols.
-fn add_symbols(
+// Appends the lines of these symbols.
+fn add_all_symbol_lines(
     alloc: Global,
     t: &Teller<'_, '_, '_>,
-    input: &UserInput<'_>,
+    lead: &[u8],
     symbols: &[SymId],
     text: &mut Vec<u8>,
 ) -> Result<(), AllocError>
     ensures { OnOk result (text.new.items ≡ text.old.items
-        ++ flat_map (λ s. led t.now.lead.now (rules.symbol_lines t.now.lines.now t.now.solved.now input.now t.now.is_raw s)) symbols.now) }
+        ++ flat_map (λ s. text_of_lines lead.now (rules.symbol_lines t.now.input.now t.now.solved.now t.now.is_raw s)) symbols.now) }
 {
     for symbol in symbols {
-        add_symbol(alloc, t, input, *symbol, text)?;
+        add_symbol_lines(alloc, t, lead, *symbol, text)?;
     }
     Ok(())
 }
 
-// All but the first.
+// All symbols except the first.
 fn behind_first(symbols: &[SymId]) -> &[SymId]
     ensures { result.now ≡ drop 1 symbols.now }
 {
@@ -724,51 +232,18 @@ fn behind_first(symbols: &[SymId]) -> &[SymId]
     }
 }
 
-// Adds the lines of these symbols, two spaces further in.
-fn add_further_in(
-    alloc: Global,
-    t: &Teller<'_, '_, '_>,
-    input: &UserInput<'_>,
-    symbols: &[SymId],
-    text: &mut Vec<u8>,
-) -> Result<(), AllocError>
-    ensures { OnOk result (text.new.items ≡ text.old.items
-        ++ flat_map (λ s. led (t.now.lead.now ++ codes "  ") (rules.symbol_lines t.now.lines.now t.now.solved.now input.now t.now.is_raw s)) symbols.now) }
-{
-    let mut lead = Vec::new(alloc);
-    lead.extend_from_slice(t.lead)?;
-    lead.extend_from_slice(b"  ")?;
-    let further = Teller {
-        lines: t.lines,
-        solved: t.solved,
-        is_raw: t.is_raw,
-        lead: &lead,
-    };
-    add_symbols(alloc, &further, input, symbols, text)
-}
-
-/// Adds the lines that explain a symbol, and those of the symbols that hold it down in so many steps, which stand two spaces
-/// further in. Each line begins with the lead. A string's value is written as a `.config` has it, raw or with escapes. Fails only when it is out of memory, and then a part of the text may be there.
+/// Appends the lines that explain a symbol and, indented by two spaces, those of the symbols that hold it down in `depth`
+/// steps. Fails only if memory runs out. Then a part may have been added.
 pub fn add_explanation(
     alloc: Global,
-    lines: &Lines<'_>,
-    solved: &Solved<'_>,
-    input: &UserInput<'_>,
-    is_raw: bool,
-    lead: &[u8],
+    t: &Teller<'_, '_, '_>,
     depth: usize,
     id: SymId,
     text: &mut Vec<u8>,
 ) -> Result<(), AllocError>
-    ensures { OnOk result (text.new.items ≡ text.old.items ++ rules.explanation_text lines.now solved.now input.now is_raw lead.now depth id) }
+    ensures { OnOk result (text.new.items ≡ text.old.items ++ rules.explanation_text t.now.input.now t.now.solved.now t.now.is_raw depth id) }
 {
-    let teller = Teller {
-        lines,
-        solved,
-        is_raw,
-        lead,
-    };
-    let all = reached(alloc, lines, solved, depth, id)?;
-    add_symbol(alloc, &teller, input, id, text)?;
-    add_further_in(alloc, &teller, input, behind_first(all.symbols()), text)
+    let all = reached(alloc, t, depth, id)?;
+    add_symbol_lines(alloc, t, b"", id, text)?;
+    add_all_symbol_lines(alloc, t, b"  ", behind_first(all.symbols()), text)
 }

@@ -1,10 +1,7 @@
 -- The tristate constants n, m and y as they are written.
-use Rattle.std.proofs.Common.{◌≡◌, ◌==◌, ℕ, Bool, true, false, List, [], ◌∷◌, Some, None, refl, sym, ap, ◌∙◌}
-use Rattle.std.proofs.lemmas.Bool.{eqb-true}
+use Rattle.std.proofs.{Common.{Bool, List, None, Some, [], ap, false, refl, sym, true, ℕ, ◌==◌, ◌∙◌, ◌∷◌, ◌≡◌}, lemmas.Bool.eqb-true}
 use Rattle.std.specs.Prelude.{if◌then◌else◌, unwrap_or}
-use Rattle.kc_language.specs.declared.expressions.Tri.{Tri}
-use Rattle.kc_language.specs.declared.expressions.Tri.TheVariants.{N, M, Y}
-use Rattle.kc_language.specs.Expressions.{tri_text, tristate_constant}
+use Rattle.kc_language.specs.{Expressions.{tri_text, tristate_constant}, declared.expressions.Tri.{TheVariants.{M, N, Y}, Tri}}
 
 -- a tristate constant is written as itself
 pub constant_text : (w : List ℕ) (t : Tri) → tristate_constant w ≡ Some t → tri_text t ≡ w

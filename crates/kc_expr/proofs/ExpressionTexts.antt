@@ -1,18 +1,9 @@
 -- The text of a chain, part by part.
-use Rattle.std.proofs.Common.{◌≡◌, ℕ, suc, Bool, Option, List, [], ◌∷◌, ◌++◌, ◌∙◌, ◌+◌, ◌<◌, ◌≤◌, length, get_or, map, drop, refl, ap, sym, true, false, append-nil, append_assoc, codes, drop-cons, add-one, Some}
-use Rattle.std.proofs.lemmas.List.{drop_all}
-use Rattle.std.proofs.lemmas.Option.{unwrap_or-slice_get}
-use Rattle.std.specs.Prelude.{None, if◌then◌else◌, is_some, slice_get, unwrap_or}
-use Rattle.std.specs.declared.alloc.Global.{Global}
-use Rattle.std.specs.declared.boxed.Box.{Box}
-use Rattle.kc_expr.specs.declared.expression.Expr.{Expr, All, Any}
-use Rattle.kc_expr.specs.declared.expression.Parts.{Parts}
-use Rattle.kc_expr.specs.Form.{form_of, parts_of}
+use Rattle.std.proofs.{Common.{Bool, List, Option, Some, [], add-one, ap, append-nil, append_assoc, codes, drop, drop-cons, false, get_or, length, map, refl, suc, sym, true, ℕ, ◌++◌, ◌+◌, ◌<◌, ◌∙◌, ◌∷◌, ◌≡◌, ◌≤◌}, lemmas.{List.drop_all, Option.unwrap_or-slice_get}}
+use Rattle.std.specs.{Prelude.{None, if◌then◌else◌, is_some, slice_get, unwrap_or}, declared.{alloc.Global.Global, boxed.Box.Box}}
+use Rattle.kc_expr.specs.{Form.{form_of, parts_of}, declared.expression.{Expr.{All, Any, Expr}, Parts.Parts}}
 use Rattle.kc_expr.proofs.FormLemmas.{form_of-All, form_of-Any}
-use Rattle.kc_language.specs.Expressions.{forms}
-use Rattle.kc_language.specs.Explanations.{chain_text, is_and, joint, parenthesized, text_at}
-use Rattle.kc_language.specs.declared.expressions.Connective.{Connective}
-use Rattle.kc_language.specs.declared.expressions.Connective.TheVariants.{And, Or}
+use Rattle.kc_language.specs.{ExpressionTexts.{chain_text, is_and, joint, parenthesized, text_at}, Expressions.forms, declared.expressions.Connective.{Connective, TheVariants.{And, Or}}}
 
 -- what is written before and after the parts
 abbrev pub opening : Bool → List ℕ

@@ -1,13 +1,8 @@
 -- An operand that stands alone is a whole expression, and what breaks off there breaks the expression off.
-use Rattle.std.proofs.Common.{◌≡◌, ℕ, ◌∷◌, List, Bool}
-use Rattle.kc_expr.specs.declared.parse.ExprFault.{ExprFault}
-use Rattle.kc_language.specs.declared.expressions.Connective.TheVariants.{And, Or}
-use Rattle.kc_language.specs.Expressions.{Form, Leaf, Terminal, OperandToken, Atom, leaf, names_in_atom, number_of, all_mentioned}
-use Rattle.kc_expr.specs.PartsOfExpressions.{lone_form}
-use Rattle.kc_expr.specs.Names.{Extends}
-use Rattle.kc_expr.specs.Reading.{ParsedChain, FailsNot, FailsChain, StartsNoOp}
-use Rattle.kc_expr.proofs.ParseLemmas.{parsed_lone, parsed_negation, parsed_conjunction, parsed_only}
-use Rattle.kc_expr.proofs.ReadingLemmas.{fails_negation, fails_conjunction, fails_first}
+use Rattle.std.proofs.Common.{Bool, List, ℕ, ◌∷◌, ◌≡◌}
+use Rattle.kc_expr.specs.{Names.Extends, PartsOfExpressions.lone_form, Reading.{FailsChain, FailsNot, ParsedChain, StartsNoOp}, declared.parse.ExprFault.ExprFault}
+use Rattle.kc_language.specs.{Expressions.{Atom, Form, Leaf, OperandToken, Terminal, all_mentioned, leaf, names_in_atom, number_of}, declared.expressions.Connective.TheVariants.{And, Or}}
+use Rattle.kc_expr.proofs.{ParseLemmas.{parsed_conjunction, parsed_lone, parsed_negation, parsed_only}, ReadingLemmas.{fails_conjunction, fails_first, fails_negation}}
 
 pub parsed_alone : (condition : Bool) (ts rest : List Terminal) (old names : List (List ℕ)) (a : Atom) (l : Leaf) (f : Form) (k : ℕ) → ts ≡ OperandToken a ∷ rest →
     StartsNoOp rest → names ≡ all_mentioned old (names_in_atom a) → ((later : List (List ℕ)) → Extends names later → l ≡ leaf (number_of later) a) →

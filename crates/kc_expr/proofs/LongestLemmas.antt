@@ -1,11 +1,7 @@
 -- The longest front that begins some expression, and so the outcome of parsing, is the only one.
-use Rattle.std.proofs.Common.{◌≡◌, ℕ, List, [], ◌∷◌, ◌++◌, refl, sym, ap, ◌∙◌, subst, append_assoc, append-nil, Bool}
-use Rattle.kc_language.specs.Expressions.{Form, number_of, all_mentioned, Terminal, Disjunction, names_in, Begins, BeginsWithin, LongestFront, IsNoExpression, IsTooDeep}
-use Rattle.kc_expr.specs.PartsOfExpressions.{NoLonger}
-use Rattle.kc_expr.specs.PartsOfExpressions.{spell_or, meaning_or}
-use Rattle.kc_expr.specs.Names.{Extends}
-use Rattle.kc_expr.specs.Grammar.{HasOneLongestFront}
-use Rattle.kc_expr.specs.Parsing.{IsParsed, IsDetermined}
+use Rattle.std.proofs.Common.{Bool, List, [], ap, append-nil, append_assoc, refl, subst, sym, ℕ, ◌++◌, ◌∙◌, ◌∷◌, ◌≡◌}
+use Rattle.kc_language.specs.Expressions.{Begins, BeginsWithin, Disjunction, Form, IsNoExpression, IsTooDeep, LongestFront, Terminal, all_mentioned, names_in, number_of}
+use Rattle.kc_expr.specs.{Grammar.HasOneLongestFront, Names.Extends, Parsing.{IsDetermined, IsParsed}, PartsOfExpressions.{NoLonger, meaning_or, spell_or}}
 use Rattle.kc_expr.proofs.OneTree.{unambiguous}
 
 -- a front of what begins an expression begins it too

@@ -1,20 +1,9 @@
 -- Names, as the bytes of the keys of a set.
-use Rattle.std.proofs.Common.{◌≡◌, ℕ, ◌+◌, Bool, true, false, not, cond, ◌||◌, List, [], ◌∷◌, ◌++◌, map, Some, None, position, length, nat_lt, zero, suc, ◌<◌, ◌==◌, get_or, slice_get, arith, refl, sym, ap, ◌∙◌, append_assoc, append-nil}
-use Rattle.std.specs.Prelude.{OnErr, Result, Ok, Err}
-use Rattle.std.specs.List.{list_any, prefix_len, position_or_len, IsDistinct, AllByRecursion}
-use Rattle.std.proofs.lemmas.List.Elements.{All-from_recursion}
-use Rattle.std.proofs.lemmas.Bool.Decides.{nat_tests}
-use Rattle.std.proofs.lemmas.Option.{get_or_from_slice_get, slice_get_within}
-use Rattle.std.proofs.lemmas.Bool.{false≢true}
-use Rattle.std.proofs.lemmas.Grind.{flat_map-append}
-use Rattle.std.proofs.Math.ListN.{length-map}
-use Rattle.kc_expr.specs.declared.name.Name.{Name}
-use Rattle.kc_expr.specs.declared.hash_key.HashKey.{HashKey}
+use Rattle.std.proofs.{Common.{Bool, List, None, Some, [], ap, append-nil, append_assoc, arith, cond, false, get_or, length, map, nat_lt, not, position, refl, slice_get, suc, sym, true, zero, ℕ, ◌++◌, ◌+◌, ◌<◌, ◌==◌, ◌||◌, ◌∙◌, ◌∷◌, ◌≡◌}, Math.ListN.length-map, lemmas.{Bool.{Decides.nat_tests, false≢true}, Grind.flat_map-append, List.Elements.All-from_recursion, Option.{get_or_from_slice_get, slice_get_within}}}
+use Rattle.std.specs.{List.{AllByRecursion, IsDistinct, list_any, position_or_len, prefix_len}, Prelude.{Err, Ok, OnErr, Result}}
+use Rattle.kc_expr.specs.{Names.{AreDistinct, Extends, IsNumber}, PartsOfExpressions.{names_in_terminal, names_in_terminals}, declared.{hash_key.HashKey.HashKey, name.Name.Name}}
 use Rattle.indexmap.specs.IndexSet.{IndexSet}
-use Rattle.kc_language.specs.Expressions.{Terminal, Close, symbol, same_name, number_of, mention, all_mentioned}
-use Rattle.kc_expr.specs.PartsOfExpressions.{names_in_terminal, names_in_terminals}
-use Rattle.kc_expr.specs.Names.{Extends, IsNumber, AreDistinct}
-use Rattle.kc_language.specs.declared.expressions.SymId.{SymId}
+use Rattle.kc_language.specs.{Expressions.{Close, Terminal, all_mentioned, mention, number_of, same_name, symbol}, declared.expressions.SymId.SymId}
 
 pub on_err : {T E : Type 0} (r : Result T E) (P : Type 0) → P → OnErr r P
 on_err (Ok x) P p = tt

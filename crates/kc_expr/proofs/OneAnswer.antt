@@ -1,23 +1,8 @@
 -- The grammar has an answer to any tokens, and one.
-use Rattle.std.proofs.Common.{◌≡◌, ℕ, zero, suc, ◌+◌, ◌≤◌, ◌⊎◌, Bool, true, false, List, [], ◌∷◌, ◌++◌, length, inl, inr, refl, sym, ap, ◌∙◌, subst, append_assoc, append-nil, arith}
-use Rattle.std.proofs.lemmas.Bool.{false≢true}
-use Rattle.std.proofs.lemmas.List.{length-append}
-use Rattle.kc_language.specs.declared.tokens.Op.{Op}
-use Rattle.kc_language.specs.declared.expressions.Connective.{Connective}
-use Rattle.kc_language.specs.declared.expressions.Connective.TheVariants.{And, Or}
-use Rattle.kc_expr.specs.declared.parse.ExprFault.{ExprFault}
-use Rattle.kc_expr.specs.declared.parse.ExprFault.TheVariants.{Syntax, TooDeep, Memory}
-use Rattle.kc_language.specs.Expressions.{Atom, Terminal, OperandToken, Compares, Bang, Joins, Open, Close, Keyword, Chain, Part, Disjunction, only, negation, conjunction, bang, group, lone, compare, spell, spell_part, spell_not, levels, levels_part, levels_not, LongestFront, IsNoExpression, IsTooDeep}
-use Rattle.kc_expr.specs.PartsOfExpressions.{spell_or}
-use Rattle.kc_expr.specs.Scan.{lone_in}
-use Rattle.kc_expr.specs.Parsing.{Answer, Derived, NoExpression, TooManyLevels, Answers, OneAnswer}
-use Rattle.kc_expr.specs.Reading.{starts_compares, starts_joins, starts_close, starts_operand, starts_bang, starts_open, same_connective, NoneWithin, StopsNot, StopsPart, StopsChain, FailsNot, FailsPart, FailsChain}
-use Rattle.kc_expr.proofs.PushLemmas.{push, spell-push, levels-push, lone-push}
-use Rattle.kc_expr.proofs.ReadingLemmas.{fails_bang, fails_group, fails_negation, fails_conjunction, fails_first, fails_next, deep_bang_now, deep_group_now, unclosed}
-use Rattle.kc_expr.proofs.ParseLemmas.{no_left, no_right_side}
-use Rattle.kc_expr.proofs.TopLemmas.{is_refused, longest_of}
-use Rattle.kc_expr.proofs.OneTree.{unambiguous}
-use Rattle.kc_expr.proofs.LongestLemmas.{one_longest, is_expression, not_too_deep}
+use Rattle.std.proofs.{Common.{Bool, List, [], ap, append-nil, append_assoc, arith, false, inl, inr, length, refl, subst, suc, sym, true, zero, ℕ, ◌++◌, ◌+◌, ◌∙◌, ◌∷◌, ◌≡◌, ◌≤◌, ◌⊎◌}, lemmas.{Bool.false≢true, List.length-append}}
+use Rattle.kc_language.specs.{Expressions.{Atom, Bang, Chain, Close, Compares, Disjunction, IsNoExpression, IsTooDeep, Joins, Keyword, LongestFront, Open, OperandToken, Part, Terminal, bang, compare, conjunction, group, levels, levels_not, levels_part, lone, negation, only, spell, spell_not, spell_part}, declared.{expressions.Connective.{Connective, TheVariants.{And, Or}}, tokens.Op.Op}}
+use Rattle.kc_expr.specs.{Parsing.{Answer, Answers, Derived, NoExpression, OneAnswer, TooManyLevels}, PartsOfExpressions.spell_or, Reading.{FailsChain, FailsNot, FailsPart, NoneWithin, StopsChain, StopsNot, StopsPart, same_connective, starts_bang, starts_close, starts_compares, starts_joins, starts_open, starts_operand}, Scan.lone_in, declared.parse.ExprFault.{ExprFault, TheVariants.{Memory, Syntax, TooDeep}}}
+use Rattle.kc_expr.proofs.{LongestLemmas.{is_expression, not_too_deep, one_longest}, OneTree.unambiguous, ParseLemmas.{no_left, no_right_side}, PushLemmas.{levels-push, lone-push, push, spell-push}, ReadingLemmas.{deep_bang_now, deep_group_now, fails_bang, fails_conjunction, fails_first, fails_group, fails_negation, fails_next, unclosed}, TopLemmas.{is_refused, longest_of}}
 
 -- a part that was found at the front of tokens
 record Got {T : Type 0} (spell_it : T → List Terminal) (levels_of : T → ℕ) (StopsIt : T → List Terminal → Type 0) (k : ℕ) (ts : List Terminal) : Type 0 where

@@ -1,12 +1,7 @@
 -- Where an operand stands among tokens.
-use Rattle.std.proofs.Common.{◌≡◌, ℕ, true, List, [], ◌∷◌, ◌++◌, refl, sym, ap, ◌∙◌, subst, append_assoc}
-use Rattle.std.proofs.lemmas.Bool.{false≢true}
-use Rattle.kc_language.specs.declared.expressions.Connective.{Connective}
-use Rattle.kc_expr.specs.declared.parse.ExprFault.{ExprFault}
-use Rattle.kc_expr.specs.declared.parse.ExprFault.TheVariants.{Syntax, TooDeep, Memory}
-use Rattle.kc_language.specs.Expressions.{Atom, Terminal, OperandToken, Compares, Bang, Joins, Open, Close, Keyword, Chain, Part, Negation, only, joined, negation, conjunction, bang, group, lone, compare, spell, spell_part, spell_not}
-use Rattle.kc_expr.specs.Parsing.{HasOperand}
-use Rattle.kc_expr.specs.Reading.{starts_operand, IsMemory, IsMemoryAt, FailsNot}
+use Rattle.std.proofs.{Common.{List, [], ap, append_assoc, refl, subst, sym, true, ℕ, ◌++◌, ◌∙◌, ◌∷◌, ◌≡◌}, lemmas.Bool.false≢true}
+use Rattle.kc_language.specs.{Expressions.{Atom, Bang, Chain, Close, Compares, Joins, Keyword, Negation, Open, OperandToken, Part, Terminal, bang, compare, conjunction, group, joined, lone, negation, only, spell, spell_not, spell_part}, declared.expressions.Connective.Connective}
+use Rattle.kc_expr.specs.{Parsing.HasOperand, Reading.{FailsNot, IsMemory, IsMemoryAt, starts_operand}, declared.parse.ExprFault.{ExprFault, TheVariants.{Memory, Syntax, TooDeep}}}
 
 pub operand_after : (front ts : List Terminal) → HasOperand ts → HasOperand (front ++ ts)
 operand_after front ts h = record {

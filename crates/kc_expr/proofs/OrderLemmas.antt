@@ -1,9 +1,6 @@
 -- Symbols in an order, and the marks that say which.
-use Rattle.std.proofs.Common.{◌≡◌, ◌≢◌, ℕ, zero, suc, ◌<◌, ◌==◌, ◌||◌, Bool, true, false, List, [], ◌∷◌, ◌++◌, length, inl, inr, refl, ap, sym, ◌∙◌, arith}
+use Rattle.std.proofs.{Common.{Bool, List, [], ap, arith, false, inl, inr, length, refl, suc, sym, true, zero, ℕ, ◌++◌, ◌<◌, ◌==◌, ◌||◌, ◌∙◌, ◌∷◌, ◌≡◌, ◌≢◌}, Math.ListN.set, lemmas.{Bool.{cases_eq, eq-eqb, ne_eqb}, List.Folds.list_any-append}}
 use Rattle.std.specs.List.{list_any}
-use Rattle.std.proofs.Math.ListN.{set}
-use Rattle.std.proofs.lemmas.Bool.{cases_eq, eq-eqb, ne_eqb}
-use Rattle.std.proofs.lemmas.List.Folds.{list_any-append}
 use Rattle.kc_language.specs.declared.expressions.SymId.{SymId}
 use Rattle.kc_expr.specs.DistinctSymbols.{is_marked}
 

@@ -1,22 +1,9 @@
 -- What the parser's functions need of tokens and names.
-use Rattle.std.proofs.Common.{◌≡◌, ◌≢◌, ℕ, suc, ◌+◌, ◌-◌, ◌≤◌, true, false, List, [], ◌∷◌, ◌++◌, Result, IfErr, IsErrAnd, refl, sym, ap, ◌∙◌, subst, append_assoc, append-nil, arith, Bool}
-use Rattle.std.proofs.lemmas.Bool.{false≢true}
-use Rattle.std.proofs.lemmas.Result.{err_from_is_err_and}
-use Rattle.kc_language.specs.declared.tokens.Op.{Op}
+use Rattle.std.proofs.{Common.{Bool, IfErr, IsErrAnd, List, Result, [], ap, append-nil, append_assoc, arith, false, refl, subst, suc, sym, true, ℕ, ◌++◌, ◌+◌, ◌-◌, ◌∙◌, ◌∷◌, ◌≡◌, ◌≢◌, ◌≤◌}, lemmas.{Bool.false≢true, Result.err_from_is_err_and}}
+use Rattle.kc_language.specs.{Expressions.{Atom, Bang, Chain, Close, Compares, Form, Joins, Keyword, Leaf, Negated, Open, OperandToken, Related, Terminal, all_mentioned, bang, compare, conjunction, forms, group, joined, leaf, levels, levels_not, lone, meaning, names_in_atom, negation, number_of, only, parts, spell, spell_not, spell_part}, declared.{expressions.Connective.{Connective, TheVariants.{And, Or}}, tokens.Op.Op}}
 use Rattle.kc_text.specs.declared.tokens.Token.{Token}
-use Rattle.kc_expr.specs.declared.parse.ExprFault.{ExprFault}
-use Rattle.kc_language.specs.Expressions.{Form, forms, Leaf, Related, Negated, number_of, all_mentioned, Atom, Terminal, OperandToken, Compares, Bang, Joins, Open, Close, Keyword, Chain, only, joined, negation, conjunction, bang, group, lone, compare, spell, spell_part, spell_not, levels, levels_not, leaf, names_in_atom, meaning, parts}
-use Rattle.kc_expr.specs.PartsOfExpressions.{lone_form, connected}
-use Rattle.kc_expr.specs.PartsOfExpressions.{names_in_terminals}
-use Rattle.kc_expr.specs.Names.{Extends}
-use Rattle.kc_language.specs.declared.expressions.Connective.{Connective}
-use Rattle.kc_language.specs.declared.expressions.Connective.TheVariants.{And, Or}
-use Rattle.kc_expr.specs.Grammar.{terminals_from}
-use Rattle.kc_expr.specs.Scan.{want, right, lone_in}
-use Rattle.kc_expr.specs.Reading.{starts_compares, starts_joins, starts_close, starts_operand, starts_bang, starts_open, NoneWithin, Refuses, Broken, Deep, Any_start, ParsedNot, ParsedPart, ParsedChain, FailsNot, FailsPart, FailsChain}
-use Rattle.kc_expr.proofs.NamesLemmas.{extends_on, mentioned_on, mentioned_extends, names_in_terminals-append, names_in_terminals-closed}
-use Rattle.kc_expr.proofs.PushLemmas.{push, spell-push, levels-push, lone-push, parts-push}
-use Rattle.kc_expr.proofs.ReadingLemmas.{no_operand, no_right, unclosed, deep_bang_now, deep_group_now, fails_bang, fails_group, fails_next}
+use Rattle.kc_expr.specs.{Grammar.terminals_from, Names.Extends, PartsOfExpressions.{connected, lone_form, names_in_terminals}, Reading.{Any_start, Broken, Deep, FailsChain, FailsNot, FailsPart, NoneWithin, ParsedChain, ParsedNot, ParsedPart, Refuses, starts_bang, starts_close, starts_compares, starts_joins, starts_open, starts_operand}, Scan.{lone_in, right, want}, declared.parse.ExprFault.ExprFault}
+use Rattle.kc_expr.proofs.{NamesLemmas.{extends_on, mentioned_extends, mentioned_on, names_in_terminals-append, names_in_terminals-closed}, PushLemmas.{levels-push, lone-push, parts-push, push, spell-push}, ReadingLemmas.{deep_bang_now, deep_group_now, fails_bang, fails_group, fails_next, no_operand, no_right, unclosed}}
 
 refuses_want : (limit cur base : ℕ) (stack : List ℕ) (ts : List Terminal) → starts_operand ts ≡ false → starts_bang ts ≡ false → starts_open ts ≡ false → Refuses limit (want cur base stack) ts
 refuses_want limit cur base stack [] p b o = tt

@@ -1,22 +1,9 @@
 -- The text of an expression is cut into its tokens.
-use Rattle.std.proofs.Common.{◌≡◌, ◌≢◌, ℕ, ◌+◌, ◌<◌, Bool, Option, Some, None, List, [], ◌∷◌, ◌++◌, length, get_or, take, drop, refl, ap, sym, ◌∙◌, subst, true, false, append_assoc, length-append, arith, inl, inr, codes, true≢false, append-nil, eqb-true}
-use Rattle.std.proofs.Math.Seq.{drop-append_seam, get_or-append_seam, take-append_seam}
-use Rattle.std.proofs.lemmas.Bool.{cases_Bool, cases_lt, eqb-false, or_parts}
-use Rattle.std.proofs.lemmas.List.{get_or-append-add, get_or-take, get_or_append_left, length-take-le}
-use Rattle.std.proofs.lemmas.List.Elements.{All-cons, All-head, All-nil, All-tail}
+use Rattle.std.proofs.{Common.{Bool, List, None, Option, Some, [], ap, append-nil, append_assoc, arith, codes, drop, eqb-true, false, get_or, inl, inr, length, length-append, refl, subst, sym, take, true, true≢false, ℕ, ◌++◌, ◌+◌, ◌<◌, ◌∙◌, ◌∷◌, ◌≡◌, ◌≢◌}, Math.Seq.{drop-append_seam, get_or-append_seam, take-append_seam}, lemmas.{Bool.{cases_Bool, cases_lt, eqb-false, or_parts}, List.{Elements.{All-cons, All-head, All-nil, All-tail}, get_or-append-add, get_or-take, get_or_append_left, length-take-le}}}
 use Rattle.std.specs.Prelude.{All, IsTrue, is_some, not, ◌==◌, ◌||◌}
-use Rattle.kc_language.specs.Expressions.{Every, Form, Forms, Leaf, LoneM, MoreForms, Negated, NoForms, Related, Single, Some_of, Symbol, Text, number_of, tristate_constant}
-use Rattle.kc_language.specs.Explanations.{AreReadable, IsOperand, IsReadBack, IsReadable, chain_text, expression_text, has_two, is_and, is_relation, joint, operand_text, parenthesized, quoted, text_at}
-use Rattle.kc_language.specs.Symbols.{name_by}
-use Rattle.kc_language.specs.Text.{escape}
-use Rattle.kc_language.specs.Tokens.{AQuoted, AWord, AnOp, IsCut, IsLongest, IsQuotedBody, Lexeme, ended, escaped, is_word_byte, nothing, op_text, plain, relation_text, skipped, taken}
-use Rattle.kc_language.specs.declared.tokens.Op.{Op}
+use Rattle.kc_language.specs.{ExpressionTexts.{AreReadable, IsOperand, IsReadBack, IsReadable, chain_text, expression_text, has_two, is_and, is_relation, joint, operand_text, parenthesized, quoted, text_at}, Expressions.{Every, Form, Forms, Leaf, LoneM, MoreForms, Negated, NoForms, Related, Single, Some_of, Symbol, Text, number_of, tristate_constant}, Symbols.name_by, Text.escape, Tokens.{AQuoted, AWord, AnOp, IsCut, IsLongest, IsQuotedBody, Lexeme, ended, escaped, is_word_byte, nothing, op_text, plain, relation_text, skipped, taken}, declared.{expressions.Connective.{Connective, TheVariants.{And, Or}}, tokens.{Op.Op, TextFault.TextFault}}}
 use Rattle.kc_language.specs.declared.tokens.Op.TheVariants as ops
-use Rattle.kc_language.specs.declared.tokens.TextFault.{TextFault}
-use Rattle.kc_language.specs.declared.expressions.Connective.{Connective}
-use Rattle.kc_language.specs.declared.expressions.Connective.TheVariants.{And, Or}
-use Rattle.kc_language.proofs.ExpressionTexts.{between, chain_tokens, derives_the_tokens, means_the_same, op_of, operand_token, tokens_at, tree_of}
-use Rattle.kc_language.proofs.FewestParentheses.{fewest}
+use Rattle.kc_language.proofs.{ExpressionTexts.{between, chain_tokens, derives_the_tokens, means_the_same, op_of, operand_token, tokens_at, tree_of}, FewestParentheses.fewest}
 use Rattle.kc_text.specs.LexerParts.{IsLongestOp}
 use Rattle.kc_text.proofs.Spelled.{op_byte, op_first, op_length, op_token, quoted_token, word_token}
 

@@ -1,17 +1,7 @@
 -- What an expression of a line means can be read back.
-use Rattle.std.proofs.Common.{◌≡◌, ◌≢◌, ℕ, ◌+◌, ◌<◌, Bool, List, [], ◌∷◌, ◌++◌, length, get_or, refl, ap, sym, ◌∙◌, subst, true, false, true≢false, one-add, inl, inr, cond}
-use Rattle.std.proofs.lemmas.Bool.{cases_Bool, eqb-true}
-use Rattle.std.proofs.lemmas.List.Elements.{All-cons, All-head, All-tail, recursion_from_All}
-use Rattle.std.specs.List.{AllByRecursion, list_any}
-use Rattle.std.specs.Prelude.{All, IsTrue, if◌then◌else◌, is_some, not, ◌&&◌, ◌==◌, ◌||◌}
-use Rattle.kc_language.specs.Expressions.{Atom, Chain, Close, Form, Leaf, LoneM, MoreForms, Negation, OperandToken, Part, QuotedAtom, Single, Symbol, Terminal, Text, WordAtom, bang, compare, conjunction, forms, group, if_word, joined, leaf, lone, meaning, meaning_not, meaning_part, negation, number_of, only, parts, same_name, spell, spell_not, spell_part, symbol, tri_text, tristate_constant}
-use Rattle.kc_language.specs.Explanations.{AreReadable, IsNumberedToken, IsOperand, IsReadable, MeaningsAreReadable, has_two}
-use Rattle.kc_language.specs.Symbols.{name_by}
-use Rattle.kc_language.specs.Text.{unescape}
-use Rattle.kc_language.specs.Tokens.{is_word_byte}
-use Rattle.kc_language.specs.declared.expressions.Connective.{Connective}
-use Rattle.kc_language.specs.declared.expressions.Connective.TheVariants.{And, Or}
-use Rattle.kc_language.specs.declared.expressions.Tri.TheVariants.{M}
+use Rattle.std.proofs.{Common.{Bool, List, [], ap, cond, false, get_or, inl, inr, length, one-add, refl, subst, sym, true, true≢false, ℕ, ◌++◌, ◌+◌, ◌<◌, ◌∙◌, ◌∷◌, ◌≡◌, ◌≢◌}, lemmas.{Bool.{cases_Bool, eqb-true}, List.Elements.{All-cons, All-head, All-tail, recursion_from_All}}}
+use Rattle.std.specs.{List.{AllByRecursion, list_any}, Prelude.{All, IsTrue, if◌then◌else◌, is_some, not, ◌&&◌, ◌==◌, ◌||◌}}
+use Rattle.kc_language.specs.{ExpressionTexts.{AreReadable, IsNumberedToken, IsOperand, IsReadable, MeaningsAreReadable, has_two}, Expressions.{Atom, Chain, Close, Form, Leaf, LoneM, MoreForms, Negation, OperandToken, Part, QuotedAtom, Single, Symbol, Terminal, Text, WordAtom, bang, compare, conjunction, forms, group, if_word, joined, leaf, lone, meaning, meaning_not, meaning_part, negation, number_of, only, parts, same_name, spell, spell_not, spell_part, symbol, tri_text, tristate_constant}, Symbols.name_by, Text.unescape, Tokens.is_word_byte, declared.expressions.{Connective.{Connective, TheVariants.{And, Or}}, Tri.TheVariants.M}}
 
 both : (b c : Bool) → (b && c) ≡ true → (b ≡ true) × (c ≡ true)
 both true c e = (refl, e)

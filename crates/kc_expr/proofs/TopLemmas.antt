@@ -1,16 +1,8 @@
 -- What a whole expression's reading says of the longest front.
-use Rattle.std.proofs.Common.{◌≡◌, ℕ, ◌+◌, ◌≤◌, Bool, true, false, List, [], ◌∷◌, ◌++◌, Some, None, option_and_then, Result, Ok, Err, IfErr, inr, refl, sym, ap, ◌∙◌, subst, append-nil, arith}
-use Rattle.kc_expr.specs.declared.parse.ExprFault.{ExprFault}
-use Rattle.kc_expr.specs.declared.parse.ExprFault.TheVariants.{Syntax, TooDeep, Memory}
-use Rattle.kc_language.specs.Expressions.{Form, Terminal, Disjunction, spell, levels, LongestFront, IsNoExpression, IsTooDeep}
-use Rattle.kc_expr.specs.PartsOfExpressions.{NoLonger}
-use Rattle.kc_expr.specs.PartsOfExpressions.{spell_or, levels_or}
-use Rattle.kc_language.specs.declared.expressions.Connective.TheVariants.{Or}
-use Rattle.kc_expr.specs.Scan.{State, want, run, lone_in, after}
-use Rattle.kc_expr.specs.Parsing.{IsParsed, IsRefused}
-use Rattle.kc_expr.specs.Reading.{IsUnfinished, Refuses, Fresh_start, StopsChain, Broken, Deep, ParsedChain, FailsChain}
-use Rattle.kc_expr.proofs.ScanLemmas.{run-append, reads}
-use Rattle.kc_expr.proofs.ReadingLemmas.{refuses_after}
+use Rattle.std.proofs.Common.{Bool, Err, IfErr, List, None, Ok, Result, Some, [], ap, append-nil, arith, false, inr, option_and_then, refl, subst, sym, true, ℕ, ◌++◌, ◌+◌, ◌∙◌, ◌∷◌, ◌≡◌, ◌≤◌}
+use Rattle.kc_expr.specs.{Parsing.{IsParsed, IsRefused}, PartsOfExpressions.{NoLonger, levels_or, spell_or}, Reading.{Broken, Deep, FailsChain, Fresh_start, IsUnfinished, ParsedChain, Refuses, StopsChain}, Scan.{State, after, lone_in, run, want}, declared.parse.ExprFault.{ExprFault, TheVariants.{Memory, Syntax, TooDeep}}}
+use Rattle.kc_language.specs.{Expressions.{Disjunction, Form, IsNoExpression, IsTooDeep, LongestFront, Terminal, levels, spell}, declared.expressions.Connective.TheVariants.Or}
+use Rattle.kc_expr.proofs.{ReadingLemmas.refuses_after, ScanLemmas.{reads, run-append}}
 
 abbrev start : State
 start = want 0 0 []

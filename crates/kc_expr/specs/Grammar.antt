@@ -5,13 +5,12 @@
 --     not  = "!" not | "(" or ")" | rel
 --     rel  = operand [ ( "=" | "!=" | "<" | ">" | "<=" | ">=" ) operand ]
 --     operand = a word other than if | a quoted text
-use Rattle.std.specs.Prelude.{◌≡◌, ℕ, List, map, drop}
-use Rattle.kc_language.specs.Expressions.{Terminal, terminal_of, Disjunction, LongestFront}
+use Rattle.std.specs.Prelude.{List, drop, map, ℕ, ◌≡◌}
+use Rattle.kc_language.specs.Expressions.{Disjunction, LongestFront, Terminal, terminal_of}
 use Rattle.kc_expr.specs.PartsOfExpressions.{spell_or}
-use Rattle.kc_text.specs.Lexemes.{lexeme}
-use Rattle.kc_text.specs.declared.tokens.Token.{Token}
+use Rattle.kc_text.specs.{Lexemes.lexeme, declared.tokens.Token.Token}
 
--- the tokens from a place on, as the grammar has them
+-- the tokens from a position on, as the grammar sees them
 abbrev pub terminals_from : List Token → ℕ → List Terminal
 terminals_from tokens at = map (λ t. terminal_of (lexeme t)) (drop at tokens)
 
@@ -19,7 +18,7 @@ terminals_from tokens at = map (λ t. terminal_of (lexeme t)) (drop at tokens)
 abbrev pub IsUnambiguous : Type 0
 IsUnambiguous = (d e : Disjunction) → spell_or d ≡ spell_or e → d ≡ e
 
--- at most one front is the longest that begins some expression
+-- at most one prefix is the longest that begins some expression
 abbrev pub HasOneLongestFront : Type 0
 HasOneLongestFront =
     (ts front rest front' rest' : List Terminal) → LongestFront ts front rest → LongestFront ts front' rest' → (front ≡ front') × (rest ≡ rest')

@@ -1,15 +1,6 @@
--- Trusted: Parts of the definitions of Expressions, by names of their own.
-use Rattle.std.specs.List.{flat_map}
-use Rattle.std.specs.Prelude.{Bool, List, None, Option, Some, [], false, if◌then◌else◌, is_some, map, true, unwrap_or, ℕ, ◌&&◌, ◌++◌, ◌∷◌}
-use Rattle.kc_language.specs.Expressions.{Bang, Begins, Close, Compares, Disjunction, Every, Form, Forms, Joins, Keyword, Leaf, LoneM, Open, OperandToken, Single, Some_of, Symbol, SymbolValue, Terminal, Text, TextValue, Truth, lesser, levels, meaning, names_in_atom, same_name, spell, terminal_of, tri_text, tristate_constant, truth_of_value}
-use Rattle.kc_language.specs.Tokens.{Lexeme}
-use Rattle.kc_language.specs.declared.expressions.Connective.{Connective}
-use Rattle.kc_language.specs.declared.expressions.Connective.TheVariants.{And, Or}
-use Rattle.kc_language.specs.declared.expressions.SymId.{SymId}
-use Rattle.kc_language.specs.declared.expressions.SymbolType.TheVariants.{Str}
-use Rattle.kc_language.specs.declared.expressions.Tri.{Tri}
-use Rattle.kc_language.specs.declared.expressions.Tri.TheVariants.{M, N}
-use Rattle.kc_language.specs.declared.tokens.Op.{Op}
+-- Trusted: Parts of the definitions of Expressions, with names of their own.
+use Rattle.std.specs.{List.flat_map, Prelude.{Bool, List, None, Option, Some, [], false, if◌then◌else◌, is_some, map, true, unwrap_or, ℕ, ◌&&◌, ◌++◌, ◌∷◌}}
+use Rattle.kc_language.specs.{Expressions.{Bang, Begins, Close, Compares, Disjunction, Every, Form, Forms, Joins, Keyword, Leaf, LoneM, Open, OperandToken, Single, Some_of, Symbol, SymbolValue, Terminal, Text, TextValue, Truth, lesser, levels, meaning, names_in_atom, same_name, spell, terminal_of, tri_text, tristate_constant, truth_of_value}, Tokens.Lexeme, declared.{expressions.{Connective.{Connective, TheVariants.{And, Or}}, SymId.SymId, SymbolType.TheVariants.Str, Tri.{TheVariants.{M, N}, Tri}}, tokens.Op.Op}}
 use Rattle.kc_language.specs.declared.tokens.Op.TheVariants as op
 
 -- the text is n, m or y
@@ -29,7 +20,7 @@ module _ (known : SymId → SymbolValue) where
   abbrev pub truth : Leaf → Tri
   truth l = elim l [ Text bytes ↦ unwrap_or (tristate_constant bytes) N | Symbol s ↦ truth_of_value (known s) ]
 
-  -- a lone m of a condition: n where no modules symbol is defined
+  -- a lone m of a condition: n if no modules symbol is defined
   abbrev pub lone_m : Option SymId → Tri
   lone_m None = N
   lone_m (Some s) = lesser M (truth_of_value (known s))
@@ -63,7 +54,7 @@ abbrev pub is_m_leaf : Leaf → Bool
 is_m_leaf (Symbol s) = false
 is_m_leaf (Text t) = same_name t m_word
 
--- A lone operand. In a condition, m (quoted or not) is a lone `m`, which also asks for the modules symbol.
+-- A lone operand. In a condition, m (quoted or not) is a lone `m`, which also depends on the modules symbol.
 abbrev pub lone_form : Bool → Leaf → Form
 lone_form condition l = if condition && elim l [ Text bytes ↦ same_name bytes (tri_text M) | Symbol _ ↦ false ] then LoneM else Single l
 
@@ -88,7 +79,7 @@ names_in_terminal Keyword = []
 abbrev pub names_in_terminals : List Terminal → List (List ℕ)
 names_in_terminals = flat_map names_in_terminal
 
--- no token of the rest can be added to the front
+-- the prefix cannot be extended by the next token
 abbrev pub NoLonger : List Terminal → List Terminal → Type 0
 NoLonger front [] = Unit {0}
 NoLonger front (t ∷ _) = Begins (front ++ t ∷ []) → ⊥

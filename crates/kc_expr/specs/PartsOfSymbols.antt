@@ -1,13 +1,11 @@
--- Trusted: Parts of the definitions of Symbols, by names of their own.
-use Rattle.std.specs.List.{list_any}
-use Rattle.std.specs.Prelude.{Bool, List, [], if◌then◌else◌, ◌++◌, ◌∷◌}
-use Rattle.kc_language.specs.Expressions.{same_symbol}
-use Rattle.kc_language.specs.declared.expressions.SymId.{SymId}
+-- Trusted: Parts of the definitions of Symbols, with names of their own.
+use Rattle.std.specs.{List.list_any, Prelude.{Bool, List, [], if◌then◌else◌, ◌++◌, ◌∷◌}}
+use Rattle.kc_language.specs.{Expressions.same_symbol, declared.expressions.SymId.SymId}
 
--- the symbol stands in the order
+-- the symbol is in the list
 abbrev pub stands_in : List SymId → SymId → Bool
 stands_in ids id = list_any (same_symbol id) ids
 
--- the order once this symbol is added
+-- the list after this symbol is added
 abbrev pub added : List SymId → SymId → List SymId
 added ids id = if stands_in ids id then ids else ids ++ id ∷ []

@@ -1,23 +1,11 @@
--- For proofs: What the parser's functions give: each one's part of an expression, or where it breaks off.
-use Rattle.std.specs.Prelude.{◌≡◌, ℕ, ◌+◌, ◌≤◌, ◌<◌, length, Bool, true, false, List, [], ◌∷◌, ◌++◌, Option, Some, None, MatchBool}
-use Rattle.kc_expr.specs.declared.parse.ExprFault.{ExprFault}
-use Rattle.kc_expr.specs.declared.parse.ExprFault.TheVariants.{Syntax, TooDeep, Memory}
-use Rattle.kc_language.specs.declared.tokens.Op.{Op}
+-- For proofs: The results of the parser's functions: each one's part of an expression, or where it fails.
+use Rattle.std.specs.Prelude.{Bool, List, MatchBool, None, Option, Some, [], false, length, true, ℕ, ◌++◌, ◌+◌, ◌<◌, ◌∷◌, ◌≡◌, ◌≤◌}
+use Rattle.kc_expr.specs.{Form.leaf_of, Grammar.terminals_from, Names.Extends, Parsing.HasOperand, PartsOfExpressions.{names_in_terminals, op_terminal}, Scan.{State, done, lone_in, lone_not, lone_part, right, run, single, step, want}, declared.{expression.Operand.Operand, parse.ExprFault.{ExprFault, TheVariants.{Memory, Syntax, TooDeep}}}}
+use Rattle.kc_language.specs.{Expressions.{Atom, Bang, Chain, Close, Compares, Form, Joins, Keyword, Leaf, Negation, Open, OperandToken, Part, Terminal, all_mentioned, leaf, levels, levels_not, levels_part, meaning, meaning_not, meaning_part, names_in_atom, number_of, spell, spell_not, spell_part, terminal_of}, declared.{expressions.Connective.{Connective, TheVariants.{And, Or}}, tokens.Op.Op}}
 use Rattle.kc_language.specs.declared.tokens.Op.TheVariants as op
-use Rattle.kc_expr.specs.declared.expression.Operand.{Operand}
-use Rattle.kc_text.specs.declared.tokens.Token.{Token}
-use Rattle.kc_text.specs.Lexemes.{lexeme}
-use Rattle.kc_language.specs.Expressions.{Form, Leaf, number_of, all_mentioned, Terminal, OperandToken, Compares, Bang, Joins, Open, Close, Keyword, Chain, Part, Negation, spell, spell_part, spell_not, levels, levels_part, levels_not, meaning, meaning_part, meaning_not, terminal_of, Atom, leaf, names_in_atom}
-use Rattle.kc_expr.specs.PartsOfExpressions.{op_terminal, names_in_terminals}
-use Rattle.kc_expr.specs.Form.{leaf_of}
-use Rattle.kc_expr.specs.Names.{Extends}
-use Rattle.kc_language.specs.declared.expressions.Connective.{Connective}
-use Rattle.kc_language.specs.declared.expressions.Connective.TheVariants.{And, Or}
-use Rattle.kc_expr.specs.Grammar.{terminals_from}
-use Rattle.kc_expr.specs.Parsing.{HasOperand}
-use Rattle.kc_expr.specs.Scan.{State, want, single, right, done, step, run, lone_in, lone_part, lone_not}
+use Rattle.kc_text.specs.{Lexemes.lexeme, declared.tokens.Token.Token}
 
--- what the next token is, if there is one
+-- the kind of the next token, if there is one
 abbrev pub starts_compares : List Terminal → Bool
 starts_compares [] = false
 starts_compares (Compares o ∷ ts) = true
@@ -47,7 +35,7 @@ starts_close [] = false
 starts_close (Close ∷ ts) = true
 starts_close (_ ∷ ts) = false
 
--- the machine can't end here
+-- the machine cannot end in this state
 abbrev pub IsUnfinished : State → Type 0
 IsUnfinished (want cur base stack) = Unit {0}
 IsUnfinished (right base stack) = Unit {0}
@@ -56,7 +44,7 @@ IsUnfinished (single base (b ∷ stack)) = Unit {0}
 IsUnfinished (done base []) = ⊥
 IsUnfinished (done base (b ∷ stack)) = Unit {0}
 
--- nor go on
+-- the machine cannot read the next token in this state
 abbrev pub Refuses : ℕ → State → List Terminal → Type 0
 Refuses limit s [] = Unit {0}
 Refuses limit s (t ∷ ts) = step limit s t ≡ None
@@ -68,7 +56,7 @@ abbrev pub Fresh_start : ℕ → ℕ → Type 0
 Fresh_start cur base = cur ≡ base
 
 module _ {T : Type 0} (spell : T → List Terminal) (levels : T → ℕ) where
-  -- the tokens stop making sense, or end, before the part is whole
+  -- the tokens end before the part is complete, or the next token does not fit
   pub record Broken (Starts : ℕ → ℕ → Type 0) (k : ℕ) (ts : List Terminal) : Type 0 where
     pub front : List Terminal
     pub rest : List Terminal
@@ -80,7 +68,7 @@ module _ {T : Type 0} (spell : T → List Terminal) (levels : T → ℕ) where
     pub cannot_go_on : (limit cur base : ℕ) (stack : List ℕ) → Starts cur base → cur + k ≤ limit →
         (s : State) × (run limit (want cur base stack) front ≡ Some s) × IsUnfinished s × Refuses limit s rest
 
-  -- one level too many is opened
+  -- a level more than allowed is opened
   pub record Deep (Starts : ℕ → ℕ → Type 0) (k : ℕ) (ts : List Terminal) : Type 0 where
     pub front : List Terminal
     pub rest : List Terminal
@@ -90,7 +78,7 @@ module _ {T : Type 0} (spell : T → List Terminal) (levels : T → ℕ) where
     pub begins : spell tree ≡ front ++ rest_of_tree
     pub deep : (cur base : ℕ) (stack : List ℕ) → Starts cur base → run (cur + k) (want cur base stack) front ≡ None
 
-  -- the part is whole, and no longer one begins here
+  -- the part is complete, and no longer part begins here
   pub record Parsed (meaning : (List ℕ → ℕ) → T → Form) (StopsIt : T → List Terminal → Type 0) (k : ℕ) (ts rest : List Terminal) (old names : List (List ℕ)) (f : Form) : Type 0 where
     pub tree : T
     pub whole : ts ≡ spell tree ++ rest
@@ -102,7 +90,7 @@ module _ {T : Type 0} (spell : T → List Terminal) (levels : T → ℕ) where
 abbrev pub StopsNot : Negation → List Terminal → Type 0
 StopsNot n rest = lone_not n ≡ true → starts_compares rest ≡ false
 
--- no connective follows that a part would itself go on with
+-- the next token is no connective that the part itself would continue with
 abbrev pub NoneWithin : Connective → List Terminal → Type 0
 NoneWithin And rest = Unit {0}
 NoneWithin Or rest = starts_joins And rest ≡ false
@@ -122,12 +110,12 @@ ParsedPart c condition = Parsed {T = Part c} spell_part levels_part (λ number p
 abbrev pub ParsedChain : Connective → Bool → ℕ → List Terminal → List Terminal → List (List ℕ) → List (List ℕ) → Form → Type 0
 ParsedChain c condition = Parsed {T = Chain c} spell levels (λ number ps. meaning condition number ps) (StopsChain c)
 
--- where a part may start: the first negation of a chain also after `!`
+-- where a part may start: the first negation of a chain may also follow a `!`
 abbrev pub PartStart : Connective → ℕ → ℕ → Type 0
 PartStart And = Any_start
 PartStart Or = Fresh_start
 
--- what each fault says
+-- the meaning of each error
 abbrev pub FailsNot : ExprFault → ℕ → List Terminal → Type 0
 FailsNot Syntax k ts = Broken spell_not levels_not Any_start k ts
 FailsNot TooDeep k ts = Deep spell_not levels_not Any_start k ts
@@ -148,7 +136,7 @@ abbrev pub IsNext : Option Token → List Token → ℕ → Type 0
 IsNext None tokens at = terminals_from tokens at ≡ []
 IsNext (Some t) tokens at = (at < length tokens) × (terminals_from tokens at ≡ terminal_of (lexeme t) ∷ terminals_from tokens (at + 1))
 
--- an operand that was read
+-- the next token is an operand; the operand that was read
 abbrev pub starts_operand : List Terminal → Bool
 starts_operand [] = false
 starts_operand (OperandToken a ∷ ts) = true
@@ -174,7 +162,7 @@ IsMemory Syntax = ⊥
 IsMemory TooDeep = ⊥
 IsMemory Memory = Unit {0}
 
--- memory was wanting for an operand that stands there
+-- memory ran out for an operand that is the next token
 abbrev pub IsMemoryAt : List Terminal → ExprFault → Type 0
 IsMemoryAt ts Syntax = ⊥
 IsMemoryAt ts TooDeep = ⊥
@@ -190,7 +178,7 @@ starts_open [] = false
 starts_open (Open ∷ ts) = true
 starts_open (_ ∷ ts) = false
 
--- whether an operator comes that opens, joins or closes
+-- whether the next token is this operator: one that opens, joins or closes
 abbrev pub starts_op : Op → List Terminal → Bool
 starts_op op.Not ts = starts_bang ts
 starts_op op.LParen ts = starts_open ts
@@ -199,7 +187,7 @@ starts_op op.Or ts = starts_joins Or ts
 starts_op op.RParen ts = starts_close ts
 starts_op _ ts = false
 
--- whether the connective stands at a place
+-- whether the connective is at a position
 abbrev pub IsJoined : Connective → List Token → ℕ → Bool → Type 0
 IsJoined c tokens at b =
     MatchBool b ((at < length tokens) × (terminals_from tokens at ≡ Joins c ∷ terminals_from tokens (at + 1))) (starts_joins c (terminals_from tokens at) ≡ false)
@@ -208,15 +196,15 @@ abbrev pub IsOp : Op → List Token → ℕ → Bool → Type 0
 IsOp o tokens at b =
     MatchBool b ((at < length tokens) × (terminals_from tokens at ≡ op_terminal o ∷ terminals_from tokens (at + 1))) (starts_op o (terminals_from tokens at) ≡ false)
 
--- neither ! nor ( comes
+-- the next token is neither `!` nor `(`
 abbrev pub StartsNoOperand : List Terminal → Type 0
 StartsNoOperand ts = (starts_bang ts ≡ false) × (starts_open ts ≡ false)
 
--- no operator comes that an operand goes on with
+-- the next token is no operator that could follow an operand
 abbrev pub StartsNoOp : List Terminal → Type 0
 StartsNoOp ts = (starts_compares ts ≡ false) × (starts_joins And ts ≡ false) × (starts_joins Or ts ≡ false)
 
--- whether an operand would stand alone at a place
+-- whether the operand at a position is alone; if false, nothing is claimed
 abbrev pub IsLone : List Token → ℕ → Bool → Type 0
 IsLone tokens at true = StartsNoOperand (terminals_from tokens at) × StartsNoOp (terminals_from tokens (at + 1))
 IsLone tokens at false = Unit {0}

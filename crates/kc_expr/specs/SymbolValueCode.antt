@@ -1,12 +1,11 @@
--- For proofs: How the logic stores the value of a symbol, by which a model may have it in its own value.
-use Rattle.std.specs.Prelude.{◌≡◌}
+-- For proofs: How the logic encodes the value of a symbol, so that a model's value may hold it.
+use Rattle.std.specs.{Coded.Coded, Prelude.◌≡◌}
 use Rattle.std.proofs.Common.{ap}
-use Rattle.std.specs.Coded.{Coded}
 use base.Stored.{Gv, gnum, gcons}
 use Rattle.kc_language.specs.contracts.expressions.Tri as tri
 use Rattle.kc_language.specs.contracts.expressions.SymbolType as symbol_type
-use Rattle.kc_expr.specs.FormCode.{head, tail, bytes_code}
-use Rattle.kc_language.specs.Expressions.{SymbolValue, Truth, TextValue}
+use Rattle.kc_expr.specs.FormCode.{bytes_code, head, tail}
+use Rattle.kc_language.specs.Expressions.{SymbolValue, TextValue, Truth}
 
 abbrev pub store : SymbolValue → Gv
 store (Truth t) = gcons (gnum 0) (tri.the_row.coded.code t)

@@ -1,4 +1,4 @@
-//! Symbols in an order of their own.
+//! Symbols in the order in which they were added.
 
 ghost use Rattle.std.specs.Prelude.{◌≡◌, ◌<◌, ◌∷◌, ◌++◌, ℕ, [], false, length, OnOk, OnErr};
 ghost use Rattle.kc_expr.specs.PartsOfSymbols.{added, stands_in};
@@ -8,11 +8,11 @@ use crate::expression::SymId;
 use std::alloc::{AllocError, Global};
 use std::marker::Model;
 
-/// Symbols in the order in which they were added, each once. A contract sees them as the list of the symbols.
+/// Symbols in the order in which they were added, each once. Contracts see the list of the symbols.
 #[derive(Drop)]
 pub struct DistinctSymbols {
     symbols: Vec<SymId>,
-    // Whether the symbol of each number stands in the order.
+    // For each number, whether the symbol is in the list.
     marks: Vec<bool>,
 }
 
@@ -29,7 +29,7 @@ impl Model for DistinctSymbols {
     ghost invariant = { λ o. (i : ℕ) → is_marked o.marks.items i ≡ list_any (λ s. i == s.0) o.symbols.items };
 }
 
-// Whether there is a mark at a place of the list, past whose end there is none.
+// The mark at an index of the list. Past the end of the list there is no mark.
 fn is_marked(marks: &[bool], i: usize) -> bool
     ensures { result ≡ is_marked marks.now i }
 {
@@ -39,7 +39,7 @@ fn is_marked(marks: &[bool], i: usize) -> bool
     }
 }
 
-// The list reaches as far as this place, and says the same as before.
+// Extends the list so that it has this index. The marks do not change.
 fn reach(marks: &mut Vec<bool>, i: usize) -> Result<(), AllocError>
     ensures reached { OnOk result (i < length marks.new.items) }
     ensures same { (k : ℕ) → is_marked marks.new.items k ≡ is_marked marks.old.items k }
@@ -51,7 +51,7 @@ fn reach(marks: &mut Vec<bool>, i: usize) -> Result<(), AllocError>
 }
 
 impl DistinctSymbols {
-    /// No symbols.
+    /// Returns a list without symbols.
     pub fn new(alloc: Global) -> Self
         ensures { result ≡ [] }
     {
@@ -61,21 +61,21 @@ impl DistinctSymbols {
         }
     }
 
-    /// How many symbols there are. Takes no memory.
+    /// The number of symbols. It allocates nothing.
     pub fn count(&self) -> usize
         ensures { result ≡ length self.now }
     {
         self.symbols.len()
     }
 
-    /// The symbols themselves, in their order. Takes no memory.
+    /// Returns the symbols in their order. It allocates nothing.
     pub fn into_symbols(self) -> Vec<SymId>
         ensures { result.items ≡ self }
     {
         self.symbols
     }
 
-    // The symbol, which does not stand in the order, is added to it.
+    // Appends a symbol that is not in the list.
     fn append(&mut self, id: SymId) -> Result<(), AllocError>
         requires { stands_in self.old id ≡ false }
         ensures order { OnOk result (self.new ≡ self.old ++ id ∷ []) }
@@ -87,8 +87,8 @@ impl DistinctSymbols {
         Ok(())
     }
 
-    /// Adds the symbol, unless it stands in the order. The only error is to be out of memory, after which the order is as
-    /// it was.
+    /// Appends the symbol, unless it is in the list. The only error is that memory runs out. Then the list is
+    /// unchanged.
     pub fn add(&mut self, id: SymId) -> Result<(), AllocError>
         ensures order { OnOk result (self.new ≡ added self.old id) }
         ensures err { OnErr result (self.new ≡ self.old) }

@@ -2,23 +2,23 @@
 
 use std::hash::{BuildHasher, FoldHasher, Hasher};
 
-/// The key by which tables hash names (our own). Whoever does not know it cannot choose names that collide.
+/// The key with which tables hash names (our own). Names that collide cannot be chosen without knowing the key.
 ///
-/// A key changes how long a lookup takes, and no answer.
+/// A key changes how long a lookup takes, but no result.
 #[derive(Clone, Copy)]
 pub struct HashKey {
     initial: FoldHasher,
 }
 
 impl HashKey {
-    /// Returns the key that everybody knows. It is for names that nobody chose to collide.
+    /// Returns a fixed key. Use it for names that nobody chose to collide.
     pub fn known() -> HashKey {
         HashKey {
             initial: FoldHasher::default(),
         }
     }
 
-    /// Returns the key that comes from a secret: 16 random bytes suffice.
+    /// Returns a key made from a secret. 16 random bytes suffice.
     pub fn of_secret(secret: &[u8]) -> HashKey {
         let mut initial = FoldHasher::default();
         initial.write(secret);
@@ -26,7 +26,7 @@ impl HashKey {
     }
 }
 
-// Each hasher begins in the state in which the key left the first one.
+// Each hasher starts in the state that the first hasher had after it read the key.
 impl BuildHasher for HashKey {
     type Hasher = FoldHasher;
 

@@ -11,15 +11,15 @@ use smallvec::SmallVec;
 use std::alloc::{AllocError, Global};
 use std::hash::{Hash, Hasher};
 
-/// The bytes of a name. Up to 24, which nearly every name is short of, stand in the value itself: to compare them follows
-/// no pointer, and they take no memory of their own.
+/// The bytes of a name. Up to 24 bytes are stored in the value itself, which is enough for nearly every name: comparing
+/// them follows no pointer, and they need no allocation.
 #[derive(PartialEq, Eq, Drop)]
 pub(crate) struct Name {
     pub(crate) bytes: SmallVec<u8, 24>,
 }
 
 impl Name {
-    /// A name of these bytes. Its only error is to be out of memory.
+    /// Returns the name with these bytes. The only error is that memory runs out.
     pub(crate) fn of(alloc: Global, bytes: &[u8]) -> Result<Name, AllocError>
         ensures { IfOk result (λ n. n.bytes.items ≡ bytes.now) }
     {
@@ -28,7 +28,7 @@ impl Name {
         })
     }
 
-    /// Its bytes.
+    /// The bytes.
     pub(crate) fn as_slice(&self) -> &[u8]
         ensures { result.now ≡ self.now.bytes.items }
     {
@@ -36,7 +36,7 @@ impl Name {
     }
 }
 
-// A name is hashed as one piece: a hasher that is given one byte at a time does for each what it needs for eight.
+// A name is hashed as one piece: for one byte at a time a hasher does as much work as for eight.
 impl Hash for Name {
     ghost hash_input = { λ n. n.bytes.items ∷ [] };
 
@@ -47,7 +47,7 @@ impl Hash for Name {
     }
 }
 
-/// Bytes that are looked up as the name that they spell.
+/// The bytes of a name that is looked up.
 #[derive(Clone, Copy, PartialEq, Eq)]
 pub(crate) struct Spelled<'a> {
     pub(crate) bytes: &'a [u8],
@@ -63,7 +63,7 @@ impl<'a> Hash for Spelled<'a> {
     }
 }
 
-// Bytes stand for the name that they are.
+// Bytes are equivalent to the name that has them.
 impl<'a> Equivalent<Name> for Spelled<'a> {
     ghost equivalent = { λ q k. same_name q.bytes.now k.bytes.items };
 

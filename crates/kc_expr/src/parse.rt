@@ -23,16 +23,16 @@ use std::alloc::{AllocError, AllocFailed, Global};
 use std::rc::Rc;
 use thiserror::Error;
 
-/// Why there is no expression.
+/// Why the tokens are no expression.
 #[derive(Clone, Copy, Debug, PartialEq, Eq, Error)]
 pub enum ExprFault {
-    /// The longest front of the tokens that begins some expression is none itself (E8).
+    /// The longest prefix of the tokens that begins some expression is not one itself (E8).
     #[error("syntax")]
     Syntax,
-    /// One `(` or `!` more is open at once than 64 (E12).
+    /// More than 64 `(` and `!` are open at once (E12).
     #[error("too deep")]
     TooDeep,
-    /// No memory was to be had (E20).
+    /// Memory ran out (E20).
     #[error("out of memory")]
     Memory,
 }
@@ -56,8 +56,8 @@ impl<T: Drop> From<AllocFailed<T>> for ExprFault {
 // How many `(` and `!` may be open at once.
 const MOST_LEVELS: usize = 64;
 
-/// The expression of the longest front of the tokens from `at` on that begins some expression, and the place of the
-/// first token that is not used:
+/// Parses the longest prefix of the tokens from `at` on that begins some expression. Returns that expression and the
+/// position of the first token after it:
 ///
 /// ```text
 /// or      = and { "||" and }
@@ -67,12 +67,12 @@ const MOST_LEVELS: usize = 64;
 /// ```
 ///
 /// Two parts or more are one `All` or `Any`, a single part is itself, and parentheses add nothing. In a condition,
-/// an operand `m`, quoted or not, that is no side of a relation is [`Expr::Module`].
+/// an operand `m`, quoted or not, that is not a side of a relation is [`Expr::Module`].
 ///
-/// [`ExprFault::TooDeep`] where a 65th `(` or `!` is opened at once; else [`ExprFault::Syntax`] where that front is no
-/// expression itself; [`ExprFault::Memory`] when out of memory, which no tokens without an operand answer. On `Ok` the
-/// names are the old ones and then each new one of the front at its first mention. After an `Err` they are the old ones,
-/// after which further ones may have been added.
+/// [`ExprFault::TooDeep`]: a 65th `(` or `!` is opened at once. Otherwise [`ExprFault::Syntax`]: that prefix is not an
+/// expression itself. [`ExprFault::Memory`]: memory ran out, which needs an operand. On `Ok` the new names of the
+/// prefix follow the old names, in the order of their first mention. After an `Err` some new names may have been
+/// added to the old ones.
 pub fn parse(
     alloc: Global,
     tokens: &[Token],
@@ -100,29 +100,29 @@ pub fn parse(
     )
 }
 
-/// A law: the grammar derives no tokens in two ways.
+/// A law: no two derivations of the grammar have the same tokens.
 pub fn grammar_is_unambiguous()
     ensures { IsUnambiguous }
 {}
 
-/// A law: no tokens have two longest fronts that begin some expression.
+/// A law: tokens have at most one longest prefix that begins some expression.
 pub fn longest_front_is_unique()
     ensures { HasOneLongestFront }
 {}
 
-/// A law: the tokens decide what [`parse`] answers, which is at most one expression with its place and names, or one of
-/// the two refusals.
+/// A law: the tokens determine the result of [`parse`]: at most one expression with its end and names, or one of the
+/// two errors.
 pub fn parsing_is_determined()
     ensures { (ts : List Terminal) → IsDetermined ts }
 {}
 
-/// A law: the grammar has one answer to tokens, and no other. The longest front that begins some expression is one of at
-/// most 64 levels, or it is none, or a 65th level is opened.
+/// A law: the grammar has exactly one result for tokens. The longest prefix that begins some expression is an expression of at
+/// most 64 levels, or it is not an expression, or a 65th level is opened.
 pub fn one_answer()
     ensures { OneAnswer }
 {}
 
-/// Whether a word or a quoted text stands at a place, and no operator behind it.
+/// Whether there is a word or a quoted text at a position, and no operator after it.
 fn is_lone(tokens: &[Token], at: usize) -> bool
     ensures { IsLone tokens.now at result }
 {
@@ -132,14 +132,14 @@ fn is_lone(tokens: &[Token], at: usize) -> bool
     }
 }
 
-// Whether an operator or a parenthesis stands at a place.
+// Whether there is an operator or a parenthesis at a position.
 fn stands_op(tokens: &[Token], at: usize) -> bool
     ensures { result ≡ false → StartsNoOp (terminals_from tokens.now at) }
 {
     matches!(next(tokens, at), Some(Token::Op(_)))
 }
 
-// An operand that is a whole expression, which nearly every one is: read without the way down the grammar.
+// Reads an operand that is a whole expression, the most common case, without going down the grammar.
 fn lone(
     alloc: Global,
     tokens: &[Token],
@@ -226,7 +226,7 @@ fn part(
     }
 }
 
-// One part of a conjunction.
+// Reads one part of a conjunction.
 #[cycle(parse)]
 fn negation(
     alloc: Global,
@@ -280,7 +280,7 @@ fn negated(alloc: Global, inner: Expr) -> Result<Expr, AllocError>
     }
 }
 
-// An operand, perhaps with an operator and another.
+// Reads an operand, or a relation of two operands.
 #[inline(always)]
 fn relation(
     alloc: Global,
@@ -308,7 +308,7 @@ fn relation(
     Ok((Expr::Rel(op, operands), at + 3))
 }
 
-// An operand that is alone: a lone m of a condition is also asked of the modules symbol.
+// An operand that is alone. In a condition, m alone also depends on the modules symbol.
 fn lone_expression(operand: Operand, condition: bool) -> Expr
     ensures { form_of result ≡ lone_form condition (leaf_of operand) }
 {
@@ -330,7 +330,7 @@ fn is_m(operand: &Operand) -> bool
     }
 }
 
-// The operand at a place, if there is one.
+// Reads the operand at a position, if there is one.
 #[inline(always)]
 #[tactic(auto, using(crate::proofs::ConstantLemmas::constant_text))]
 fn operand(
@@ -362,7 +362,7 @@ fn operand(
     }
 }
 
-// The operator of a relation at a place, if there is one.
+// The operator of a relation at a position, if there is one.
 fn relation_op(tokens: &[Token], at: usize) -> Option<Op>
     ensures { ReadsRelation result tokens.now at }
 {
@@ -372,7 +372,7 @@ fn relation_op(tokens: &[Token], at: usize) -> Option<Op>
     }
 }
 
-// Whether the connective stands at a place.
+// Whether the connective is at a position.
 fn is_joined(tokens: &[Token], at: usize, connective: Connective) -> bool
     ensures { IsJoined connective tokens.now at result }
 {
@@ -382,7 +382,7 @@ fn is_joined(tokens: &[Token], at: usize, connective: Connective) -> bool
     }
 }
 
-// Two parts or more, joined.
+// The chain of two parts or more.
 #[tactic(auto, using(crate::proofs::FormLemmas::chain_forms))]
 fn connected(connective: Connective, parts: Box<Parts>) -> Expr
     ensures { form_of result ≡ named.connected connective (forms (map form_of (parts_of parts.value))) }
@@ -393,7 +393,7 @@ fn connected(connective: Connective, parts: Box<Parts>) -> Expr
     }
 }
 
-// Whether the operator or parenthesis stands at a place.
+// Whether this operator or parenthesis is at a position.
 fn is_op(tokens: &[Token], at: usize, op: Op) -> bool
     ensures { IsOp op tokens.now at result }
 {
@@ -403,7 +403,7 @@ fn is_op(tokens: &[Token], at: usize, op: Op) -> bool
     }
 }
 
-// What the token at a place is.
+// The token at a position, if there is one.
 fn next<'a>(tokens: &[Token<'a>], at: usize) -> Option<Token<'a>>
     ensures { IsNext result tokens.now at }
 {

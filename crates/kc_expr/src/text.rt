@@ -3,8 +3,8 @@
 ghost use Rattle.std.specs.Prelude.{◌≡◌, ◌++◌, [], OnOk, codes, if◌then◌else◌};
 ghost use Rattle.kc_language.specs.Symbols.{name_by};
 ghost use Rattle.kc_expr.specs.Form.{form_of, leaf_of};
-ghost use Rattle.kc_language.specs.Explanations.{MeaningsAreReadable, ReadsBack};
-ghost use Rattle.kc_language.specs.Explanations as spec;
+ghost use Rattle.kc_language.specs.ExpressionTexts.{MeaningsAreReadable, ReadsBack};
+ghost use Rattle.kc_language.specs.ExpressionTexts as spec;
 ghost use Rattle.kc_language.specs.Tokens.{relation_text};
 
 use crate::expression::{Expr, Operand, SymId};
@@ -14,15 +14,15 @@ use kc_language::expressions::Connective;
 use kc_text::{Op, escape_into};
 use std::alloc::AllocError;
 
-/// Adds the text of an expression: [`crate::parse::parse`] reads it as the same expression, and it has no parentheses that
-/// the grammar does not need. Its only error is to be out of memory, after which a part of the text may be there.
+/// Appends the text of an expression. [`crate::parse::parse`] reads it as the same expression, and it has only the
+/// parentheses that the grammar needs. The only error is that memory runs out. Then a part of the text may have been appended.
 pub fn add_expression(e: &Expr, names: &Names, text: &mut Vec<u8>) -> Result<(), AllocError>
     ensures { OnOk result (text.new.items ≡ text.old.items ++ spec.expression_text names.now (form_of e.now)) }
 {
     add_at(e, None, names, text)
 }
 
-// Adds the text of an expression that stands alone, is a part of a chain or (`And`) stands after a `!`.
+// Appends the text of an expression that is alone, a part of a chain or (`And`) after a `!`.
 fn add_at(
     e: &Expr,
     place: Option<Connective>,
@@ -74,14 +74,14 @@ fn add_at(
     }
 }
 
-// Whether a chain of `&&` needs parentheses at the place.
+// Whether a chain of `&&` needs parentheses in this position.
 fn is_and(place: Option<Connective>) -> bool
     ensures { result ≡ spec.is_and place }
 {
     matches!(place, Some(Connective::And))
 }
 
-// Adds a parenthesis, if it is needed.
+// Appends a parenthesis, if it is needed.
 fn add_if(needed: bool, parenthesis: &[u8], text: &mut Vec<u8>) -> Result<(), AllocError>
     ensures { OnOk result (text.new.items ≡ text.old.items ++ (if needed then parenthesis.now else [])) }
 {
@@ -92,8 +92,8 @@ fn add_if(needed: bool, parenthesis: &[u8], text: &mut Vec<u8>) -> Result<(), Al
     }
 }
 
-/// Adds an operand: a constant n, m or y as it is, another one in quotes, a symbol by its name. Its only error is to be out of
-/// memory, after which a part of the text may be there.
+/// Appends an operand: a constant n, m or y as it is, another constant in quotes, a symbol by its name. The only error is that
+/// memory runs out. Then a part of the text may have been appended.
 pub fn add_operand(o: &Operand, names: &Names, text: &mut Vec<u8>) -> Result<(), AllocError>
     ensures { OnOk result (text.new.items ≡ text.old.items ++ spec.operand_text names.now (leaf_of o.now)) }
 {
@@ -110,7 +110,7 @@ pub fn add_operand(o: &Operand, names: &Names, text: &mut Vec<u8>) -> Result<(),
     }
 }
 
-// Adds a text in quotes.
+// Appends a text in quotes.
 fn add_quoted(bytes: &[u8], text: &mut Vec<u8>) -> Result<(), AllocError>
     ensures { OnOk result (text.new.items ≡ text.old.items ++ spec.quoted bytes.now) }
 {
@@ -119,7 +119,7 @@ fn add_quoted(bytes: &[u8], text: &mut Vec<u8>) -> Result<(), AllocError>
     text.extend_from_slice(b"\"")
 }
 
-// Adds the name of a symbol, where it has one.
+// Appends the name of a symbol, if it has one.
 fn add_name(id: SymId, names: &Names, text: &mut Vec<u8>) -> Result<(), AllocError>
     ensures { OnOk result (text.new.items ≡ text.old.items ++ name_by names.now id) }
 {
@@ -129,7 +129,7 @@ fn add_name(id: SymId, names: &Names, text: &mut Vec<u8>) -> Result<(), AllocErr
     }
 }
 
-// Adds a relation and a space on each side.
+// Appends a relation with a space on each side.
 fn add_relation(op: Op, text: &mut Vec<u8>) -> Result<(), AllocError>
     ensures { OnOk result (text.new.items ≡ text.old.items ++ (codes " " ++ relation_text op ++ codes " ")) }
 {
@@ -144,12 +144,12 @@ fn add_relation(op: Op, text: &mut Vec<u8>) -> Result<(), AllocError>
     })
 }
 
-/// A law: the text of an expression is read back as the same expression.
+/// A law: parsing the text of an expression gives the same expression.
 pub fn text_is_read_back()
     ensures { ReadsBack }
 {}
 
-/// A law: the expression that the tokens of a line give can be read back, once its names have numbers.
+/// A law: the expressions of a line can be read back from their texts, once its names have numbers.
 pub fn meanings_are_readable()
     ensures { MeaningsAreReadable }
 {}

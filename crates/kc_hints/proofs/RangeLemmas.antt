@@ -5,12 +5,12 @@ use Rattle.kc_language.specs.Expansion.{defined_name, is_attribute}
 use Rattle.kc_language.specs.Statements.{Located, Numbered}
 use Rattle.kc_language.specs.Symbols.{is_symbol_of}
 use Rattle.kc_language.specs.declared.expressions.SymId.{SymId}
-use Rattle.kc_read.specs.Entries.{attribute_line, first_line, lines_from, lines_of, own_lines}
-use Rattle.kc_read.specs.StatementViews.{attribute_view, head_view}
-use Rattle.kc_read.specs.declared.entries.{AttributeLine.AttributeLine, Entries.Entries, Entry.Entry}
-use Rattle.kc_read.specs.declared.statement.{Attribute.{Attribute}, Head.{Head}}
-use Rattle.kc_read.specs.declared.statement.Attribute.TheVariants as attribute
-use Rattle.kc_read.specs.declared.statement.Head.TheVariants as head
+use Rattle.kc_entries.specs.Entries.{attribute_line, first_line, lines_from, lines_of, own_lines}
+use Rattle.kc_entries.specs.StatementViews.{attribute_view, head_view}
+use Rattle.kc_entries.specs.declared.entries.{AttributeLine.AttributeLine, Entries.Entries, Entry.Entry}
+use Rattle.kc_entries.specs.declared.statement.{Attribute.{Attribute}, Head.{Head}}
+use Rattle.kc_entries.specs.declared.statement.Attribute.TheVariants as attribute
+use Rattle.kc_entries.specs.declared.statement.Head.TheVariants as head
 use Rattle.kc_hints.specs.Facts.{is_range, line_place, range_lines, range_places}
 use Rattle.kc_hints.specs.RangeParts.{entry_places, place_if}
 

@@ -1,7 +1,7 @@
 -- Trusted: The facts at the start of hints (our own).
 use Rattle.std.specs.{Borrow.Bor, Char.is_ascii_digit, List.{ends_with, flat_map, slice_split, starts_with, suffix_len}, Str.Lines.strip_carriage_return, Prelude.{Bool, List, None, Option, Some, [], codes, decimal, drop, false, filter, find, if◌then◌else◌, length, map, min, nat_eq, nat_lt, option_and_then, option_map, position, slice_get, take, true, ℕ, ◌&&◌, ◌++◌, ◌+◌, ◌-◌, ◌*◌, ◌==◌, ◌^◌, ◌||◌, ◌∷◌}}
 use Rattle.kc_language.specs.{ConfigFile.{LineMeaning, Set, meaning_of, symbol_named, without_prefix, without_suffix}, Expansion.{defined_name, is_attribute}, Expressions.{same_name, symbol}, Statements.{Located, Numbered, RangeLine}, Symbols.{TreeFacts, is_symbol_of}, Text.{byte, longest_value}, Values.{facts, type_in}, declared.expressions.{SymId.SymId, SymbolType.{SymbolType, TheVariants.{Bool as IsBool, Hex, Int, Str, Tristate, Undefined}}}}
-use Rattle.kc_read.specs.Entries.{lines_in}
+use Rattle.kc_entries.specs.Entries.{lines_in}
 use Rattle.kc_display.specs.{Difference.lines, Hints.{first_code, shown_line}, declared.{code.Code.{Code, TheVariants.{UnknownSymbol, UnknownName, BadValue, OutsideRange, BadLine, BadToken, Syntax, Misplaced}}, display.Showing.Showing}}
 use Rattle.kc_hints.specs.Forms.{form_of}
 use Rattle.kc_hints.specs.Near.{mentioned_text, typed_text}

@@ -1,6 +1,7 @@
 -- Trusted: Names that are similar to a name that no symbol has (our own).
 use Rattle.std.specs.{List.{list_all, slice_split}, Prelude.{Bool, List, None, Option, Some, [], codes, count_by, false, if◌then◌else◌, length, not, suc, take, zero, ℕ, ◌&&◌, ◌++◌, ◌+◌, ◌==◌, ◌||◌, ◌∷◌}}
-use Rattle.kc_language.specs.{ConfigFile.without_prefix, Explanations.differs_by_one, Expressions.{same_name, symbol}, Symbols.{TreeFacts, same_type}, Text.byte, Values.{facts, type_in}, declared.expressions.{SymId.SymId, SymbolType.TheVariants.Undefined}}
+use Rattle.kc_language.specs.{ConfigFile.{without_prefix}, Expressions.{same_name, symbol}, Symbols.{TreeFacts, same_type}, Text.{byte}, Values.{facts, type_in}, declared.expressions.{SymId.{SymId}, SymbolType.TheVariants.{Undefined}}}
+use Rattle.kc_outcome.specs.Explanations.{differs_by_one}
 
 -- Two neighbouring letters are swapped.
 abbrev pub are_first_exchanged : List ℕ → List ℕ → Bool

@@ -4,8 +4,8 @@ use Rattle.std.specs.Prelude.{List, [], if◌then◌else◌, ℕ, ◌∷◌}
 use Rattle.kc_language.specs.Expansion.{defined_name}
 use Rattle.kc_language.specs.Symbols.{is_symbol_of}
 use Rattle.kc_language.specs.declared.expressions.SymId.{SymId}
-use Rattle.kc_read.specs.StatementViews.{attribute_view, head_view}
-use Rattle.kc_read.specs.declared.entries.{AttributeLine.AttributeLine, Entry.Entry}
+use Rattle.kc_entries.specs.StatementViews.{attribute_view, head_view}
+use Rattle.kc_entries.specs.declared.entries.{AttributeLine.AttributeLine, Entry.Entry}
 use Rattle.kc_hints.specs.Facts.{is_range}
 use Rattle.kc_hints.specs.declared.ranges.RangePlace.{RangePlace}
 

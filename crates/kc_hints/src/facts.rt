@@ -9,9 +9,9 @@ use crate::near::{mentioned_near, typed_near};
 use crate::ranges::{places_text, range_places};
 use crate::value::{is_marked, line_form, part_at, value_at, value_text};
 use kc_display::Code;
+use kc_entries::entries::Entries;
 use kc_expr::expression::{SymId, SymbolType};
 use kc_expr::names::Names;
-use kc_read::entries::Entries;
 use kc_tree::tree::Tree;
 use std::alloc::{AllocError, Global};
 

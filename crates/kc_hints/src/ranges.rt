@@ -3,15 +3,15 @@ ghost use Rattle.std.specs.List.{flat_map};
 ghost use Rattle.std.specs.Prelude.{◌≡◌, ◌==◌, ◌++◌, [], IfOk, OnOk, codes, if◌then◌else◌, map, nat_lt, take};
 ghost use Rattle.kc_language.specs.Expansion.{defined_name};
 ghost use Rattle.kc_language.specs.Symbols.{is_symbol_of};
-ghost use Rattle.kc_read.specs.Entries.{lines_in};
-ghost use Rattle.kc_read.specs.StatementViews.{attribute_view, head_view};
+ghost use Rattle.kc_entries.specs.Entries.{lines_in};
+ghost use Rattle.kc_entries.specs.StatementViews.{attribute_view, head_view};
 ghost use Rattle.kc_hints.specs.Facts.{is_range, joined, most_places, place_text, places_text, range_places};
 ghost use Rattle.kc_hints.specs.RangeParts.{entry_places, place_if, place_view};
 
 use itoa::Buffer;
+use kc_entries::entries::{AttributeLine, Entries, Entry, EntryLines};
+use kc_entries::statement::{Attribute, Head};
 use kc_expr::expression::SymId;
-use kc_read::entries::{AttributeLine, Entries, Entry, EntryLines};
-use kc_read::statement::{Attribute, Head};
 use std::alloc::{AllocError, Global};
 
 /// The maximum number of locations in a hint.

@@ -9,8 +9,8 @@ ghost use Rattle.kc_hints.specs.Facts.{input_at, is_marked, line_at, line_form, 
 use crate::facts::Input;
 use crate::form::{Form, form_of};
 use crate::place::{names_file, place_in};
-use kc_config_file::line::{ConfigFileLine, parse_config_file_line};
 use kc_expr::expression::SymbolType;
+use kc_input::line::{ConfigFileLine, parse_config_file_line};
 use kc_user::value::LONGEST_VALUE;
 use std::alloc::{AllocError, Global};
 

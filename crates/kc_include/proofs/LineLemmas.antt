@@ -1,9 +1,6 @@
 -- What bstr's find says of the first byte that ends a name.
-use Rattle.std.proofs.Common.{◌≡◌, ◌≢◌, ℕ, ◌<◌, List, Bool, true, false, length, take, ltb, cond, refl, arith, Option, Some, None}
-use Rattle.std.specs.Prelude.{◌&&◌, ◌==◌}
-use Rattle.std.specs.List.{position_or_len}
-use Rattle.std.proofs.lemmas.Bool.{false_from_ne_true, lt-ltb, le-ltb}
-use Rattle.std.proofs.lemmas.List.Sums.{position_or_len_is}
+use Rattle.std.proofs.{Common.{Bool, List, None, Option, Some, arith, cond, false, length, ltb, refl, take, true, ℕ, ◌<◌, ◌≡◌, ◌≢◌}, lemmas.{Bool.{false_from_ne_true, le-ltb, lt-ltb}, List.Sums.position_or_len_is}}
+use Rattle.std.specs.{List.position_or_len, Prelude.{◌&&◌, ◌==◌}}
 use Rattle.bstr.specs.Find.{NoneBefore, Nowhere, Passes, is_byte}
 use Rattle.kc_include.specs.Included.{name_before}
 

@@ -1,16 +1,9 @@
 -- The parts of a text, line by line.
-use Rattle.std.proofs.Common.{◌≡◌, ℕ, ◌+◌, ◌-◌, ◌≤◌, List, [], ◌∷◌, ◌++◌, false, length, take, drop, get_or, refl, sym, ap, ◌∙◌, arith, inl, inr, Option, Some, None, append-nil, append_assoc, codes}
+use Rattle.std.proofs.{Common.{List, None, Option, Some, [], ap, append-nil, append_assoc, arith, codes, drop, false, get_or, inl, inr, length, refl, sym, take, ℕ, ◌++◌, ◌+◌, ◌-◌, ◌∙◌, ◌∷◌, ◌≡◌, ◌≤◌}, Math.Seq.take-add, lemmas.{Bool.{cases_Bool, eqb-true, false_from_ne_true}, List.{Elements.All-from_get_or, Splits.{slice_split-cons_no, slice_split-cons_yes, slice_split_first, slice_split_none}, Sums.position_or_len_is, drop-drop, drop_all, take_all, take_more}}}
 use Rattle.std.specs.List.{after_first, before_first, onto_first, position_or_len, slice_split}
-use Rattle.std.proofs.lemmas.Bool.{cases_Bool, eqb-true, false_from_ne_true}
-use Rattle.std.proofs.lemmas.List.{drop-drop, drop_all, take_all, take_more}
-use Rattle.std.proofs.lemmas.List.Elements.{All-from_get_or}
-use Rattle.std.proofs.lemmas.List.Sums.{position_or_len_is}
-use Rattle.std.proofs.Math.Seq.{take-add}
-use Rattle.std.proofs.lemmas.List.Splits.{slice_split_first, slice_split_none, slice_split-cons_no, slice_split-cons_yes}
 use Rattle.bstr.specs.Find.{NoneBefore, Nowhere, Passes, is_byte}
 use Rattle.kc_language.specs.Lines.{is_line_feed}
-use Rattle.kc_include.specs.Included.{Includes, Lines, Name, Part, cut_by, included_name, parts_from, parts_of}
-use Rattle.kc_include.specs.PartView.{BeginsWithLine, IsCut, parts_behind, parts_by}
+use Rattle.kc_include.specs.{Included.{Includes, Lines, Name, Part, cut_by, included_name, parts_from, parts_of}, PartView.{BeginsWithLine, IsCut, parts_behind, parts_by}}
 
 -- there is a first part
 split_form : (bytes : List ℕ) → (part : List ℕ) × (parts : List (List ℕ)) × (slice_split is_line_feed bytes ≡ part ∷ parts)

@@ -1,9 +1,6 @@
 -- The folder of a file, by the last `/` of its name.
-use Rattle.std.proofs.Common.{◌≡◌, ℕ, zero, suc, ◌<◌, List, [], ◌∷◌, Bool, false, length, take, cond, refl, ap, ◌∙◌, arith}
+use Rattle.std.proofs.{Common.{Bool, List, [], ap, arith, cond, false, length, refl, suc, take, zero, ℕ, ◌<◌, ◌∙◌, ◌∷◌, ◌≡◌}, lemmas.{Bool.false_from_ne_true, List.{Elements.All-from_get_or, Folds.{list_any_at, list_any_none}}}}
 use Rattle.std.specs.List.{list_any}
-use Rattle.std.proofs.lemmas.Bool.{false_from_ne_true}
-use Rattle.std.proofs.lemmas.List.Elements.{All-from_get_or}
-use Rattle.std.proofs.lemmas.List.Folds.{list_any_at, list_any_none}
 use Rattle.bstr.specs.Find.{NoneAfter, Nowhere, Passes, is_byte}
 use Rattle.kc_include.specs.Included.{folder_before}
 

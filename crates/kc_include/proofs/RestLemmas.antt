@@ -1,8 +1,6 @@
 -- Empty lines that are read.
-use Rattle.std.proofs.Common.{◌≡◌, ℕ, ◌+◌, ◌-◌, ◌≤◌, List, ◌++◌, take, sym, ap, ◌∙◌, arith, append_assoc}
+use Rattle.std.proofs.{Common.{List, ap, append_assoc, arith, sym, take, ℕ, ◌++◌, ◌+◌, ◌-◌, ◌∙◌, ◌≡◌, ◌≤◌}, Math.Seq.take-append_seam, lemmas.List.{length-replicate, replicate-append-replicate}}
 use Rattle.std.specs.Prelude.{replicate}
-use Rattle.std.proofs.Math.Seq.{take-append_seam}
-use Rattle.std.proofs.lemmas.List.{length-replicate, replicate-append-replicate}
 use Rattle.kc_include.specs.Included.{read_as}
 
 pub empty-lines : (lines count : ℕ) (bytes behind : List ℕ) → count ≤ lines →

@@ -1,6 +1,6 @@
 -- Trusted: `#include` lines of input files, the parts of a text between them, and the paths of included files (our own, after the C preprocessor).
 use Rattle.std.specs.{List.{list_any, position_or_len, slice_split}, Option.{option_and_then, option_map}, Str.Lossy.utf8_lossy, Prelude.{List, None, Option, Some, [], codes, if◌then◌else◌, length, nat_lt, replicate, take, ℕ, ◌&&◌, ◌++◌, ◌+◌, ◌==◌, ◌∷◌}}
-use Rattle.kc_language.specs.{ConfigFile.without_prefix, Lines.is_line_feed, Outcome.begins_with_slash, Text.byte, Tokens.is_blank}
+use Rattle.kc_language.specs.{ConfigFile.{without_prefix}, Lines.{is_line_feed}, Files.{begins_with_slash}, Text.{byte}, Tokens.{is_blank}}
 
 -- The bytes from the first one that is not a blank.
 abbrev pub without_blanks : List ℕ → List ℕ

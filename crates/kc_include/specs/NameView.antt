@@ -1,6 +1,5 @@
 -- Trusted: The meaning of the name of an included file in the code.
-use Rattle.kc_include.specs.Included.{Name, Angled, Quoted}
-use Rattle.kc_include.specs.declared.line.IncludedName.{IncludedName}
+use Rattle.kc_include.specs.{Included.{Angled, Name, Quoted}, declared.line.IncludedName.IncludedName}
 use Rattle.kc_include.specs.declared.line.IncludedName.TheVariants as code
 
 abbrev pub name_of : IncludedName → Name

@@ -1,9 +1,7 @@
 -- Trusted: The meaning of a part in the code, and a step from line to line.
 use Rattle.std.specs.{List.slice_split, Prelude.{List, None, Option, Some, [], drop, take, ℕ, ◌++◌, ◌+◌, ◌-◌, ◌∷◌, ◌≡◌, ◌≤◌}}
 use Rattle.kc_language.specs.Lines.{is_line_feed}
-use Rattle.kc_include.specs.Included.{Name, Part, Lines, Includes, included_name, parts_from, parts_of}
-use Rattle.kc_include.specs.NameView.{name_of}
-use Rattle.kc_include.specs.declared.parts.Part.{Part as CodePart}
+use Rattle.kc_include.specs.{Included.{Includes, Lines, Name, Part, included_name, parts_from, parts_of}, NameView.name_of, declared.parts.Part.Part as CodePart}
 use Rattle.kc_include.specs.declared.parts.Part.TheVariants as code
 
 abbrev pub part_of : CodePart → Part

@@ -1,6 +1,6 @@
 //! The paths at which an included file is searched.
 ghost use Rattle.std.specs.Prelude.{◌≡◌, ◌++◌, codes, map, string_bytes, IfOk};
-ghost use Rattle.kc_language.specs.Outcome.{begins_with_slash};
+ghost use Rattle.kc_language.specs.Files.{begins_with_slash};
 ghost use Rattle.kc_include.specs.Included as spec;
 ghost use Rattle.kc_include.specs.NameView.{name_of};
 

@@ -1,17 +1,8 @@
 -- How the parts of a delivery make its script.
-use Rattle.std.proofs.Common.{◌≡◌, Bool, true, false, not, ◌||◌, cond, List, [], ◌∷◌, map, filter, refl, ◌∙◌, ap, Ok, Err, Result}
-use Rattle.std.proofs.lemmas.List.Folds.{flat_map-map}
+use Rattle.std.proofs.{Common.{Bool, Err, List, Ok, Result, [], ap, cond, false, filter, map, not, refl, true, ◌||◌, ◌∙◌, ◌∷◌, ◌≡◌}, lemmas.List.Folds.flat_map-map}
 use Rattle.std.specs.List.{flat_map, list_any}
-use Rattle.kc_io.specs.Log.{Journal, Log, Leads, Tells, is_held}
-use Rattle.kc_io.specs.Delivery.{NamedText, put, moved, chosen, delivery, share_name}
-use Rattle.kc_io.specs.Delivered.{text_view, Delivered, Went, cleared}
-use Rattle.kc_io.specs.declared.delivery.Manner.{Manner}
-use Rattle.kc_io.specs.declared.delivery.Manner.TheVariants.{InPlace, Replacing}
-use Rattle.kc_io.specs.declared.delivery.Text.{Text}
-use Rattle.kc_io.specs.declared.device.Site.TheVariants.{Place, Beside}
-use Rattle.kc_io.specs.declared.steps.Failure.{Failure}
-use Rattle.kc_io.proofs.LogLemmas.{leads_both}
-use Rattle.kc_io.proofs.WentLemmas.{went_after, went_stopped, went_whole}
+use Rattle.kc_io.specs.{Delivered.{Delivered, Went, cleared, text_view}, Delivery.{NamedText, chosen, delivery, moved, put, share_name}, Log.{Journal, Leads, Log, Tells, is_held}, declared.{delivery.{Manner.{Manner, TheVariants.{InPlace, Replacing}}, Text.Text}, device.Site.TheVariants.{Beside, Place}, steps.Failure.Failure}}
+use Rattle.kc_io.proofs.{LogLemmas.leads_both, WentLemmas.{went_after, went_stopped, went_whole}}
 
 pub list_any-map : (p : NamedText → Bool) (texts : List Text) → list_any p (map text_view texts) ≡ list_any (λ text. p (text_view text)) texts
 list_any-map p [] = refl

@@ -1,15 +1,7 @@
 -- What places hold after the events of a delivery.
-use Rattle.std.proofs.Common.{◌≡◌, ℕ, Bool, true, false, List, [], ◌∷◌, ◌++◌, fold, refl, sym, ◌∙◌, ap, append_assoc, Option, None, Some, bytes_eq, option_map, if◌then◌else◌}
-use Rattle.std.proofs.lemmas.List.{append-nil}
-use Rattle.std.proofs.lemmas.Grind.{fold-append}
+use Rattle.std.proofs.{Common.{Bool, List, None, Option, Some, [], ap, append_assoc, bytes_eq, false, fold, if◌then◌else◌, option_map, refl, sym, true, ℕ, ◌++◌, ◌∙◌, ◌∷◌, ◌≡◌}, lemmas.{Grind.fold-append, List.append-nil}}
 use Rattle.std.specs.List.{flat_map}
-use Rattle.kc_io.specs.Log.{Event, Spot, acted, after, each_byte, did}
-use Rattle.kc_io.specs.Delivery.{NamedText, put, moved, delivery, last_of}
-use Rattle.kc_io.specs.declared.delivery.Manner.{Manner}
-use Rattle.kc_io.specs.declared.delivery.Manner.TheVariants.{InPlace, Replacing}
-use Rattle.kc_io.specs.declared.device.Action.TheVariants.{Create, Write, Close}
-use Rattle.kc_io.specs.declared.device.Site.{Site}
-use Rattle.kc_io.specs.declared.device.Site.TheVariants.{Place, Beside}
+use Rattle.kc_io.specs.{Delivery.{NamedText, delivery, last_of, moved, put}, Log.{Event, Spot, acted, after, did, each_byte}, declared.{delivery.Manner.{Manner, TheVariants.{InPlace, Replacing}}, device.{Action.TheVariants.{Close, Create, Write}, Site.{Site, TheVariants.{Beside, Place}}}}}
 
 -- bytes that are written at another name, and at this one
 abbrev byte : Site → List ℕ → ℕ → Event

@@ -1,13 +1,6 @@
 -- What follows from what a device tells.
-use Rattle.std.proofs.Common.{◌≡◌, ℕ, zero, suc, Bool, true, false, not, ◌||◌, ◌&&◌, List, [], ◌∷◌, ◌++◌, fold, take, refl, sym, ◌∙◌, ap, append_assoc, Option, Some, Result, Ok, Err, subst, bytes_eq, is_some, if◌then◌else◌, unwrap_or}
-use Rattle.std.proofs.lemmas.List.{append-nil, map-append}
-use Rattle.std.proofs.lemmas.List.Folds.{list_all-append}
-use Rattle.std.proofs.lemmas.Grind.{fold-append}
-use Rattle.kc_io.specs.Log.{Event, Journal, Log, Leads, Spot, Tells, acted, after, each_byte, failed, held, reported, with_events, keeps_files, only_looks, opening, reading}
-use Rattle.kc_io.specs.PartsOfLog.{contents}
-use Rattle.kc_io.specs.declared.device.Action.{Action}
-use Rattle.kc_io.specs.declared.device.Fault.{Fault}
-use Rattle.kc_io.specs.declared.device.Action.TheVariants.{Open, Miss, Read, Create, Write, Close, Move, Clear, Report}
+use Rattle.std.proofs.{Common.{Bool, Err, List, Ok, Option, Result, Some, [], ap, append_assoc, bytes_eq, false, fold, if◌then◌else◌, is_some, not, refl, subst, suc, sym, take, true, unwrap_or, zero, ℕ, ◌&&◌, ◌++◌, ◌||◌, ◌∙◌, ◌∷◌, ◌≡◌}, lemmas.{Grind.fold-append, List.{Folds.list_all-append, append-nil, map-append}}}
+use Rattle.kc_io.specs.{Log.{Event, Journal, Leads, Log, Spot, Tells, acted, after, each_byte, failed, held, keeps_files, only_looks, opening, reading, reported, with_events}, PartsOfLog.contents, declared.device.{Action.{Action, TheVariants.{Clear, Close, Create, Miss, Move, Open, Read, Report, Write}}, Fault.Fault}}
 
 -- ---- what follows what
 

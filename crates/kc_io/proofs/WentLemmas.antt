@@ -1,16 +1,7 @@
 -- How parts of a script follow one another.
-use Rattle.std.proofs.Common.{◌≡◌, ℕ, ◌+◌, ◌<◌, ◌≤◌, List, [], ◌∷◌, ◌++◌, length, get_or, take, drop, refl, sym, ◌∙◌, ap, append_assoc, suc, Ok, Err, Result, Bor, subst}
-use Rattle.std.proofs.lemmas.List.{append-nil, take-append-drop, take_all, map-append}
-use Rattle.std.proofs.lemmas.Grind.{flat_map-append}
-use Rattle.std.proofs.Math.Seq.{drop-cons, take-add}
+use Rattle.std.proofs.{Common.{Bor, Err, List, Ok, Result, [], ap, append_assoc, drop, get_or, length, refl, subst, suc, sym, take, ℕ, ◌++◌, ◌+◌, ◌<◌, ◌∙◌, ◌∷◌, ◌≡◌, ◌≤◌}, Math.Seq.{drop-cons, take-add}, lemmas.{Grind.flat_map-append, List.{append-nil, map-append, take-append-drop, take_all}}}
 use Rattle.std.specs.List.{flat_map}
-use Rattle.kc_io.specs.Log.{Event, Log, Leads, did, each_byte, failed}
-use Rattle.kc_io.specs.Delivery.{NamedText, put, StopsBefore}
-use Rattle.kc_io.specs.declared.device.Action.TheVariants.{Create, Write, Close}
-use Rattle.kc_io.specs.declared.device.Fault.{Fault}
-use Rattle.kc_io.specs.declared.device.Site.{Site}
-use Rattle.kc_io.specs.Delivered.{Went, failure_of}
-use Rattle.kc_io.specs.declared.steps.Failure.{Failure}
+use Rattle.kc_io.specs.{Delivered.{Went, failure_of}, Delivery.{NamedText, StopsBefore, put}, Log.{Event, Leads, Log, did, each_byte, failed}, declared.{device.{Action.TheVariants.{Close, Create, Write}, Fault.Fault, Site.Site}, steps.Failure.Failure}}
 use Rattle.kc_io.proofs.LogLemmas.{leads_as, leads_both}
 
 -- all of a part was done

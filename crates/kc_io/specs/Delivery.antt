@@ -1,14 +1,15 @@
 -- Trusted: How texts are written to their files, event by event, and the laws of delivery (our own).
-use Rattle.std.specs.{Prelude.{◌≡◌, ℕ, Bool, true, false, not, ◌||◌, if◌then◌else◌, List, [], ◌∷◌, ◌++◌, filter, flat_map, Option, Some, Result, Ok, Err, String, string_bytes, bytes_eq}, List.list_any, declared.alloc.Global.Global}
-use Rattle.kc_language.specs.{Outcome.{Options, Outcome, lead, run_error_text}, Statements.error_line, declared.{diagnostics.RunError.RunError, outcome.{Delivery.Delivery, Status.Status}}}
+use Rattle.std.specs.{Prelude.{◌≡◌, ℕ, Bool, true, false, not, ◌||◌, if◌then◌else◌, List, [], ◌∷◌, ◌++◌, filter, flat_map, Option, Some, Result, Ok, Err, string_bytes, bytes_eq}, List.list_any}
+use Rattle.kc_outcome.specs.{Outcome.{Options, Outcome, lead}, declared.outcome.{Delivery.{Delivery}, Status.{Status}, WantedOutput.{WantedOutput}}}
+use Rattle.kc_language.specs.{Statements.{run_error_text, error_line}, declared.diagnostics.RunError.{RunError}}
 use Rattle.kc_io.specs.{Log.{Event, Journal, Leads, Log, did, each_byte, held, is_held, keeps_files, with_events}, declared.{device.{Action.{Action, TheVariants.{Clear, Create, Write, Close, Move}}, Site.{Site, TheVariants.{Place, Beside}}}, delivery.Manner.{Manner, TheVariants.{InPlace, Replacing}}, steps.Failure.Failure}}
 
--- A text, and the name of the file that is to hold it.
+-- A text, and the name of the file to which it belongs.
 pub record NamedText : Type 0 where
   pub name : List ℕ
   pub bytes : List ℕ
 
--- A file is created, written and closed, in place or beside it. One that is beside its place is moved there.
+-- A file is created, written and closed: the file itself, or a temporary file beside it, which is then renamed.
 abbrev pub put : Site → NamedText → List Event
 put site text = did (Create site) text.name ++ each_byte (Write site) text.name text.bytes ++ did (Close site) text.name
 
@@ -23,34 +24,32 @@ share_name (text ∷ texts) = list_any (λ other. bytes_eq text.name other.name)
 abbrev pub stale : List NamedText → Journal → List NamedText
 stale texts journal = filter (λ text. not (is_held journal text.name text.bytes)) texts
 
--- The texts to be written: all. With --replace, only those that differ from their files, unless two have the same name.
+-- The texts to be written: all of them. With --replace, only those that differ from their files, unless two have the same name.
 abbrev pub chosen : Manner → List NamedText → Journal → List NamedText
 chosen InPlace texts journal = texts
 chosen Replacing texts journal = if share_name texts then texts else stale texts journal
 
--- The events of a delivery: each file is written in place. With --replace, all are written beside their places first, and then moved there.
+-- The events of a delivery: each file is written in place. With --replace, all are written to temporary files first, which are then renamed.
 abbrev pub delivery : Manner → List NamedText → List Event
 delivery InPlace texts = flat_map (put Place) texts
 delivery Replacing texts = flat_map (put Beside) texts ++ flat_map moved texts
 
--- What is left of these events when a delivery ends: nothing, or those from the one that failed on.
+-- The events that are left when a delivery ends: none, or those from the failed one on.
 abbrev pub StopsBefore : List Event → Result (Unit {0}) Failure → Type 0
 StopsBefore [] (Ok _) = Unit {0}
 StopsBefore (event ∷ _) (Err failure) = (event.action ≡ failure.action) × (event.name ≡ failure.name.now)
 StopsBefore _ _ = ⊥
 
 -- ---- The texts of an outcome
--- They have the names of their files, and stand in the order in which they are delivered.
-abbrev pub text_at : Option (String Global) → Option (List ℕ) → List NamedText
-text_at (Some name) (Some bytes) = record { name = string_bytes name; bytes = bytes } ∷ []
-text_at _ _ = []
+-- The texts with the names of their files, in the order in which they are delivered.
+abbrev pub with_names : List WantedOutput → List (List ℕ) → List NamedText
+with_names (wanted ∷ outputs) (text ∷ texts) = record { name = string_bytes wanted.file; bytes = text } ∷ with_names outputs texts
+with_names _ _ = []
 
 abbrev pub texts_of : Options → Outcome → List NamedText
-texts_of options outcome = text_at options.out outcome.config ++ text_at options.header outcome.header
-    ++ text_at options.minimal outcome.minimal ++ text_at options.list_new outcome.list_new ++ text_at options.list_gone outcome.list_gone
-    ++ text_at options.depfile outcome.depfile ++ text_at options.explanation outcome.explanation
+texts_of options outcome = with_names options.outputs.items outcome.texts
 
--- They are written; with --replace those that differ from their files replace these; with --check nothing is written.
+-- They are written. With --replace, those that differ from their files replace them. With --check, nothing is written.
 abbrev pub delivers : Options → List NamedText → Journal → List Event
 delivers options = elim options.delivery [
   | Delivery.Write ↦ λ texts journal. delivery InPlace texts

@@ -1,5 +1,5 @@
--- Trusted: What a device records: what was asked of it and how it answered; what the files hold; and reading (our own).
--- A device keeps files by name and takes diagnostics. A device in memory records all, until it runs out of memory; a disk records nothing.
+-- Trusted: What a device records: each call and its result, the contents of the files, and reading (our own).
+-- A device keeps files by name and takes diagnostics. A device in memory records everything, until it runs out of memory; a disk records nothing.
 use Rattle.std.specs.{Prelude.{◌≡◌, ℕ, zero, suc, ◌<◌, Bool, true, false, not, ◌||◌, if◌then◌else◌, List, [], ◌∷◌, ◌++◌, map, fold, take, length, is_some, unwrap_or, Option, None, Some, Result, Ok, Err, bytes_eq, option_map}, List.{last_or, list_all}, Option.option_map_or}
 use Rattle.kc_language.specs.Lines.{is_line_feed}
 use Rattle.kc_io.specs.declared.device.{Action.{Action, TheVariants.{Open, Miss, Read, Create, Write, Move, Report}}, Site.{Site, TheVariants.{Place, Beside}}, Fault.Fault}
@@ -22,7 +22,7 @@ failed action name fault = record { action = action; name = name; bytes = []; fa
 abbrev pub each_byte : Action → List ℕ → List ℕ → List Event
 each_byte action name bytes = map (λ byte. record { action = action; name = name; bytes = byte ∷ []; fault = None }) bytes
 
--- The events of an answer: to an action; to a write, which takes some of the bytes; to opening a file, which may be missing; and to a read,
+-- The events of a result: of an action; of a write, which takes some of the bytes; of opening a file, which may be missing; and of a read,
 -- which gives bytes, or none at the end of the file.
 abbrev pub tried : Result (Unit {0}) Fault → Action → List ℕ → List Event
 tried (Ok _) action name = did action name
@@ -42,7 +42,7 @@ reading (Ok zero) name buffer = did Read name
 reading (Ok (suc count)) name buffer = each_byte Read name (take (suc count) buffer)
 reading (Err fault) name buffer = failed Read name fault
 
--- Diagnostics are recorded as text. They are an event only if they fail.
+-- Successful diagnostics are recorded as text. They are an event only if they fail.
 abbrev pub reported : Result (Unit {0}) Fault → List Event
 reported (Ok _) = []
 reported (Err fault) = failed Report [] fault
@@ -52,13 +52,13 @@ said (Ok _) text = text
 said (Err fault) text = []
 
 -- ---- The log
--- What each file held at first, the events since then, in order, and the text of the diagnostics.
+-- The initial content of each file, the events since then, in order, and the text of the diagnostics.
 pub record Journal : Type 0 where
   pub files : List ℕ → Option (List ℕ)
   pub events : List Event
   pub said : List ℕ
 
--- What a device records: a journal, or nothing. A journal with more events and text. And: P holds of the journal, if there is one.
+-- What a device records: a journal, or nothing. A journal with more events and text. `Tells`: P holds for the journal, if there is one.
 abbrev pub Log : Type 0
 Log = Option Journal
 
@@ -73,12 +73,12 @@ pub record Leads (events : List Event) (text : List ℕ) (old new : Log) : Type 
   pub told : (after : Journal) → new ≡ Some after → (before : Journal) × (old ≡ Some before) × (with_events events text before ≡ after)
 
 -- ---- What the files hold
--- What the file of a name holds, if there is one, and the bytes of the file beside it, which is to replace it.
+-- The content of the file of a name, if it exists, and the bytes of its temporary file.
 pub record Spot : Type 0 where
   pub held : Option (List ℕ)
   pub beside : List ℕ
 
--- How an action with these bytes changes it; and how an event does, at this name.
+-- How an action with these bytes changes it; and how an event changes it for this name.
 abbrev pub acted : Action → List ℕ → Spot → Spot
 acted (Create Place) bytes spot = record spot { held = Some [] }
 acted (Create Beside) bytes spot = record spot { beside = [] }
@@ -90,7 +90,7 @@ acted _ bytes spot = spot
 abbrev pub after : List ℕ → Spot → Event → Spot
 after name spot event = if is_some event.fault || not (bytes_eq name event.name) then spot else acted event.action event.bytes spot
 
--- What the file of a name holds now; and whether it exists and holds these bytes.
+-- The content of the file of a name now; and whether the file exists and holds these bytes.
 abbrev pub held : Journal → List ℕ → Option (List ℕ)
 held journal name = (fold (after name) (record { held = journal.files name; beside = [] }) journal.events).held
 
@@ -108,17 +108,17 @@ abbrev pub keeps_files : List Event → Bool
 keeps_files events = list_all (λ event. is_some event.fault || only_looks event.action) events
 
 -- ---- Reading and diagnostics
--- The file that was opened last: the bytes that are still to be read, if they are recorded, and how many reads may still give some.
+-- The file that was opened last: the unread bytes, if they are recorded, and how many more reads may return bytes.
 pub record OpenFile : Type 0 where
   pub to_come : Option (List ℕ)
   pub reads_left : ℕ
 
--- The answer to opening a file, `there`, agrees with the log. A file is answered to be missing only if it may be.
+-- The result of opening a file, `there`, agrees with the log. A file may be reported missing only if it may be missing.
 pub record IsFound (log : Log) (name : List ℕ) (may_be_missing there : Bool) : Type 0 where
   pub missing : there ≡ false → may_be_missing ≡ true
   pub told : Tells log (λ journal. is_some (held journal name) ≡ there)
 
--- Nothing of the file was read yet; and nothing is left to be read.
+-- No byte of the file has been read yet; no byte is left to be read.
 abbrev pub IsOpened : Log → List ℕ → OpenFile → Type 0
 IsOpened log name file = file.to_come ≡ option_map (λ journal. unwrap_or (held journal name) []) log
 
@@ -131,10 +131,6 @@ pub record ReadsOn (count : ℕ) (buffer : List ℕ) (old new : OpenFile) : Type
   pub bytes : old.to_come ≡ option_map (λ rest. take count buffer ++ rest) new.to_come
   pub end : count ≡ 0 → 0 < length buffer → IsAtEnd new.to_come
   pub fewer : 0 < count → new.reads_left < old.reads_left
-
--- Whole lines: no bytes, or the last one is a line feed.
-abbrev pub is_whole_lines : List ℕ → Bool
-is_whole_lines bytes = elim (last_or None bytes) [ None ↦ true | Some b ↦ is_line_feed b ]
 
 -- The text was reported, unless the diagnostics failed.
 abbrev pub TriesToSay : List ℕ → Log → Log → Type 0

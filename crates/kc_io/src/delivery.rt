@@ -1,4 +1,4 @@
-//! Delivers texts to their files.
+//! Delivers texts to their files, in place or by renames.
 ghost use Rattle.std.specs.Prelude.{◌≡◌, map, bytes_eq};
 ghost use Rattle.std.specs.List.{list_any};
 ghost use Rattle.kc_io.specs.Log.{Tells};
@@ -8,19 +8,19 @@ ghost use Rattle.kc_io.specs.Delivered.{text_view, Delivered, Went};
 use crate::device::{Device, Site};
 use crate::steps::{Failure, move_all, put_all};
 
-/// A text, and the name of the file that is to hold it.
+/// A text, and the name of the file to which it belongs.
 #[derive(Drop)]
 pub struct Text<'a> {
     pub name: &'a str,
     pub bytes: Vec<u8>,
 }
 
-/// How texts come to their files.
+/// How texts are written to their files.
 #[derive(Clone, Copy, Debug, PartialEq, Eq)]
 pub enum Manner {
-    /// Each is written where it belongs.
+    /// Each file is written in place.
     InPlace,
-    /// Those that their files do not hold are written beside their places. When all are whole, each takes its place in one step.
+    /// Each text that differs from its file is written to a temporary file. When all are complete, each is renamed to its path.
     Replacing,
 }
 
@@ -31,7 +31,7 @@ fn has_name(name: &str, texts: &[Text<'_>]) -> bool
     texts.iter().any(|text| name == text.name)
 }
 
-// Whether two of the texts have one name.
+// Whether two of the texts have the same name.
 fn share_name(texts: &[Text<'_>]) -> bool
     ensures { result ≡ share_name (map text_view texts.now) }
 {
@@ -45,7 +45,7 @@ fn share_name(texts: &[Text<'_>]) -> bool
     false
 }
 
-// Leaves the texts that are to be made.
+// Keeps only the texts that must be written.
 fn choose<D: Device>(manner: Manner, texts: &mut Vec<Text<'_>>, device: &D)
     ensures { Tells (D.log device.now) (λ journal. map text_view texts.new.items ≡ chosen manner (map text_view texts.old.items) journal) }
 {
@@ -59,7 +59,7 @@ fn choose<D: Device>(manner: Manner, texts: &mut Vec<Text<'_>>, device: &D)
     }
 }
 
-// Makes these texts.
+// Writes these texts.
 fn make<'a, D: Device>(
     manner: Manner,
     texts: &[Text<'a>],
@@ -78,12 +78,12 @@ fn make<'a, D: Device>(
 
 /// Delivers texts to their files, in order (our own).
 ///
-/// In the plain manner each file is made anew. In the replacing one, a file that holds its text is not touched; the others take their
-/// places when all are whole. If two texts have one name, all are made.
+/// `InPlace` writes each file anew. `Replacing` does not touch a file that holds its text; the other texts are written to temporary files,
+/// which are renamed when all are complete. If two texts have the same name, all are written.
 ///
 /// # Errors
 ///
-/// The first thing that failed. What comes before it was done, and nothing else; nothing stands beside a place then.
+/// The first failure. Everything before it was done, and nothing after it. No temporary file is left.
 pub fn deliver<'a, D: Device>(
     manner: Manner,
     texts: Vec<Text<'a>>,

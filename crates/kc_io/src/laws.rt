@@ -1,18 +1,18 @@
-//! What follows from the contracts, stated as the contracts of functions that do nothing.
+//! Laws that follow from the contracts. Each is the contract of a function that does nothing.
 ghost use Rattle.kc_io.specs.Delivery.{DeliveryHolds, LookingKeeps, TurnsFollow};
 
-/// The law of deliveries: behind a whole one, in either manner, the file of a name holds the last of these texts that has the name, and
-/// each other file what it held. (Our own.)
+/// The law of deliveries: after a whole delivery of either kind, each file holds the last of these texts with its name. Any other file is
+/// unchanged. (Our own.)
 pub fn delivery_holds()
     ensures { DeliveryHolds }
 {}
 
-/// The law of looking: events that failed, or that neither make, write nor move a file, leave what each file holds. (Our own.)
+/// The law of looking: events that failed, or that create, write or rename no file, leave the contents of each file unchanged. (Our own.)
 pub fn looking_keeps()
     ensures { LookingKeeps }
 {}
 
-/// The law of turns: what was done and said in one turn, and then in the next, was done and said in both. (Our own.)
+/// The law of turns: the events and the text of one turn and then of the next are together those of both. (Our own.)
 pub fn turns_follow()
     ensures { TurnsFollow }
 {}

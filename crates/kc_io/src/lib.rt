@@ -1,10 +1,10 @@
 #![tactic(auto)]
-//! Files and diagnostics: what a program asks of a device, and the delivery of texts to their files.
+//! Files and diagnostics: the calls of a device, and the delivery of texts to their files.
 //!
-//! - [`Device`]: reads and writes files, and takes diagnostics. An [`Action`] names a call, a [`Site`] where a file lies, and
+//! - [`Device`]: reads and writes files, and takes diagnostics. An [`Action`] names a call, a [`Site`] which file is written, and
 //!   a [`Fault`] why a call failed.
-//! - [`deliver`] brings each [`Text`] to its file in a [`Manner`]: in place or by renames. A [`Failure`] says what failed.
-//! - [`laws`]: what follows for the files from these contracts.
+//! - [`deliver`] writes each [`Text`] to its file in a [`Manner`]: in place or by renames. A [`Failure`] says what failed.
+//! - [`laws`]: what these contracts mean for the files.
 
 mod delivery;
 mod device;

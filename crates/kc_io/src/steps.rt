@@ -1,4 +1,4 @@
-//! The steps of a delivery, each with what failed.
+//! The steps of a delivery. Each reports its failure.
 ghost use Rattle.std.specs.Prelude.{[]};
 ghost use Rattle.std.specs.List.{flat_map};
 ghost use Rattle.kc_io.specs.Log.{did, each_byte};
@@ -8,14 +8,14 @@ ghost use Rattle.kc_io.specs.Delivered.{text_view, Went};
 use crate::delivery::Text;
 use crate::device::{Action, Device, Fault, Site};
 
-/// What failed, at which name and for what cause.
+/// The call that failed, the name of its file, and the cause.
 #[derive(Clone, Copy, Debug)]
 pub struct Failure<'a> {
-    /// What was asked of the device.
+    /// The call of the device.
     pub action: Action,
     /// The file's name; empty for the diagnostics.
     pub name: &'a str,
-    /// Why it failed.
+    /// The cause.
     pub fault: Fault,
 }
 
@@ -67,7 +67,7 @@ fn close<'a, D: Device>(device: &mut D, site: Site, name: &'a str) -> Result<(),
     }
 }
 
-// Makes a file, writes its text and closes it.
+// Creates a file, writes its text and closes it.
 fn put<'a, D: Device>(device: &mut D, site: Site, text: &Text<'a>) -> Result<(), Failure<'a>>
     ensures { Went (put site (text_view text.now)) (D.log device.old) (D.log device.new) result }
 {
@@ -93,7 +93,7 @@ fn move_there<'a, D: Device>(device: &mut D, text: &Text<'a>) -> Result<(), Fail
     }
 }
 
-/// Makes the files of these texts.
+/// Writes the files of these texts.
 pub(crate) fn put_all<'a, D: Device>(
     device: &mut D,
     site: Site,
@@ -109,7 +109,7 @@ pub(crate) fn put_all<'a, D: Device>(
     Ok(())
 }
 
-/// Moves them to their places.
+/// Renames the temporary files of these texts.
 pub(crate) fn move_all<'a, D: Device>(device: &mut D, texts: &[Text<'a>]) -> Result<(), Failure<'a>>
     ensures { Went (flat_map (λ text. moved (text_view text)) texts.now) (D.log device.old) (D.log device.new) result }
 {

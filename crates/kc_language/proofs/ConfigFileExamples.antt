@@ -1,12 +1,7 @@
 -- Examples for the chapter ConfigFile: lines of a `.config`, the values that they give, and the warnings about them.
-use Rattle.std.proofs.Common.{◌≡◌, refl}
-use Rattle.std.specs.Prelude.{Bool as Bool_, List, None, Some, [], codes, false, true, ℕ, ◌∷◌}
-use Rattle.std.specs.Fmt.{digits}
-use Rattle.kc_language.specs.ConfigFile.{Malformed, Nothing, ReadResult, Set, Unset, effect, gone_after, lines_after, lines_from, meaning_of, no_input, places_given, reading, reading_of, refused_after, untaken, untaken_line, value_by, warning, warnings}
-use Rattle.kc_language.specs.Symbols.{SymbolFacts, TreeFacts}
-use Rattle.kc_language.specs.Values.{GivenText, GivenTruth}
-use Rattle.kc_language.specs.declared.expressions.SymbolType.TheVariants.{Bool, Str}
-use Rattle.kc_language.specs.declared.expressions.Tri.TheVariants.{N, Y}
+use Rattle.std.proofs.Common.{refl, ◌≡◌}
+use Rattle.std.specs.{Fmt.digits, Prelude.{Bool as Bool_, List, None, Some, [], codes, false, true, ℕ, ◌∷◌}}
+use Rattle.kc_language.specs.{ConfigFile.{Malformed, Nothing, ReadResult, Set, Unset, effect, gone_after, lines_after, lines_from, meaning_of, no_input, places_given, reading, reading_of, refused_after, untaken, untaken_line, value_by, warning, warnings}, Symbols.{SymbolFacts, TreeFacts}, Values.{GivenText, GivenTruth}, declared.expressions.{SymbolType.TheVariants.{Bool, Str}, Tri.TheVariants.{N, Y}}}
 
 -- ---- Lines, under the prefix CONFIG_
 
@@ -109,7 +104,7 @@ module _ (any_tree : TreeFacts) (any_facts : SymbolFacts) where
   unset_string_silent = refl
 
   -- The last line whose value for B is not allowed stays known, even after one that gives B a value.
-  refused_lines : (read_text (codes "CONFIG_B=1\nCONFIG_B=m\nCONFIG_B=y\nCONFIG_C=m\n")).input.refused ≡ None ∷ Some (record { stream = codes ".config"; number = 2 }) ∷ []
+  refused_lines : (read_text (codes "CONFIG_B=1\nCONFIG_B=m\nCONFIG_B=y\nCONFIG_C=m\n")).input.refused ≡ None ∷ Some (record { at = record { stream = codes ".config"; number = 2 }; value = codes "m" }) ∷ []
   unfolding read_text
   refused_lines = refl
 

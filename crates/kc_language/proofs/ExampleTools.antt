@@ -1,12 +1,7 @@
 -- Tools for the examples: when the first bytes of a line spell a token and nothing longer, and when a physical line is a logical line.
-use Rattle.std.proofs.Common.{◌≡◌, refl, sym, ◌∙◌, ap, subst, true≢false, arith, ℕ, zero, suc, ◌≤◌, ◌≢◌, inl, inr, Bool, true, false, IsTrue, List, [], ◌∷◌, ◌++◌, take, length, slice_index, All, drop, codes}
-use Rattle.std.specs.Prelude.{◌&&◌, ◌==◌, ◌⊎◌, not}
-use Rattle.std.proofs.lemmas.Bool.{eq-eqb}
-use Rattle.std.specs.List.{list_all}
-use Rattle.kc_language.specs.Lines.{AreJoined, IsFirstLine, Physical, continues}
-use Rattle.kc_language.specs.Text.{byte}
-use Rattle.kc_language.specs.Tokens.{is_word_byte, IsQuotedBody, nothing, plain, escaped, op_text, AWord, AQuoted, AnOp, Lexeme, Spells, IsLongest}
-use Rattle.kc_language.specs.declared.tokens.Op.{Op}
+use Rattle.std.proofs.{Common.{All, Bool, IsTrue, List, [], ap, arith, codes, drop, false, inl, inr, length, refl, slice_index, subst, suc, sym, take, true, true≢false, zero, ℕ, ◌++◌, ◌∙◌, ◌∷◌, ◌≡◌, ◌≢◌, ◌≤◌}, lemmas.Bool.eq-eqb}
+use Rattle.std.specs.{List.list_all, Prelude.{not, ◌&&◌, ◌==◌, ◌⊎◌}}
+use Rattle.kc_language.specs.{Lines.{AreJoined, IsFirstLine, Physical, continues}, Text.byte, Tokens.{AQuoted, AWord, AnOp, IsLongest, IsQuotedBody, Lexeme, Spells, escaped, is_word_byte, nothing, op_text, plain}, declared.tokens.Op.Op}
 use Rattle.kc_language.specs.declared.tokens.Op.TheVariants as ops
 
 -- ---- Words

@@ -1,10 +1,7 @@
 -- Examples for the chapter Expansion: the blocks, entries and symbols of a small file.
-use Rattle.std.proofs.Common.{◌≡◌, refl}
+use Rattle.std.proofs.Common.{refl, ◌≡◌}
 use Rattle.std.specs.Prelude.{List, None, Some, [], codes, ◌∷◌}
-use Rattle.kc_language.specs.Expansion.{attributes, definitions, enclosing, modules_of, open_blocks}
-use Rattle.kc_language.specs.Expressions.{Disjunction, WordAtom, conjunction, lone, negation, only}
-use Rattle.kc_language.specs.Statements.{ConfigLine, EndIfLine, EndMenuLine, HelpLine, IfLine, MenuLine, ModulesLine, Named, TypeLine}
-use Rattle.kc_language.specs.declared.{expressions.SymbolType.SymbolType}
+use Rattle.kc_language.specs.{Expansion.{attributes, definitions, enclosing, modules_of, open_blocks}, Expressions.{Disjunction, WordAtom, conjunction, lone, negation, only}, Statements.{ConfigLine, EndIfLine, EndMenuLine, HelpLine, IfLine, MenuLine, ModulesLine, Named, TypeLine}, declared.expressions.SymbolType.SymbolType}
 
 -- The expression that is the one symbol NET.
 abbrev net : Disjunction

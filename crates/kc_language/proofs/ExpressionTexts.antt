@@ -1,9 +1,7 @@
 -- The tokens of the text of an expression, and the derivation that has them and means the expression again.
-use Rattle.std.proofs.Common.{◌≡◌, refl, ap, sym, ◌∙◌, append-nil, true≢false, ℕ, ◌≢◌, inl, inr}
-use Rattle.std.proofs.lemmas.List.{map-append}
-use Rattle.std.proofs.lemmas.Bool.{cases_Bool, ne_eqb, eqb-false, or_parts}
+use Rattle.std.proofs.{Common.{ap, append-nil, inl, inr, refl, sym, true≢false, ℕ, ◌∙◌, ◌≡◌, ◌≢◌}, lemmas.{Bool.{cases_Bool, eqb-false, ne_eqb, or_parts}, List.map-append}}
 use Rattle.std.specs.Prelude.{Bool, IsTrue, List, None, Option, Some, [], false, if◌then◌else◌, is_some, map, true, unwrap_or, ◌&&◌, ◌++◌, ◌==◌, ◌||◌, ◌∷◌}
-use Rattle.kc_language.specs.{Expressions.{Atom, Bang, Chain, Close, Compares, Disjunction, Every, Form, Forms, Joins, Leaf, LoneM, MoreForms, Negated, Negation, NoForms, Open, OperandToken, Part, QuotedAtom, Related, Single, Some_of, Symbol, Terminal, Text, WordAtom, bang, compare, conjunction, forms, group, if_word, joined, leaf, lone, meaning, meaning_not, meaning_part, negation, number_of, only, parts, same_name, spell, spell_not, spell_part, symbol, terminal_of, tri_text, tristate_constant}, Explanations.{AreReadable, IsOperand, IsReadable, is_and, is_relation}, Symbols.name_by, Text.{escape, unescape}, Tokens.{AQuoted, AWord, AnOp, Lexeme}, declared.{expressions.{Connective.{Connective, TheVariants.{And, Or}}, Tri.{TheVariants.{M}}}, tokens.Op.Op}}
+use Rattle.kc_language.specs.{ExpressionTexts.{AreReadable, IsOperand, IsReadable, is_and, is_relation}, Expressions.{Atom, Bang, Chain, Close, Compares, Disjunction, Every, Form, Forms, Joins, Leaf, LoneM, MoreForms, Negated, Negation, NoForms, Open, OperandToken, Part, QuotedAtom, Related, Single, Some_of, Symbol, Terminal, Text, WordAtom, bang, compare, conjunction, forms, group, if_word, joined, leaf, lone, meaning, meaning_not, meaning_part, negation, number_of, only, parts, same_name, spell, spell_not, spell_part, symbol, terminal_of, tri_text, tristate_constant}, Symbols.name_by, Text.{escape, unescape}, Tokens.{AQuoted, AWord, AnOp, Lexeme}, declared.{expressions.{Connective.{Connective, TheVariants.{And, Or}}, Tri.TheVariants.M}, tokens.Op.Op}}
 use Rattle.kc_language.specs.declared.tokens.Op.TheVariants as op
 
 -- ---- The tokens of the text
@@ -78,7 +76,7 @@ unescape_plain : (b : ℕ) (bs : List ℕ) → b ≢ 92 → unescape (b ∷ bs) 
 unescape_plain b [] ne = refl
 unescape_plain b (c ∷ bs) ne = rw (ne_eqb b 92 ne) refl
 
-unescape_escape : (bs : List ℕ) → unescape (escape bs) ≡ bs
+pub unescape_escape : (bs : List ℕ) → unescape (escape bs) ≡ bs
 unescape_escape [] = refl
 unescape_escape (b ∷ bs) = elim (cases_Bool (b == 34 || b == 92)) [
   | inl e ↦ rw e (ap (λ (t : List ℕ). b ∷ t) (unescape_escape bs))

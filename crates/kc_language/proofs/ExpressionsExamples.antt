@@ -1,13 +1,7 @@
 -- Examples for the chapter Expressions: an expression from its tokens to its value, a lone `m`, and relations.
-use Rattle.std.proofs.Common.{◌≡◌, refl}
-use Rattle.std.specs.Prelude.{List, None, Some, [], codes, false, if◌then◌else◌, map, true, ℕ, ◌==◌, ◌∷◌}
-use Rattle.std.specs.declared.cmp.Ordering.{TheVariants.Less, TheVariants.Greater, TheVariants.Equal}
-use Rattle.kc_language.specs.Expressions.{Disjunction, Every, Form, LoneM, Negated, Related, Single, Symbol, SymbolValue, Text, TextValue, Truth, WordAtom, bang, compare, compared, conjunction, forms, joined, lone, meaning, names_in, negation, number_of, only, spell, symbol, terminal_of, value}
-use Rattle.kc_language.specs.Text.{natural_of}
-use Rattle.kc_language.specs.Tokens.{AWord, AnOp, Lexeme}
-use Rattle.kc_language.specs.declared.expressions.SymId.{SymId}
-use Rattle.kc_language.specs.declared.expressions.SymbolType.{TheVariants.Hex, TheVariants.Int, TheVariants.Str}
-use Rattle.kc_language.specs.declared.expressions.Tri.{Tri, TheVariants.M, TheVariants.N, TheVariants.Y}
+use Rattle.std.proofs.Common.{refl, ◌≡◌}
+use Rattle.std.specs.{Prelude.{List, None, Some, [], codes, false, if◌then◌else◌, map, true, ℕ, ◌==◌, ◌∷◌}, declared.cmp.Ordering.TheVariants.{Equal, Greater, Less}}
+use Rattle.kc_language.specs.{Expressions.{Disjunction, Every, Form, LoneM, Negated, Related, Single, Symbol, SymbolValue, Text, TextValue, Truth, WordAtom, bang, compare, compared, conjunction, forms, joined, lone, meaning, names_in, negation, number_of, only, spell, symbol, terminal_of, value}, Text.natural_of, Tokens.{AWord, AnOp, Lexeme}, declared.expressions.{SymId.SymId, SymbolType.TheVariants.{Hex, Int, Str}, Tri.{TheVariants.{M, N, Y}, Tri}}}
 use Rattle.kc_language.specs.declared.tokens.Op.TheVariants as op
 
 -- ---- `A && !B = y`

@@ -1,7 +1,7 @@
 -- The derivation of the text of an expression has no more parentheses and no more levels than any other that means the expression.
 use Rattle.std.proofs.Common.{◌≡◌, refl, ap, subst, sym, arith}
 use Rattle.std.specs.Prelude.{Bool, List, Some, [], false, if◌then◌else◌, suc, true, unwrap_or, ℕ, ◌≤◌}
-use Rattle.kc_language.specs.{Expressions.{Atom, Chain, Disjunction, Every, Form, Leaf, LoneM, Negation, Part, Single, Some_of, WordAtom, bang, compare, conjunction, forms, group, joined, levels, levels_not, levels_part, lone, meaning, meaning_not, meaning_part, negation, only, parts}, Explanations.{groups, groups_not, groups_part}, declared.expressions.{Connective.{Connective, TheVariants.{And, Or}}}}
+use Rattle.kc_language.specs.{Expressions.{Atom, Chain, Disjunction, Every, Form, Leaf, LoneM, Negation, Part, Single, Some_of, WordAtom, bang, compare, conjunction, forms, group, joined, levels, levels_not, levels_part, lone, meaning, meaning_not, meaning_part, negation, only, parts}, ExpressionTexts.{groups, groups_not, groups_part}, declared.expressions.Connective.{Connective, TheVariants.{And, Or}}}
 use Rattle.kc_language.proofs.ExpressionTexts.{chain_of, part_in, then_more, tree_of, trees_of}
 
 module _ (condition : Bool) (names : List (List ℕ)) (number : List ℕ → ℕ) where

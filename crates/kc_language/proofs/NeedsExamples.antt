@@ -1,12 +1,7 @@
 -- Examples for the chapter Needs: the tree of the examples for Values, which is accepted, and a tree with a dependency loop.
-use Rattle.std.proofs.Common.{◌≡◌, refl, arith}
-use Rattle.std.specs.List.{IsDistinct, list_any}
-use Rattle.std.specs.Prelude.{List, None, Option, Some, [], codes, filter, find, nat_eq, slice_index, suc, zero, ℕ, ◌&&◌, ◌+◌, ◌<◌, ◌∷◌}
-use Rattle.kc_language.specs.Expressions.{Single, Symbol, symbol}
-use Rattle.kc_language.specs.Needs.{IsLoopText, needs, needs_in, needs_of, unordered_after}
-use Rattle.kc_language.specs.Statements.{ConfigLine, DependsLine, Located, Numbered, TypeLine}
-use Rattle.kc_language.specs.Symbols.{TreeFacts, facts_with}
-use Rattle.kc_language.specs.declared.expressions.SymbolType.TheVariants.{Bool}
+use Rattle.std.proofs.Common.{arith, refl, ◌≡◌}
+use Rattle.std.specs.{List.{IsDistinct, list_any}, Prelude.{List, None, Option, Some, [], codes, filter, find, nat_eq, slice_index, suc, zero, ℕ, ◌&&◌, ◌+◌, ◌<◌, ◌∷◌}}
+use Rattle.kc_language.specs.{Expressions.{Single, Symbol, symbol}, Needs.{IsLoopText, needs, needs_in, needs_of, unordered_after}, Statements.{ConfigLine, DependsLine, Located, Numbered, TypeLine}, Symbols.{TreeFacts, facts_with}, declared.expressions.SymbolType.TheVariants.Bool}
 use Rattle.kc_language.proofs.ValuesExamples.{tree}
 
 -- CRC needs FAST, which it depends on, and SMALL, which selects it.

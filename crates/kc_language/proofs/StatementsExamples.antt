@@ -1,8 +1,7 @@
 -- Examples for the chapter Statements: keywords, and where a line may stand.
-use Rattle.std.proofs.Common.{◌≡◌, refl}
+use Rattle.std.proofs.Common.{refl, ◌≡◌}
 use Rattle.std.specs.Prelude.{None, Some, [], codes, true}
-use Rattle.kc_language.specs.Statements.{LineContext, cause_text, keyword_of, placement_cause}
-use Rattle.kc_language.specs.declared.{expressions.SymbolType.SymbolType, statements.Block.Block, statements.EntryKind.EntryKind}
+use Rattle.kc_language.specs.{Statements.{LineContext, cause_text, keyword_of, placement_cause}, declared.{expressions.SymbolType.SymbolType, statements.{Block.Block, EntryKind.EntryKind}}}
 use Rattle.kc_language.specs.declared.diagnostics.Cause.TheVariants as cause
 use Rattle.kc_language.specs.declared.statements.Keyword.TheVariants as key
 

@@ -1,11 +1,7 @@
 -- Examples for the chapter Symbols: the conditions of a prompt, and a symbol with two types.
-use Rattle.std.proofs.Common.{◌≡◌, refl}
-use Rattle.std.specs.Prelude.{List, None, Some, [], codes, map, ℕ, ◌∷◌}
-use Rattle.std.specs.Fmt.{digits}
-use Rattle.kc_language.specs.Expressions.{Form, Single, Symbol, symbol}
-use Rattle.kc_language.specs.Statements.{ConfigLine, DependsLine, EndMenuLine, Located, MenuLine, Numbered, TypeLine, VisibleLine}
-use Rattle.kc_language.specs.Symbols.{symbol_facts, facts_with}
-use Rattle.kc_language.specs.declared.expressions.SymbolType.TheVariants.{Bool, Str}
+use Rattle.std.proofs.Common.{refl, ◌≡◌}
+use Rattle.std.specs.{Fmt.digits, Prelude.{List, None, Some, [], codes, map, ℕ, ◌∷◌}}
+use Rattle.kc_language.specs.{Expressions.{Form, Single, Symbol, symbol}, Statements.{ConfigLine, DependsLine, EndMenuLine, Located, MenuLine, Numbered, TypeLine, VisibleLine}, Symbols.{facts_with, symbol_facts}, declared.expressions.SymbolType.TheVariants.{Bool, Str}}
 
 -- The expression that is the symbol with this number.
 abbrev name : ℕ → Form

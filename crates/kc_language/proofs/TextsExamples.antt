@@ -1,11 +1,7 @@
 -- Examples for the chapter Texts: lines and layout of the files that a run writes.
-use Rattle.std.proofs.Common.{◌≡◌, refl}
+use Rattle.std.proofs.Common.{refl, ◌≡◌}
 use Rattle.std.specs.Prelude.{None, [], codes, false, true, ◌==◌, ◌∷◌}
-use Rattle.kc_language.specs.Expressions.{TextValue, Truth, symbol}
-use Rattle.kc_language.specs.Symbols.{Condition, EndShown, MenuShown, SymbolFacts, SymbolShown, TreeFacts}
-use Rattle.kc_language.specs.Texts.{SolutionView, config_file_line, config_text, header_line, header_text, minimal_text, new_text}
-use Rattle.kc_language.specs.declared.expressions.SymbolType.TheVariants.{Bool, Hex, Str}
-use Rattle.kc_language.specs.declared.expressions.Tri.TheVariants.{M, N, Y}
+use Rattle.kc_language.specs.{Expressions.{TextValue, Truth, symbol}, Symbols.{Condition, EndShown, MenuShown, SymbolFacts, SymbolShown, TreeFacts}, Texts.{SolutionView, config_file_line, config_text, header_line, header_text, minimal_text, new_text}, declared.expressions.{SymbolType.TheVariants.{Bool, Hex, Str}, Tri.TheVariants.{M, N, Y}}}
 
 -- The `.config` line of a bool that is n, and of a string with a `"` in it.
 written_n : config_file_line false (codes "CONFIG_A") (Truth N) ≡ codes "# CONFIG_A is not set\n"

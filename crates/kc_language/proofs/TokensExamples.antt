@@ -1,8 +1,7 @@
 -- Examples for the chapter Tokens: a line that is cut to its end.
-use Rattle.std.proofs.Common.{refl, [], ◌∷◌, inr}
+use Rattle.std.proofs.Common.{[], inr, refl, ◌∷◌}
 use Rattle.std.specs.Prelude.{None, codes}
-use Rattle.kc_language.specs.Tokens.{AnOp, AQuoted, AWord, IsCut, ended, skipped, taken}
-use Rattle.kc_language.specs.declared.tokens.Op.TheVariants.{And}
+use Rattle.kc_language.specs.{Tokens.{AQuoted, AWord, AnOp, IsCut, ended, skipped, taken}, declared.tokens.Op.TheVariants.And}
 use Rattle.kc_language.proofs.ExampleTools.{and_op, quoted, word}
 
 -- The line `A && "b c" # x` is cut into a word, an operator and a quoted text. Its blanks and its comment give no token.

@@ -1,16 +1,8 @@
 -- Examples for the chapter Values: the equations of a tree of five symbols. The lines `unfolding` let the checker compute with numbers in texts.
-use Rattle.std.proofs.Common.{◌≡◌, refl}
-use Rattle.std.specs.Prelude.{List, None, Option, Some, [], codes, filter, map, slice_index_or, ℕ, ◌∷◌}
-use Rattle.std.specs.Fmt.{digits}
+use Rattle.std.proofs.Common.{refl, ◌≡◌}
+use Rattle.std.specs.{Fmt.digits, Prelude.{List, None, Option, Some, [], codes, filter, map, slice_index_or, ℕ, ◌∷◌}}
 use Prim.Native.String.{String}
-use Rattle.kc_language.specs.Expressions.{Form, Related, Single, Symbol, SymbolValue, Text, TextValue, Truth, symbol}
-use Rattle.kc_language.specs.Statements.{ChoiceLine, ConfigLine, DefaultLine, DependsLine, EndChoiceLine, ImplyLine, InputPrompt, Numbered, PromptLine, RangeLine, SelectLine, TypeLine}
-use Rattle.kc_language.specs.Symbols.{Condition, SymbolFacts, SymbolShown, TreeFacts, facts_with}
-use Rattle.kc_language.specs.Text.{natural_of}
-use Rattle.kc_language.specs.Values.{ChoicePlace, GivenTruth, GivenValue, Member, SymbolPlace, UserPlace, differs, equations, known_from, rhs, selection, written}
-use Rattle.kc_language.specs.declared.expressions.SymId.{SymId}
-use Rattle.kc_language.specs.declared.expressions.SymbolType.TheVariants.{Bool as IsBool, Int}
-use Rattle.kc_language.specs.declared.expressions.Tri.TheVariants.{N, Y}
+use Rattle.kc_language.specs.{Expressions.{Form, Related, Single, Symbol, SymbolValue, Text, TextValue, Truth, symbol}, Statements.{ChoiceLine, ConfigLine, DefaultLine, DependsLine, EndChoiceLine, ImplyLine, InputPrompt, Numbered, PromptLine, RangeLine, SelectLine, TypeLine}, Symbols.{Condition, SymbolFacts, SymbolShown, TreeFacts, facts_with}, Text.natural_of, Values.{ChoicePlace, GivenTruth, GivenValue, Member, SymbolPlace, UserPlace, differs, equations, known_from, rhs, selection, written}, declared.expressions.{SymId.SymId, SymbolType.TheVariants.{Bool as IsBool, Int}, Tri.TheVariants.{N, Y}}}
 use Rattle.kc_language.specs.declared.tokens.Op.TheVariants as op
 
 -- All examples are about the tree of this Kconfig file. Its symbols are 0 SMALL, 1 FAST, 2 CRC, 3 LOG and 4 BUFFERS.
@@ -83,19 +75,7 @@ buffers = record plain {
 abbrev ids : List SymId
 ids = symbol 0 ∷ symbol 1 ∷ symbol 2 ∷ symbol 3 ∷ symbol 4 ∷ []
 
-abbrev pub tree : TreeFacts
-tree = record {
-  names = codes "SMALL" ∷ codes "FAST" ∷ codes "CRC" ∷ codes "LOG" ∷ codes "BUFFERS" ∷ [];
-  symbols = small ∷ fast ∷ crc ∷ log ∷ buffers ∷ [];
-  defined = ids;
-  choices = record { prompt = Some always; defaults = []; members = symbol 0 ∷ symbol 1 ∷ [] } ∷ [];
-  entries = map SymbolShown ids;
-  warnings = [];
-  main_menu = codes "Main menu";
-  modules = None;
-}
-
--- The statements of that file. The tree is what they say. Only warnings would use a line's number.
+-- The statements of that file. Only warnings would use a line's number.
 abbrev prompt : String → Option Form → InputPrompt Form
 prompt text when = record { text = codes text; when = when }
 
@@ -111,7 +91,21 @@ lines =
     ∷ DefaultLine (Single (Text (codes "500"))) None
     ∷ []
 
-tree_of_the_lines : facts_with tree.names (map (λ s. record { file = codes "Kconfig"; line = 1; statement = s }) lines) ≡ tree
+-- The tree is what they say.
+abbrev pub tree : TreeFacts
+tree = record {
+  names = codes "SMALL" ∷ codes "FAST" ∷ codes "CRC" ∷ codes "LOG" ∷ codes "BUFFERS" ∷ [];
+  symbols = small ∷ fast ∷ crc ∷ log ∷ buffers ∷ [];
+  defined = ids;
+  choices = record { prompt = Some always; defaults = []; members = symbol 0 ∷ symbol 1 ∷ [] } ∷ [];
+  entries = map SymbolShown ids;
+  warnings = [];
+  main_menu = codes "Main menu";
+  modules = None;
+  lines = map (λ s. record { file = codes "Kconfig"; line = 1; statement = s }) lines;
+}
+
+tree_of_the_lines : facts_with tree.names tree.lines ≡ tree
 tree_of_the_lines = refl
 
 -- The user selects FAST, and gives nothing else.

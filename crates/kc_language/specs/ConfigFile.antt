@@ -1,9 +1,9 @@
 -- Trusted: 10. ConfigFile: what reading a `.config` and its fragments gives: the user's values, and the warnings K7 to K10, K15 and K16.
--- Source: our own, in the manner of the kernel's `conf` and kconfiglib (docs/language.md, "The `.config` file"). The result is `reading_of`, at the end.
+-- Source: our own, like the kernel's `conf` and kconfiglib (docs/language.md, "The `.config` file"). The result is `reading_of`, at the end.
 use Rattle.std.specs.{Char.is_ascii_digit, List.{enumerate_from, last_or, list_all, list_any, position_or_len, slice_split, suffix_len}, Option.option_map_or, Str.Lines.strip_carriage_return, Prelude.{Bool, List, None, Option, Some, [], bytes_eq, codes, drop, false, filter_map, find, flat_map, if◌then◌else◌, is_some, length, min, nat_le, nat_lt, not, option_and_then, option_map, position, replicate, slice_index, slice_index_or, take, take_while, true, unwrap_or, ℕ, ◌&&◌, ◌++◌, ◌+◌, ◌-◌, ◌==◌, ◌^◌, ◌∷◌, ◌≡◌}}
 use Rattle.kc_language.specs.{Expressions.{is_name_byte, same_name, symbol, tri_text}, Lines.is_line_feed, Symbols.{TreeFacts, Warning, located_warning}, Text.{byte, escape, hex_of, int_of, longest_input_line, longest_prefix, longest_value, unescape}, Tokens.is_blank, Values.{ChoicePlace, GivenText, GivenTruth, GivenValue, Member, SymbolPlace, UserPlace, facts, is_yes, name, same_given, type_in}, declared.{diagnostics.Warning.TheVariants.{Changed, MalformedLine, NotAllowed, SetAgain, TextUnset, UnknownSymbol}, expressions.{SymId.SymId, SymbolType.{SymbolType, TheVariants.{Bool as IsBool, Hex, Int, Str, Tristate, Undefined}}, Tri.{TheVariants.{M, N, Y}, Tri}}}}
 
--- A prefix, such as `CONFIG_`: at most 64 bytes that may stand in a name. The first is no digit.
+-- A prefix, such as `CONFIG_`: at most 64 bytes, each allowed in a name. The first is no digit.
 abbrev pub is_prefix : List ℕ → Bool
 is_prefix text = not (is_ascii_digit (slice_index text 0)) && (nat_le (length text) longest_prefix && list_all is_name_byte text)
 
@@ -38,7 +38,7 @@ name_and_value prefix text =
     option_and_then (λ rest. let n = position_or_len (λ b. b == byte "=") rest in
     if nat_lt 0 n && nat_lt n (length rest) then Some (take n rest, drop (n + 1) rest) else None) (without_prefix prefix text)
 
--- What a line says. Blanks at its end do not count. An unset line is looked for first. A comment's first byte that is no blank is `#`.
+-- What a line says. Blanks at its end do not count. An unset line is recognized first. Any other line is a comment if its first byte that is no blank is `#`.
 abbrev pub meaning_of : List ℕ → List ℕ → LineMeaning
 meaning_of prefix bytes =
     let text = take (length bytes - suffix_len is_blank bytes) bytes in
@@ -46,7 +46,7 @@ meaning_of prefix bytes =
     (if option_map_or (λ b. b == byte "#") (find (λ b. not (is_blank b)) text) false then Nothing
     else elim (name_and_value prefix text) [ None ↦ Malformed | Some parts ↦ Set parts.0 parts.1 ])
 
--- The bytes before the first `"`, if there is one. A `\` takes the byte after it along, even a `"`.
+-- The bytes before the first `"`, if there is one. A `\` and the byte after it are taken together, even if that byte is a `"`.
 abbrev pub until_quote : List ℕ → Option (List ℕ)
 until_quote [] = None
 until_quote (b ∷ []) = if b == byte "\"" then Some [] else None
@@ -54,8 +54,8 @@ until_quote (b ∷ c ∷ bs) =
     if b == byte "\"" then Some [] else if b == byte "\\" then option_map (λ more. b ∷ c ∷ more) (until_quote bs)
     else option_map (λ more. b ∷ more) (until_quote (c ∷ bs))
 
--- The text of a string in quotes, up to its closing `"`, where `\c` is c. A raw string has no escapes: it is all bytes between the first and the last,
--- which are a `"` each. The limit of a string's value holds for it with escapes, however a file writes it.
+-- The text of a string in quotes, up to its closing `"`, where `\c` is c. A raw string has no escapes: it is all bytes between the first and the last byte,
+-- which are both `"`. The limit of a value's length counts a raw string as if it were written with escapes.
 abbrev pub escaped_string : List ℕ → Option (List ℕ)
 escaped_string text = option_map unescape (if slice_index text 0 == byte "\"" then until_quote (drop 1 text) else None)
 
@@ -63,7 +63,7 @@ abbrev pub raw_string : List ℕ → Option (List ℕ)
 raw_string text = option_and_then (λ t. if nat_le (length (escape t) + 2) longest_value then Some t else None)
     (option_and_then (without_suffix (codes "\"")) (without_prefix (codes "\"") text))
 
--- The value that the text right of `=` gives a symbol of this type. A bool or tristate reads the first byte alone.
+-- The value that the text right of `=` gives a symbol of this type. For a bool or tristate only the first byte counts.
 abbrev pub yes_or_no : ℕ → Option Tri
 yes_or_no b = if b == byte "y" then Some Y else if b == byte "n" then Some N else None
 
@@ -102,11 +102,15 @@ effect_of is_raw tree (Set called text) =
     elim (symbol_named tree called) [ None ↦ Warns (UnknownSymbol called) | Some s ↦ set_by_type is_raw called s text (type_in (facts tree s)) ]
 effect_of is_raw tree Malformed = Warns MalformedLine
 
+-- The text right of the `=` of a set line.
+abbrev pub set_text : LineMeaning → List ℕ
+set_text said = elim said [ Set called text ↦ text | _ ↦ [] ]
+
 -- The symbol to which a line gives a value that is not allowed (K8), if the line does so.
 abbrev pub not_allowed : TreeFacts → Effect → Option SymId
 not_allowed tree e = elim e [ Warns w ↦ elim w [ NotAllowed called ↦ symbol_named tree called | _ ↦ None ] | _ ↦ None ]
 
--- A line is gone if its name is that of no symbol with a type (K7). It is on unless it is an unset line or its value is n. Last, its text with a line feed.
+-- A line is gone if no symbol with a type has its name (K7). It is on unless it is an unset line or its value is n. `said_line`: its text with a line feed.
 abbrev pub is_gone : Effect → Bool
 is_gone e = elim e [ Warns w ↦ elim w [ UnknownSymbol called ↦ true | _ ↦ false ] | _ ↦ false ]
 
@@ -128,7 +132,7 @@ pub record Line : Type 0 where
 abbrev pub is_within : Line → Bool
 is_within l = nat_le (length l.bytes) longest_input_line
 
--- What diagnostics say of a line.
+-- The file and line that diagnostics print.
 pub record StreamLocation : Type 0 where
   pub stream : List ℕ
   pub number : ℕ
@@ -146,7 +150,7 @@ lines_in_stream stream n (part ∷ next ∷ parts) =
 unfoldable pub lines_from : List ℕ → ℕ → List ℕ → List Line
 lines_from stream n bytes = lines_in_stream stream n (slice_split is_line_feed bytes)
 
--- An input file: its name, and its bytes. Each file ends its own last line.
+-- An input file: its name and its bytes. Its last line ends with the file.
 pub record Stream : Type 0 where
   pub name : List ℕ
   pub bytes : List ℕ
@@ -172,12 +176,12 @@ pub record Assignment : Type 0 where
   pub symbol : SymId
   pub given : GivenValue
 
--- f of each element and its index, where the first has index n.
+-- f of each element and its index. The first element has index n.
 abbrev pub each_from : {A B : Type 0} → (ℕ → A → B) → ℕ → List A → List B
 each_from f n [] = []
 each_from f n (x ∷ xs) = f n x ∷ each_from f (n + 1) xs
 
--- Each symbol has the value that it got last. Each choice has the member that was last made y. Without one, the place is as it was.
+-- Each symbol has the value that it got last. Each choice has the member that was last made y. Without one, the old value stays.
 unfoldable pub places_given : TreeFacts → Places → List Assignment → Places
 places_given tree places given = record {
   symbols = each_from (λ i old. last_or old (filter_map (λ a. if a.symbol.0 == i then Some a.given else None) given)) 0 places.symbols;
@@ -186,12 +190,17 @@ places_given tree places given = record {
       then Some a.symbol else None) given)) 0 places.choices;
 }
 
--- What files gave so far: values; with --warn-lost the line that gave each last, the last that was not allowed (K8), and K16; whether all lines were
--- taken as written; with --list-gone the gone lines, those that are on first; and the configuration, which with --each leads the names of fragments.
+-- A line whose value was not allowed (K8), with the text right of its `=`.
+pub record RefusedLine : Type 0 where
+  pub at : StreamLocation
+  pub value : List ℕ
+
+-- What files gave so far: user values; with --warn-lost, the line that gave each last and the last not allowed (K8), and whether K16 is reported; whether
+-- all lines were taken as written; with --list-gone, the gone lines, first those that are on; with --each, the text before the names of fragments.
 pub record UserInput : Type 0 where
   pub places : Places
   pub lines : List (Option StreamLocation)
-  pub refused : List (Option StreamLocation)
+  pub refused : List (Option RefusedLine)
   pub all_taken : Bool
   pub gone : Option (List ℕ × List ℕ)
   pub asks_unset : Bool
@@ -208,18 +217,21 @@ no_input keeps_lines tree = record {
   lead = [];
 }
 
--- Where a line stands, without the configuration: within a text that begins with the configuration.
+-- The location of a line without the name of the `.config` in front (--each), for a text that begins with that name.
 abbrev pub plain_location : List ℕ → StreamLocation → StreamLocation
 plain_location lead at = record at { stream = unwrap_or (without_prefix lead at.stream) at.stream }
 
 abbrev pub plain_line : UserInput → List (Option StreamLocation) → SymId → Option StreamLocation
 plain_line input lines s = option_map (plain_location input.lead) (slice_index_or lines s.0 None)
 
--- K16 is reported only if it is asked for. Any other warning of a line always is.
+abbrev pub plain_refused : UserInput → SymId → Option RefusedLine
+plain_refused input s = option_map (λ (r : RefusedLine). record r { at = plain_location input.lead r.at }) (slice_index_or input.refused s.0 None)
+
+-- K16 is reported only if it is requested. Any other warning about a line is always reported.
 abbrev pub is_reported : Bool → Warning → Bool
 is_reported asked w = elim w [ TextUnset called ↦ asked | _ ↦ true ]
 
--- A line is taken as written: no warning of it is reported, or only K10 with the value that the symbol already has.
+-- A line is taken as written if no warning about it is reported, except a K10 with the value that the symbol already has.
 abbrev pub is_change : Option GivenValue → GivenValue → Bool
 is_change None given = false
 is_change (Some old) given = not (same_given old given)
@@ -237,7 +249,7 @@ text_in_config is_raw kind = elim kind [ Str ↦ string_text is_raw | _ ↦ λ t
 abbrev pub value_text : Bool → SymbolType → GivenValue → List ℕ
 value_text is_raw kind given = elim given [ GivenTruth t ↦ tri_text t | GivenText text ↦ text_in_config is_raw kind text | Member m ↦ [] ]
 
--- The warning K7, K8, K9 or K16 of a line, if it is reported; or K10, if the symbol has a value already.
+-- The warning K7, K8, K9 or K16 of a line, if it is reported; or K10, if the symbol already has a value.
 abbrev pub effect_warning : Bool → TreeFacts → Places → Effect → Option Warning
 effect_warning asked tree places e =
     elim e [ Silent ↦ None | Warns w ↦ if is_reported asked w then Some w else None | Assigns s given ↦ if is_some (place_at places (SymbolPlace s.0)) then Some (SetAgain (name tree s)) else None ]
@@ -276,11 +288,14 @@ module _ (tree : TreeFacts) (notation : Notation) where
       elim (effect l) [ Assigns s given ↦ if s.0 == i then Some (stream_location l) else None | _ ↦ None ]) lines)) 0 old
 
   -- For each symbol the last line whose value was not allowed (K8).
-  unfoldable pub refused_after : List (Option StreamLocation) → List Line → List (Option StreamLocation)
+  unfoldable pub refused_after : List (Option RefusedLine) → List Line → List (Option RefusedLine)
   refused_after old lines = each_from (λ i last. last_or last (filter_map (λ l.
-      elim (not_allowed tree (effect l)) [ Some s ↦ if s.0 == i then Some (stream_location l) else None | None ↦ None ]) lines)) 0 old
+      elim (not_allowed tree (effect l)) [
+        | Some s ↦ if s.0 == i then Some (record { at = stream_location l; value = set_text (line_meaning l) }) else None
+        | None ↦ None
+      ]) lines)) 0 old
 
-  -- The texts of the gone lines: those of this kind, and those before and among these lines.
+  -- The texts of these lines that are gone and of this kind; all gone lines, if `old` are those before these lines.
   abbrev pub gone_text : (LineMeaning → Bool) → List Line → List ℕ
   gone_text is_kind lines = flat_map (λ l. if is_gone (effect l) && is_kind (line_meaning l) then said_line notation.prefix (line_meaning l) else []) lines
 

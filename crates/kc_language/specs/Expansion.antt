@@ -1,10 +1,10 @@
 -- Trusted: 6. Expansion: the statements of a tree of Kconfig files in the order of reading, or the first error of a line.
--- Source: the kernel's kconfig-language document (`source`, blocks, entries). The limits are our own. Begin with `Expands` to go from whole to parts.
-use Rattle.std.specs.{List.{before_first, filter_map, flat_map, last_or, list_any, take_while}, Map.{lookup}, Prelude.{All, Bool, Err, List, MatchOption, None, Ok, Option, Result, Some, [], codes, drop, false, filter, if◌then◌else◌, is_some, length, map, min, nat_le, nat_lt, option_and_then, option_map, slice_get, suc, take, true, zero, ℕ, ◌&&◌, ◌++◌, ◌+◌, ◌-◌, ◌^◌, ◌||◌, ◌∷◌, ◌≡◌, ◌≢◌}}
+-- Source: the kernel's kconfig-language document (`source`, blocks, entries). The limits are our own. Begin with `Expands`.
+use Rattle.std.specs.{List.{before_first, filter_map, flat_map, last_or, list_any, take_while}, Map.{lookup}, Prelude.{All, Bool, Err, List, MatchOption, None, Ok, Option, Result, Some, [], codes, drop, false, filter, if◌then◌else◌, is_some, length, map, min, nat_le, nat_lt, option_and_then, slice_get, suc, take, true, zero, ℕ, ◌&&◌, ◌++◌, ◌+◌, ◌-◌, ◌^◌, ◌||◌, ◌∷◌, ◌≡◌, ◌≢◌}}
 use Rattle.kc_language.specs.{Expressions.{all_mentioned, mention, number_of, same_name}, Lines.{IsTooLong, TakesLine, UnreadLines, after_help, physical_lines, unread_lines}, Statements.{Cause, ChoiceLine, CommentLine, ConfigLine, EndChoiceLine, EndIfLine, EndMenuLine, IfLine, LineContext, Located, MainMenuLine, MenuLine, ModulesLine, Named, Numbered, ReadsLine, ReadsSource, SourceLine, Statement, begins_with, names_in_statement, numbered, statements}, Text.{byte, most_lines, most_open, most_symbols, natural_of}, Tokens.{IsCutIn, Lexeme}, declared.{statements.{Block.Block, EntryKind.{EntryKind, TheVariants.{Choice, Comment, Config, Menu, Nothing}}}, tokens.TextFault.{TextFault, TheVariants.{BadToken, LineTooLong, Macro, Memory}}}}
 use Rattle.kc_language.specs.declared.diagnostics.Cause.TheVariants as cause
 
--- The bytes of each file by its name, where there is such a file, and whether the root file is flat: it is all of the tree. `bytes_in` looks in a list.
+-- The bytes of each file that exists, by its name, and whether the root file is flat, that is, holds the whole tree. `bytes_in` searches a list.
 pub record Files : Type 0 where
   pub bytes : List ℕ → Option (List ℕ)
   pub flat : Bool
@@ -50,13 +50,13 @@ module _ {E L S : Type 0} where
   abbrev pub bracket_at : List (Statement E L S) → ℕ → Bracket
   bracket_at ss j = elim (slice_get ss j) [ None ↦ NoBracket | Some s ↦ bracket s ]
 
-  -- A block stays open through these statements, where d blocks are open inside it.
+  -- Whether a block stays open through these statements, if d blocks are open inside it at first.
   abbrev pub stays_open : ℕ → List (Statement E L S) → Bool
   stays_open d [] = true
   stays_open d (s ∷ ss) =
       elim (bracket s) [ Opens k ↦ stays_open (suc d) ss | Closes ↦ elim d [ zero ↦ false | suc n ↦ stays_open n ss ] | NoBracket ↦ stays_open d ss ]
 
-  -- The indices of the statements that open a block that is still open after the last statement, the outermost first. Their blocks.
+  -- The indices of the statements whose blocks are still open after the last statement, the outermost first; and these blocks.
   abbrev pub open_block_indices : List (Statement E L S) → List ℕ
   open_block_indices ss = filter (λ j. is_some (opened (bracket_at ss j)) && stays_open 0 (drop (suc j) ss)) (numbers (length ss))
 
@@ -67,7 +67,7 @@ module _ {E L S : Type 0} where
   abbrev pub enclosing : List (Statement E L S) → ℕ → List ℕ
   enclosing ss i = open_block_indices (take i ss)
 
-  -- An attribute: no line of a block, no `config`, `comment`, `source` or `mainmenu` line. It belongs to the entry before it. Those of the entry at j.
+  -- An attribute is no line of a block and no `config`, `comment`, `source` or `mainmenu` line. It belongs to the entry before it. `attributes`: all of entry j.
   abbrev pub is_attribute : Statement E L S → Bool
   is_attribute s =
       elim (bracket s) [ NoBracket ↦ elim s [ ConfigLine n ↦ false | CommentLine t ↦ false | SourceLine t ↦ false | MainMenuLine t ↦ false | _ ↦ true ] | _ ↦ false ]
@@ -104,7 +104,7 @@ abbrev pub numbered_lines : List (Located Named) → List (Located Numbered)
 numbered_lines ls = map (λ l. record { file = l.file; line = l.line; statement = numbered (number_of (mentioned_names (statements ls))) l.statement }) ls
 
 -- ---- What a line is read with
--- An error and where it stands: a file and a line. A dependency loop has no location.
+-- An error with its file and line. A dependency loop has no location.
 pub record Refused : Type 0 where
   pub cause : Cause
   pub location : Option (List ℕ × ℕ)
@@ -112,23 +112,23 @@ pub record Refused : Type 0 where
 abbrev pub refusal_at : Cause → List ℕ → ℕ → Refused
 refusal_at c file line = record { cause = c; location = Some (file, line) }
 
--- What surrounds a file: the open files, of which it is the last, and the blocks that are open in the files that source it.
+-- The context of a file: the open files, of which it is the last, and the blocks that are open in the files that source it.
 pub record FileContext : Type 0 where
   pub open_files : List (List ℕ)
   pub file : List ℕ
   pub blocks : List Block
 
--- What was read of all files: their statements, the number of their physical lines, and their names, each once, in the order of opening.
+-- What was read of all files: their statements, the number of their physical lines, and the names of the files, each once, in the order of opening.
 pub record ReadSoFar : Type 0 where
   pub lines : List (Located Named)
   pub total_lines : ℕ
   pub opened : List (List ℕ)
 
--- The next line may be a `modules` line: there was none, or the symbol defined last is the modules symbol.
+-- The next line may be a `modules` line: there was none before, or the symbol defined last is the modules symbol.
 abbrev pub may_be_modules : List Named → Bool
 may_be_modules ss = elim (modules_of ss) [ None ↦ true | Some n ↦ elim (last_of (definitions ss)) [ None ↦ false | Some m ↦ same_name n m ] ]
 
--- The context of a file's next line, where own are the file's statements so far.
+-- The context of a file's next line. `own` are the file's statements so far.
 abbrev pub is_choice_block : Block → Bool
 is_choice_block b = elim b [ Block.Choice ↦ true | _ ↦ false ]
 
@@ -140,24 +140,24 @@ context_of a own log = record {
   modules = may_be_modules (statements log.lines);
 }
 
--- The limit that this statement passes: too many symbols are defined (E16), or too many blocks are open (E12).
+-- The limit that this statement exceeds: too many symbols are defined (E16), or too many blocks are open (E12).
 abbrev pub limit_cause : FileContext → List (Located Named) → ReadSoFar → Named → Option Cause
 limit_cause a own log (ConfigLine n) =
     if nat_lt most_symbols (length (mention (all_mentioned [] (definitions (statements log.lines))) n)) then Some cause.TooManySymbols else None
 limit_cause a own log s =
     option_and_then (λ b. if nat_le most_open (length a.blocks + length (open_blocks (statements own))) then Some cause.TooDeep else None) (opened (bracket s))
 
--- Why a file cannot be opened, where n physical lines were read before: there is none (E1), or the lines are too many (E3).
+-- Why a file cannot be opened after n physical lines were read: it does not exist (E1), or the lines are too many (E3).
 abbrev pub bytes_cause : List ℕ → ℕ → Option (List ℕ) → Option Cause
 bytes_cause name n None = Some (cause.NoFile name)
 bytes_cause name n (Some bytes) = if nat_lt most_lines (n + length (physical_lines bytes)) then Some cause.TooManyLines else None
 
--- Why a file cannot be sourced, where these files are open: it is one of them (E2), they are too many (E12), or it cannot be opened.
+-- Why a file cannot be sourced while these files are open: it is one of them (E2), they are too many (E12), or it cannot be opened.
 abbrev pub sourcing_cause : Files → List (List ℕ) → ℕ → List ℕ → Option Cause
 sourcing_cause files names n name = if list_any (same_name name) names then Some (cause.InclusionLoop name)
     else if nat_le most_open (length names) then Some cause.TooDeep else bytes_cause name n (sourced files name)
 
--- A sourced file: what surrounds it, and the log as it is opened.
+-- The context of a sourced file, and the log once the file is opened.
 abbrev pub inside : FileContext → List (Located Named) → List ℕ → FileContext
 inside a own name = record { open_files = a.open_files ++ name ∷ []; file = name; blocks = a.blocks ++ open_blocks (statements own) }
 
@@ -173,7 +173,7 @@ with_line ls a n s = ls ++ record { file = a.file; line = n; statement = s } ∷
 abbrev pub without_help : UnreadLines → UnreadLines
 without_help l = record l { lines = after_help l.lines; number = min (l.number + (length l.lines - length (after_help l.lines))) (2 ^ 32 - 1) }
 
--- The next logical line of l is cut into these tokens, up to a place that cannot be cut if `out` is a fault. After it and its help text m is left.
+-- The next logical line of l is cut into these tokens, up to a position that cannot be cut if `out` is a fault. m is left after it and its help text.
 pub record NextLine (flat : Bool) (l m : UnreadLines) (ts : List Lexeme) (out : Option TextFault) : Type 0 where
   pub middle : UnreadLines
   pub text : List ℕ
@@ -181,7 +181,7 @@ pub record NextLine (flat : Bool) (l m : UnreadLines) (ts : List Lexeme) (out : 
   pub cut : IsCutIn flat text ts out
   pub left_after : m ≡ (if begins_with (codes "help") ts || begins_with (codes "---help---") ts then without_help middle else middle)
 
--- A marker, `# 27 "drivers/net/Kconfig"`: the next line is this line of this file. The next line is one, and m is left after it; or it is blank, and none.
+-- A marker `# 27 "drivers/net/Kconfig"` gives the next line's file and number. `MarksNext`: the next line is a marker. `IsBlankNext`: it is blank and no marker.
 abbrev pub IsMarker : List ℕ → ℕ → List ℕ → Type 0
 IsMarker text n name = (digits : List ℕ) × (text ≡ codes "# " ++ digits ++ codes " \"" ++ name ++ codes "\"") × (natural_of 10 (2 ^ 32) digits ≡ Some n)
     × All (λ b. b ≢ byte "\"") name
@@ -208,62 +208,110 @@ abbrev pub IsUnclosed : List (Located Named) → Located Named → Type 0
 IsUnclosed own opener = (j : ℕ) × (last_of (open_block_indices (statements own)) ≡ Some j) × (slice_get own j ≡ Some opener)
 
 -- ---- A whole file
--- What the rest of a file gives: the log at its end, or the first error. l is unread of it, own are its statements so far, log is what was read.
-pub data Rest (files : Files) : FileContext → UnreadLines → List (Located Named) → ReadSoFar → Result ReadSoFar Refused → Type 0 where
-  at_end : (a : FileContext) (l : UnreadLines) (own : List (Located Named)) (log : ReadSoFar) → l.lines ≡ [] → open_blocks (statements own) ≡ [] →
-      Rest files a l own log (Ok log)
-  unclosed : (a : FileContext) (l : UnreadLines) (own : List (Located Named)) (log : ReadSoFar) (opener : Located Named) → l.lines ≡ [] → IsUnclosed own opener →
-      Rest files a l own log (Err (refusal_at cause.Block opener.file opener.line))
-  too_long : (a : FileContext) (l : UnreadLines) (own : List (Located Named)) (log : ReadSoFar) → IsTooLong l →
-      Rest files a l own log (Err (refusal_at cause.LineTooLong a.file l.number))
-  no_tokens : (a : FileContext) (l m : UnreadLines) (own : List (Located Named)) (log : ReadSoFar) (ts : List Lexeme) (why : TextFault) →
-      NextLine files.flat l m ts (Some why) → Rest files a l own log (Err (refusal_at (text_cause why) a.file l.number))
-  blank : (a : FileContext) (l m : UnreadLines) (own : List (Located Named)) (log : ReadSoFar) (r : Result ReadSoFar Refused) →
-      IsBlankNext files.flat l m → Rest files a m own log r → Rest files a l own log r
-  -- A marker of the same file changes the number alone. One of another file is like a `source` line whose file's lines follow here.
-  renumbered : (a : FileContext) (l m : UnreadLines) (own : List (Located Named)) (log : ReadSoFar) (n : ℕ) (r : Result ReadSoFar Refused) →
-      MarksNext files.flat l m n a.file → Rest files a (record m { number = n }) own log r → Rest files a l own log r
-  moved : (a : FileContext) (l m : UnreadLines) (own : List (Located Named)) (log : ReadSoFar) (n : ℕ) (name : List ℕ) (r : Result ReadSoFar Refused) →
-      MarksNext files.flat l m n name → same_name name a.file ≡ false → Rest files (record a { file = name }) (record m { number = n })
-      (with_line own a l.number (SourceLine name)) (record log { opened = mention log.opened name }) r → Rest files a l own log r
-  bad_line : (a : FileContext) (l m : UnreadLines) (own : List (Located Named)) (log : ReadSoFar) (c : Cause) →
-      NextStatement files.flat l m (context_of a own log) (Err c) → Rest files a l own log (Err (refusal_at c a.file l.number))
-  over_limit : (a : FileContext) (l m : UnreadLines) (own : List (Located Named)) (log : ReadSoFar) (s : Named) (c : Cause) →
-      NextStatement files.flat l m (context_of a own log) (Ok s) → limit_cause a own log s ≡ Some c → Rest files a l own log (Err (refusal_at c a.file l.number))
-  statement : (a : FileContext) (l m : UnreadLines) (own : List (Located Named)) (log : ReadSoFar) (s : Named) (r : Result ReadSoFar Refused) →
-      NextStatement files.flat l m (context_of a own log) (Ok s) → elim s [ SourceLine t ↦ true | _ ↦ false ] ≡ false → limit_cause a own log s ≡ None →
-      Rest files a m (with_line own a l.number s) (record log { lines = with_line log.lines a l.number s }) r → Rest files a l own log r
-  bad_source : (a : FileContext) (l m : UnreadLines) (own : List (Located Named)) (log : ReadSoFar) (name : List ℕ) (c : Cause) →
-      NextStatement files.flat l m (context_of a own log) (Ok (SourceLine name)) → sourcing_cause files a.open_files log.total_lines name ≡ Some c →
-      Rest files a l own log (Err (refusal_at c a.file l.number))
-  refused_inside : (a : FileContext) (l m : UnreadLines) (own : List (Located Named)) (log : ReadSoFar) (name bytes : List ℕ) (e : Refused) →
-      NextStatement files.flat l m (context_of a own log) (Ok (SourceLine name)) → sourcing_cause files a.open_files log.total_lines name ≡ None →
-      sourced files name ≡ Some bytes → Rest files (inside a own name) (unread_lines bytes 1) [] (with_file log name bytes) (Err e) → Rest files a l own log (Err e)
-  source : (a : FileContext) (l m : UnreadLines) (own : List (Located Named)) (log more : ReadSoFar) (name bytes : List ℕ) (r : Result ReadSoFar Refused) →
-      NextStatement files.flat l m (context_of a own log) (Ok (SourceLine name)) → sourcing_cause files a.open_files log.total_lines name ≡ None →
-      sourced files name ≡ Some bytes → Rest files (inside a own name) (unread_lines bytes 1) [] (with_file log name bytes) (Ok more) →
-      Rest files a m (with_line own a l.number (SourceLine name)) more r → Rest files a l own log r
+-- The state of reading a file: its context, what is unread of it, its statements so far, and what was read of all files.
+pub record Reading : Type 0 where
+  pub context : FileContext
+  pub unread : UnreadLines
+  pub own : List (Located Named)
+  pub log : ReadSoFar
 
--- The root file expands to this log, or to the first error. At first no other file is open. Of a flat tree only the markers' files count as opened.
+-- The next line is read as s, and m is left after it.
+abbrev pub Says : Files → Reading → UnreadLines → Result Named Cause → Type 0
+Says files at m s = NextStatement files.flat at.unread m (context_of at.context at.own at.log) s
+
+abbrev pub limit_at : Reading → Named → Option Cause
+limit_at at s = limit_cause at.context at.own at.log s
+
+abbrev pub source_fault : Files → Reading → List ℕ → Option Cause
+source_fault files at name = sourcing_cause files at.context.open_files at.log.total_lines name
+
+-- The next line has an error with this cause.
+pub data IsRefusedHere (files : Files) (at : Reading) : Cause → Type 0 where
+  too_long : IsTooLong at.unread → IsRefusedHere files at cause.LineTooLong
+  no_tokens : (m : UnreadLines) (ts : List Lexeme) (why : TextFault) → NextLine files.flat at.unread m ts (Some why) → IsRefusedHere files at (text_cause why)
+  bad_line : (m : UnreadLines) (c : Cause) → Says files at m (Err c) → IsRefusedHere files at c
+  over_limit : (m : UnreadLines) (s : Named) (c : Cause) → Says files at m (Ok s) → limit_at at s ≡ Some c → IsRefusedHere files at c
+  bad_source : (m : UnreadLines) (name : List ℕ) (c : Cause) → Says files at m (Ok (SourceLine name)) → source_fault files at name ≡ Some c → IsRefusedHere files at c
+
+-- A statement that is no `source` line is read, and m is left after it.
+abbrev pub with_statement : Reading → UnreadLines → Named → Reading
+with_statement at m s = record at {
+  unread = m;
+  own = with_line at.own at.context at.unread.number s;
+  log = record at.log { lines = with_line at.log.lines at.context at.unread.number s };
+}
+
+-- A marker says that line n of this file follows. It acts like a `source` line whose file's lines follow here.
+abbrev pub moved_to : Reading → UnreadLines → ℕ → List ℕ → Reading
+moved_to at m n name = record {
+  context = record at.context { file = name };
+  unread = record m { number = n };
+  own = with_line at.own at.context at.unread.number (SourceLine name);
+  log = record at.log { opened = mention at.log.opened name };
+}
+
+-- The next line is read and opens no file; the second state is the one after it. A marker of the same file changes only the line number.
+pub data GoesOn (files : Files) (at : Reading) : Reading → Type 0 where
+  blank : (m : UnreadLines) → IsBlankNext files.flat at.unread m → GoesOn files at (record at { unread = m })
+  renumbered : (m : UnreadLines) (n : ℕ) → MarksNext files.flat at.unread m n at.context.file → GoesOn files at (record at { unread = record m { number = n } })
+  moved : (m : UnreadLines) (n : ℕ) (name : List ℕ) → MarksNext files.flat at.unread m n name → same_name name at.context.file ≡ false →
+      GoesOn files at (moved_to at m n name)
+  statement : (m : UnreadLines) (s : Named) → Says files at m (Ok s) → elim s [ SourceLine t ↦ true | _ ↦ false ] ≡ false → limit_at at s ≡ None →
+      GoesOn files at (with_statement at m s)
+
+-- The next line is a `source` line, and its file is opened. The state in that file; the state after the line, if `more` was read by the end of that file.
+pub record OpensFile (files : Files) (at : Reading) : Type 0 where
+  pub after : UnreadLines
+  pub name : List ℕ
+  pub bytes : List ℕ
+  pub next : Says files at after (Ok (SourceLine name))
+  pub allowed : source_fault files at name ≡ None
+  pub found : sourced files name ≡ Some bytes
+
+abbrev pub in_file : {files : Files} (at : Reading) → OpensFile files at → Reading
+in_file at f = record { context = inside at.context at.own f.name; unread = unread_lines f.bytes 1; own = []; log = with_file at.log f.name f.bytes }
+
+abbrev pub after_file : {files : Files} (at : Reading) → OpensFile files at → ReadSoFar → Reading
+after_file at f more = record at { unread = f.after; own = with_line at.own at.context at.unread.number (SourceLine f.name); log = more }
+
+-- The result of the rest of a file: what was read up to its end, or the first error.
+pub data Rest (files : Files) : Reading → Result ReadSoFar Refused → Type 0 where
+  at_end : (at : Reading) → at.unread.lines ≡ [] → open_blocks (statements at.own) ≡ [] → Rest files at (Ok at.log)
+  unclosed : (at : Reading) (opener : Located Named) → at.unread.lines ≡ [] → IsUnclosed at.own opener →
+      Rest files at (Err (refusal_at cause.Block opener.file opener.line))
+  refused : (at : Reading) (c : Cause) → IsRefusedHere files at c → Rest files at (Err (refusal_at c at.context.file at.unread.number))
+  goes_on : (at next : Reading) (r : Result ReadSoFar Refused) → GoesOn files at next → Rest files next r → Rest files at r
+  refused_inside : (at : Reading) (f : OpensFile files at) (e : Refused) → Rest files (in_file at f) (Err e) → Rest files at (Err e)
+  source : (at : Reading) (f : OpensFile files at) (more : ReadSoFar) (r : Result ReadSoFar Refused) → Rest files (in_file at f) (Ok more) →
+      Rest files (after_file at f more) r → Rest files at r
+
+-- The root file expands to this log or to the first error. At first no other file is open. In a flat tree only the files of markers count as opened.
 abbrev pub first_log : Files → List ℕ → List ℕ → ReadSoFar
 first_log files root bytes = record { lines = []; total_lines = length (physical_lines bytes); opened = if files.flat then [] else root ∷ [] }
 
+abbrev pub at_root : Files → List ℕ → List ℕ → Reading
+at_root files root bytes = record {
+  context = record { open_files = root ∷ []; file = root; blocks = [] };
+  unread = unread_lines bytes 1;
+  own = [];
+  log = first_log files root bytes;
+}
+
 abbrev pub Expands : Files → List ℕ → Result ReadSoFar Refused → Type 0
 Expands files root r = MatchOption (bytes_cause root 0 (files.bytes root))
-    ((bytes : List ℕ) × (files.bytes root ≡ Some bytes) × Rest files (record { open_files = root ∷ []; file = root; blocks = [] })
-    (unread_lines bytes 1) [] (first_log files root bytes) r)
+    ((bytes : List ℕ) × (files.bytes root ≡ Some bytes) × Rest files (at_root files root bytes) r)
     (λ c. r ≡ Err (refusal_at c root 0))
 
--- Where the root file is accepted, these are the files that are opened, each once, as first opened.
+-- If the root file is accepted, these are the files that it opens, each once, in the order of first opening.
 abbrev pub AreOpened : Files → List ℕ → List (List ℕ) → Type 0
 AreOpened files root names = (log : ReadSoFar) → Expands files root (Ok log) → names ≡ log.opened
 
--- ---- The files that one file names, read by itself (no flat file)
+-- ---- The files that one file names, if it is read alone and is not flat
 -- The next line is a `source` line with this name. After it m is left.
 abbrev pub IsSource : UnreadLines → UnreadLines → List ℕ → Type 0
 IsSource l m name = (ts : List Lexeme) × NextLine false l m ts None × (begins_with (codes "source") ts ≡ true) × ReadsSource (drop 1 ts) (Ok (SourceLine name))
 
--- From l to m there are only lines that are no `source` lines.
+-- Each line from l to m can be cut and is no `source` line.
 pub data Passes : UnreadLines → UnreadLines → Type 0 where
   here : (l : UnreadLines) → Passes l l
   past : (l m n : UnreadLines) → (ts : List Lexeme) × NextLine false l m ts None × (begins_with (codes "source") ts ≡ false) → Passes m n → Passes l n

@@ -198,7 +198,7 @@ mutual
 abbrev pub Disjunction : Type 0
 Disjunction = Chain Or
 
--- The tokens that it derives.
+-- The tokens of a derivation.
 abbrev mutual
   pub spell : {c : Connective} → Chain c → List Terminal
   spell (only p) = spell_part p
@@ -214,7 +214,7 @@ abbrev mutual
   spell_not (lone a) = OperandToken a ∷ []
   spell_not (compare o a b) = OperandToken a ∷ Compares o ∷ OperandToken b ∷ []
 
--- Its levels: the most `(` and `!` that are open at once.
+-- The levels of a derivation: the most `(` and `!` that are open at once.
 abbrev mutual
   pub levels : {c : Connective} → Chain c → ℕ
   levels (only p) = levels_part p
@@ -234,8 +234,8 @@ abbrev mutual
 abbrev pub leaf : (List ℕ → ℕ) → Atom → Leaf
 leaf number a = elim a [ WordAtom w ↦ if is_some (tristate_constant w) then Text w else Symbol (symbol (number w)) | QuotedAtom q ↦ Text (unescape q) ]
 
--- The expression: two parts or more are one `Every` or `Some_of`, a single part is itself, and parentheses add nothing.
--- In a condition, an operand m (quoted or not) that stands alone is a lone `m`, which also asks for the modules symbol.
+-- The expression of a derivation: two parts or more are one `Every` or `Some_of`, a single part is itself, and parentheses add nothing.
+-- In a condition, an operand m (quoted or not) that is alone is a lone `m`. Its value also depends on the modules symbol.
 module _ (condition : Bool) (number : List ℕ → ℕ) where
   abbrev mutual
     pub meaning : {c : Connective} → Chain c → Form

@@ -1,11 +1,12 @@
--- The language, in thirteen chapters.
+-- The language, in fourteen chapters.
 pub mod ConfigFile
 pub mod Expansion
-pub mod Explanations
+pub mod ExpressionTexts
 pub mod Expressions
+pub mod Files
 pub mod Lines
 pub mod Needs
-pub mod Outcome
+pub mod Sources
 pub mod Statements
 pub mod Symbols
 pub mod Text

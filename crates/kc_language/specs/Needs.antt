@@ -1,5 +1,5 @@
 -- Trusted: 9. Needs: which symbols the equation of a symbol names, which trees are accepted, and which dependency loop is reported.
--- Source: the kernel's kconfig-language document refuses recursive dependencies; which symbols count, and which loop is named, is our own.
+-- Source: the kernel's kconfig-language document refuses recursive dependencies. Which symbols count, and which loop is reported, is our own.
 use Rattle.std.specs.{List.{IsDistinct, filter, flat_map, list_any, range_with_len}, Prelude.{Bool, List, None, Option, Some, [], codes, false, find, length, map, nat_eq, nat_lt, slice_index, slice_index_or, suc, take, true, zero, ℕ, ◌&&◌, ◌++◌, ◌+◌, ◌<◌, ◌∷◌, ◌≡◌}}
 use Rattle.kc_language.specs.{Expansion.{Refused}, Expressions.{leaf_symbols, symbol, symbols}, Symbols.{Bounds, ChoiceFacts, Condition, Guarded, SymbolFacts, TreeFacts, listed}, Values.{choice_at, facts, name, name_count}, declared.{diagnostics.Cause.Cause, expressions.{SymId.SymId, SymbolType.{SymbolType, TheVariants.{Bool as IsBool, Str, Tristate, Undefined}}}}}
 
@@ -29,7 +29,7 @@ module _ (tree : TreeFacts) where
   abbrev pub names_by_type : SymbolFacts → SymbolType → List SymId
   names_by_type f k = elim k [ Undefined ↦ [] | IsBool ↦ names_of_truth f | Tristate ↦ names_of_truth f | Str ↦ names_of_all f | _ ↦ names_of_number f ]
 
-  -- A member of a choice, instead: the prompt conditions of all members, the choice's prompt condition, and the conditions of its defaults.
+  -- A member of a choice instead names what these name: the prompts of all members, the choice's prompt, and the conditions of its defaults.
   abbrev pub names_of_choice : Option ChoiceFacts → List SymId
   names_of_choice None = []
   names_of_choice (Some c) = flat_map (λ m. elim (facts tree m) [ None ↦ [] | Some f ↦ flat_map condition_names f.prompts ]) c.members ++
@@ -77,7 +77,7 @@ arrows tree ss = flat_map (λ s. codes " -> " ++ name tree (symbol s)) ss
 abbrev pub loop_text : TreeFacts → List ℕ → List ℕ
 loop_text tree loop = elim loop [ [] ↦ [] | s ∷ ss ↦ name tree (symbol s) ++ arrows tree ss ++ arrows tree (s ∷ []) ]
 
--- The text of the tree's loop: of several symbols the walk takes the one that is defined first. The refusal has no location.
+-- The text of the tree's loop. If the walk can go on to several symbols, it takes the one that is defined first. The refusal has no location.
 abbrev pub IsLoopText : TreeFacts → List ℕ → Type 0
 IsLoopText tree text = (loop : List ℕ) ×
     IsNamedLoop (map (λ (s : SymId). s.0) tree.defined) (length (needs tree)) (needs_in (needs tree)) loop × (text ≡ loop_text tree loop)

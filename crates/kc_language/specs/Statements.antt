@@ -1,12 +1,12 @@
--- Trusted: 5. Statements: what one line of a Kconfig file says, and where it may stand.
--- Source: the kernel's kconfig-language document. The errors and what is left out are our own. From the whole to the parts: begin with `ReadsLine`.
+-- Trusted: 5. Statements: what one line of a Kconfig file says, and where it is allowed.
+-- Source: the kernel's kconfig-language document. The errors and the unsupported constructs are our own. Begin with `ReadsLine`, at the end.
 use Rattle.std.specs.{List.{list_all, list_any}, Map.{lookup}, Prelude.{Bool, Err, List, MatchResult, None, Ok, Option, Result, Some, [], codes, decimal, drop, false, if◌then◌else◌, is_some, length, map, nat_le, not, option_map, true, ℕ, ◌&&◌, ◌++◌, ◌==◌, ◌||◌, ◌∷◌, ◌≡◌, ◌≤◌, ◌⊎◌}}
-use Rattle.kc_language.specs.{Expressions.{Atom, Disjunction, Form, IsNoExpression, IsTooDeep, Leaf, LongestFront, QuotedAtom, WordAtom, if_word, is_name_byte, leaf, levels, meaning, names_in, names_in_atom, same_name, spell, symbol, terminal_of, tristate_constant}, Text.{byte, longest_line, longest_name, most_lines, most_open, most_symbols, unescape}, Tokens.{AQuoted, AWord, Lexeme}, declared.{diagnostics.Cause.Cause as CauseAbout, expressions.{SymId.SymId, SymbolType.SymbolType}, statements.{Block.Block, EntryKind.EntryKind, Keyword.Keyword}}}
+use Rattle.kc_language.specs.{Expressions.{Atom, Disjunction, Form, IsNoExpression, IsTooDeep, Leaf, LongestFront, QuotedAtom, WordAtom, if_word, is_name_byte, leaf, levels, meaning, names_in, names_in_atom, same_name, spell, symbol, terminal_of, tristate_constant}, Text.{byte, longest_input_line, longest_line, longest_name, most_lines, most_open, most_symbols, unescape}, Tokens.{AQuoted, AWord, Lexeme}, declared.{diagnostics.{Cause.Cause as CauseAbout, RunError.RunError}, expressions.{SymId.SymId, SymbolType.SymbolType}, statements.{Block.Block, EntryKind.EntryKind, Keyword.Keyword}}}
 use Rattle.kc_language.specs.declared.diagnostics.Cause.TheVariants as cause
 use Rattle.kc_language.specs.declared.statements.Keyword.TheVariants as key
 
 -- ---- Errors
--- Why there is no tree, with the name, word or loop that the error is about.
+-- Why a tree is refused, with the name, word or loop that the error is about.
 abbrev pub Cause : Type 0
 Cause = CauseAbout (List ℕ)
 
@@ -30,12 +30,29 @@ cause_text (cause.Loop names) = codes "E15: dependency loop: " ++ names
 cause_text cause.TooManySymbols = codes "E16: more than " ++ decimal most_symbols ++ codes " symbols"
 cause_text cause.Memory = codes "E20: out of memory"
 
--- An error is shown as the line `FILE:LINE: error TEXT`, or as `error TEXT` where it is about no line.
+-- An error is printed as the line `FILE:LINE: error TEXT`, or as `error TEXT` if it is not about a line.
 abbrev pub error_at : List ℕ → ℕ → List ℕ → List ℕ
 error_at file line text = file ++ codes ":" ++ decimal line ++ codes ": error " ++ text ++ codes "\n"
 
 abbrev pub error_line : List ℕ → List ℕ
 error_line text = codes "error " ++ text ++ codes "\n"
+
+-- The text of each error of a run, and two error lines. A name that make cannot read is reported up to its first line feed.
+abbrev pub run_error_text : RunError (List ℕ) → List ℕ
+run_error_text RunError.LineTooLong = codes "E17: line longer than " ++ decimal longest_input_line ++ codes " bytes"
+run_error_text (RunError.CannotRead name) = codes "E18: cannot read " ++ name
+run_error_text (RunError.CannotWrite name) = codes "E19: cannot write " ++ name
+run_error_text RunError.Memory = codes "E20: out of memory"
+run_error_text RunError.WarningsRefused = codes "E21: warnings are refused"
+run_error_text (RunError.NotUpToDate name) = codes "E22: " ++ name ++ codes " is not up to date"
+run_error_text (RunError.UnreadableName name) = codes "E23: make cannot read the name " ++ name
+run_error_text (RunError.UnknownName name near) = codes "E24: no symbol has the name " ++ name ++ near
+
+abbrev pub out_of_memory_line : List ℕ
+out_of_memory_line = error_line (run_error_text RunError.Memory)
+
+abbrev pub cannot_read_line : List ℕ → List ℕ
+cannot_read_line name = error_line (run_error_text (RunError.CannotRead name))
 
 -- ---- Statements
 -- A prompt's text and its condition.
@@ -43,7 +60,7 @@ pub record InputPrompt (E : Type 0) : Type 0 where
   pub text : List ℕ
   pub when : Option E
 
--- What a line says, where E is the type of expressions, L of operands and S of names. An `Option E` is a condition after `if`.
+-- What a line says. E is the type of expressions, L of operands and S of names. An `Option E` is a condition after `if`.
 pub data Statement (E L S : Type 0) : Type 0 where
   ConfigLine : S → Statement E L S
   IfLine : E → Statement E L S
@@ -67,7 +84,7 @@ Named = Statement Disjunction Atom (List ℕ)
 abbrev pub Numbered : Type 0
 Numbered = Statement Form Leaf SymId
 
--- A statement and where it stands. `statements` forgets where.
+-- A statement with its file and line. `statements` drops the file and line.
 pub record Located (T : Type 0) : Type 0 where
   pub file : List ℕ
   pub line : ℕ
@@ -76,7 +93,7 @@ pub record Located (T : Type 0) : Type 0 where
 abbrev pub statements : {T : Type 0} → List (Located T) → List T
 statements = map (λ l. l.statement)
 
--- The statement with its names numbered. In conditions (`meaning true`) a lone `m` also asks for the modules symbol. A prompt's text is not kept.
+-- The statement with its names numbered. In conditions (`meaning true`) a lone `m` depends on the modules symbol. A prompt's text is not kept.
 abbrev pub numbered : (List ℕ → ℕ) → Named → Numbered
 numbered number s = elim s [
   | ConfigLine n ↦ ConfigLine (symbol (number n))
@@ -146,7 +163,7 @@ keyword_of w = lookup (same_name w) keyword_words
 abbrev pub begins_with : List ℕ → List Lexeme → Bool
 begins_with w = elim [ AWord v ∷ ts ↦ same_name v w | _ ↦ false ]
 
--- ---- Where a line may stand
+-- ---- Where a line is allowed
 -- The entry that the line would belong to, its file's innermost open block, whether it is in a choice, and whether it may be a `modules` line.
 pub record LineContext : Type 0 where
   pub entry : EntryKind
@@ -154,32 +171,32 @@ pub record LineContext : Type 0 where
   pub in_choice : Bool
   pub modules : Bool
 
--- The entry is a symbol's. It is a choice's.
+-- Whether the entry is a symbol's, and whether it is a choice's.
 abbrev pub is_config : EntryKind → Bool
 is_config e = elim e [ EntryKind.Config ↦ true | _ ↦ false ]
 
 abbrev pub is_choice_entry : EntryKind → Bool
 is_choice_entry e = elim e [ EntryKind.Choice ↦ true | _ ↦ false ]
 
--- E9: a closing line has to fit the innermost open block of its own file.
+-- E9: a closing line must match the innermost open block of its own file.
 abbrev pub closing_cause : Block → Option Block → Option Cause
 closing_cause Block.If (Some Block.If) = None
 closing_cause Block.Menu (Some Block.Menu) = None
 closing_cause Block.Choice (Some Block.Choice) = None
 closing_cause b _ = Some cause.Block
 
--- E10: the line has to be in its place.
+-- E10: the line must be allowed here.
 abbrev pub unless_placed : Bool → Option Cause
 unless_placed placed = elim placed [ true ↦ None | false ↦ Some cause.Misplaced ]
 
--- A symbol may have any type. A choice may have the type bool alone.
+-- A symbol may have any type. A choice may only have the type bool.
 abbrev pub type_placement : EntryKind → SymbolType → Option Cause
 type_placement EntryKind.Config k = None
 type_placement EntryKind.Choice SymbolType.Bool = None
 type_placement EntryKind.Choice SymbolType.Tristate = Some (cause.LeftOut (codes "tristate choice"))
 type_placement e k = Some cause.Misplaced
 
--- Why a line that begins with the word w and this keyword may not stand here. Its other tokens are ts.
+-- Why a line that begins with the word w, which is this keyword, is not allowed here. Its other tokens are ts.
 abbrev pub placement_cause : LineContext → List ℕ → List Lexeme → Keyword → Option Cause
 placement_cause c w ts k = elim k [
   | key.EndIf ↦ closing_cause Block.If c.own
@@ -217,18 +234,18 @@ pub record StartsExpression (ts : List Lexeme) (f : Front) : Type 0 where
   pub longest : LongestFront (map terminal_of ts) (spell f.tree) (map terminal_of f.rest)
   pub within : levels f.tree ≤ most_open
 
--- Why no expression stands here: the longest prefix that begins one is none itself (E8), or a prefix opens too many levels (E12).
+-- Why the tokens begin with no expression: the longest prefix that begins one is not one itself (E8), or a prefix opens too many levels (E12).
 abbrev pub ExpressionFault : List Lexeme → Cause → Type 0
 ExpressionFault ts c = (IsNoExpression (map terminal_of ts) × (c ≡ cause.Syntax)) ⊎ (IsTooDeep (map terminal_of ts) × (c ≡ cause.TooDeep))
 
--- A token is left of the line. The line ends here, and gives a.
+-- `IsMore`: the line has at least one more token. `finish`: the line must end here, and gives a.
 abbrev pub IsMore : List Lexeme → Type 0
 IsMore ts = (t : Lexeme) × (us : List Lexeme) × (ts ≡ t ∷ us)
 
 abbrev pub finish : {A : Type 0} → A → List Lexeme → Result A Cause
 finish a = elim [ [] ↦ Ok a | t ∷ ts ↦ Err cause.Syntax ]
 
--- An expression up to the end of the line: why it is refused, and what the line reads as.
+-- An expression that reaches to the end of the line: why it is refused, and the statement that it gives.
 abbrev pub WholeFault : List Lexeme → Cause → Type 0
 WholeFault ts c = ExpressionFault ts c ⊎ ((f : Front) × StartsExpression ts f × IsMore f.rest × (c ≡ cause.Syntax))
 
@@ -250,7 +267,7 @@ abbrev pub ReadsValue : (Disjunction → Option Disjunction → Named) → List 
 ReadsValue make ts (Ok x) = (f : Front) × (w : Option Disjunction) × StartsExpression ts f × IsCondition f.rest w × (x ≡ make f.tree w)
 ReadsValue make ts (Err c) = ExpressionFault ts c ⊎ ((f : Front) × StartsExpression ts f × ConditionFault f.rest c)
 
--- Parts of one token: a word (`if` too); a text, quoted or a word; an operand; and the name after `select` or `imply`, which is no constant.
+-- Parts of one token: a word (also `if`); a text, quoted or a word; an operand; and the name after `select` or `imply`, which is not a constant.
 abbrev pub word_of : List Lexeme → Result (List ℕ) Cause
 word_of = elim [ AWord w ∷ ts ↦ Ok w | _ ↦ Err cause.Syntax ]
 
@@ -263,7 +280,7 @@ operand_of = elim [ AWord w ∷ ts ↦ if same_name w if_word then Err cause.Syn
 abbrev pub named_target : List Lexeme → Result (List ℕ) Cause
 named_target = elim [ AWord w ∷ ts ↦ if same_name w if_word || is_some (tristate_constant w) then Err cause.Syntax else Ok w | _ ↦ Err cause.Syntax ]
 
--- One part, and then the next: r is the cause where the part is refused.
+-- One part, then the next. If the part is refused, r is its cause.
 abbrev pub After : {A B : Type 0} → Result A Cause → (A → Result B Cause → Type 0) → Result B Cause → Type 0
 After o Next r = MatchResult o (λ a. Next a r) (λ c. r ≡ Err c)
 
@@ -272,7 +289,7 @@ After o Next r = MatchResult o (λ a. Next a r) (λ c. r ≡ Err c)
 abbrev pub ReadsTextLine : (List ℕ → Named) → List Lexeme → Result Named Cause → Type 0
 ReadsTextLine make ts = After (text_of ts) (λ t r. r ≡ finish (make t) (drop 1 ts))
 
--- `source`: a text that is no pattern.
+-- `source`: a text that is not a pattern.
 abbrev pub plain_text : List ℕ → Result (List ℕ) Cause
 plain_text t = if list_any (λ b. b == byte "*" || b == byte "?" || b == byte "[") t then Err (cause.LeftOut (codes "pattern")) else Ok t
 
@@ -284,11 +301,11 @@ abbrev pub is_good_name : List ℕ → Bool
 is_good_name w = if same_name w if_word || is_some (tristate_constant w) then false
     else (nat_le 1 (length w) && nat_le (length w) longest_name && list_all is_name_byte w)
 
--- `prompt`, a type that is not alone: a text and a condition.
+-- `prompt`, or a type with a prompt: a text and a condition.
 abbrev pub ReadsPrompt : (InputPrompt Disjunction → Named) → List Lexeme → Result Named Cause → Type 0
 ReadsPrompt make ts = After (text_of ts) (λ t. ReadsCondition (λ w. make (record { text = t; when = w })) (drop 1 ts))
 
--- `option`: `modules`, or `allnoconfig_y`, which has no effect. `env` and `defconfig_list` are left out (E7).
+-- `option`: `modules`, or `allnoconfig_y`, which has no effect. `env` and `defconfig_list` are not supported (E7).
 abbrev pub option_line : List Lexeme → Result Named Cause
 option_line ts =
     if begins_with (codes "modules") ts then finish ModulesLine (drop 1 ts)
@@ -296,7 +313,7 @@ option_line ts =
     else if begins_with (codes "env") ts then Err (cause.LeftOut (codes "option env"))
     else if begins_with (codes "defconfig_list") ts then Err (cause.LeftOut (codes "option defconfig_list")) else Err cause.Syntax
 
--- What follows the first word w, by its keyword. A type stands alone or has a prompt. A `choice` has no name.
+-- What follows the first word w, by its keyword. A type is alone or has a prompt. A `choice` has no name.
 abbrev pub ReadsRest : List ℕ → Keyword → List Lexeme → Result Named Cause → Type 0
 ReadsRest w k = elim k [
   | key.EndIf ↦ λ ts r. r ≡ finish EndIfLine ts
@@ -324,14 +341,14 @@ ReadsRest w k = elim k [
   | key.LeftOut ↦ λ ts r. r ≡ Err (cause.LeftOut w)
 ]
 
--- The first word is a keyword. Then the line is in a right place.
+-- The first word must be a keyword, and its line must be allowed here.
 abbrev pub keyword_or_refusal : Option Keyword → Result Keyword Cause
 keyword_or_refusal word = elim word [ None ↦ Err cause.Syntax | Some k ↦ Ok k ]
 
 abbrev pub in_place : Keyword → Option Cause → Result Keyword Cause
 in_place k = elim [ None ↦ Ok k | Some why ↦ Err why ]
 
--- The tokens of a line read as this statement, or are refused: by the first word, then by where the line stands, then by what follows the word.
+-- The tokens of a line read as this statement or are refused. The first word is checked first, then whether the line is allowed here, then the rest.
 abbrev pub ReadsLine : LineContext → List Lexeme → Result Named Cause → Type 0
 ReadsLine c ts =
     After (word_of ts) (λ w.

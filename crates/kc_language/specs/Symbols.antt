@@ -1,10 +1,10 @@
--- Trusted: 7. Symbols: what the lines of a tree say of its symbols, its choices and its menu, and the warnings and refusals about them.
+-- Trusted: 7. Symbols: what the lines of a tree say about its symbols, its choices and its menu, and the warnings and refusals about them.
 -- The rules are those of the kernel's kconfig-language document ("Menu attributes", "Menu dependencies") and of kconfiglib. The texts are our own.
 use Rattle.std.specs.{List.list_any, Option.option_or, Prelude.{Bool, Err, List, None, Ok, Option, Result, Some, [], codes, count_by, decimal, false, filter, filter_map, flat_map, if◌then◌else◌, is_none, is_some, length, map, not, option_and_then, option_map, position, reverse, slice_get, slice_index_or, suc, take, take_while, true, unwrap_or, ℕ, ◌&&◌, ◌++◌, ◌==◌, ◌||◌, ◌∷◌, ◌≡◌}}
 pub use Rattle.std.specs.Option.{option_to_list as listed}
 use Rattle.kc_language.specs.{Expansion.{Expands, Files, ReadSoFar, Refused, attributes, bracket_at, defined_name, definitions, enclosing, is_attribute, is_no_attribute, last_of, modules_of, mentioned_names, numbered_lines, numbers, opened, refusal_at}, Expressions.{Form, Leaf, Single, Symbol, same_name, same_symbol, symbol}, Statements.{Cause, ChoiceLine, CommentLine, ConfigLine, DefLine, DefaultLine, DependsLine, EndMenuLine, IfLine, ImplyLine, InputPrompt, Located, MainMenuLine, MenuLine, Numbered, PromptLine, RangeLine, SelectLine, TypeLine, VisibleLine, statements}, declared.{diagnostics.Cause.TheVariants.{BadDefault, ChoiceMember}, diagnostics.Warning.{TheVariants.{Changed, DefaultNotMember, DefaultOutside, Lost, LostWithoutPrompt, MalformedLine, MemberTarget, NotAllowed, PromptRedefined, Selected, SetAgain, TextTarget, TextUnset, TypeRedefined, UnknownSymbol, UserOutside, WithoutType}, Warning as WarningAbout}, expressions.SymId.SymId, expressions.SymbolType.SymbolType, statements.Block.Block, symbols.LineWarning.LineWarning, symbols.MenuEntry.MenuEntry, symbols.SelectOrImply.SelectOrImply}}
 
--- The least value of these expressions and, where there is one, of the mode of that choice.
+-- A condition: the least value of these expressions and of the mode of this choice, if there is one.
 pub record Condition : Type 0 where
   pub conjuncts : List Form
   pub mode : Option ℕ
@@ -35,7 +35,7 @@ pub record ChoiceFacts : Type 0 where
   pub defaults : List (Guarded SymId)
   pub members : List SymId
 
--- An entry of the menu: a symbol, at its first definition; a menu or a comment, shown under a condition; the end of a menu of this index.
+-- An entry of the menu: a symbol, at its first definition; a menu or a comment, shown under a condition; the end of the menu with this index.
 pub data Shown : Type 0 where
   SymbolShown : SymId → Shown
   MenuShown : List ℕ → Condition → Shown
@@ -43,7 +43,8 @@ pub data Shown : Type 0 where
   CommentShown : List ℕ → Condition → Shown
 
 -- Name i has facts i. A symbol is a name that a `config` line defines, with a type or without one. A name that is only mentioned has no type.
--- `defined` has the symbols, in the order of their first definition. `modules` is the modules symbol if it is defined.
+-- `defined` has the symbols, in the order of their first definition. `modules` is the modules symbol if it is defined. `lines` are all lines, of which
+-- explanations show some.
 pub record TreeFacts : Type 0 where
   pub names : List (List ℕ)
   pub symbols : List SymbolFacts
@@ -53,6 +54,7 @@ pub record TreeFacts : Type 0 where
   pub warnings : List (List ℕ)
   pub main_menu : List ℕ
   pub modules : Option SymId
+  pub lines : List (Located Numbered)
 
 -- ---- What one line says: its type; its prompt
 abbrev pub stated_type : Numbered → Option SymbolType
@@ -69,6 +71,22 @@ pub record StatedDefault : Type 0 where
 abbrev pub stated_default : Numbered → Option StatedDefault
 stated_default s = elim s [ DefaultLine v w ↦ Some (record { value = v; when = w }) | DefLine k v w ↦ Some (record { value = v; when = w }) | _ ↦ None ]
 
+-- What one line says: its `depends on`, its `visible if`, its range, and the condition under which it selects or implies the symbol s.
+abbrev pub dependency_in : Numbered → Option Form
+dependency_in l = elim l [ DependsLine e ↦ Some e | _ ↦ None ]
+
+abbrev pub visible_in : Numbered → Option Form
+visible_in l = elim l [ VisibleLine e ↦ Some e | _ ↦ None ]
+
+abbrev pub range_in : Numbered → Option (Bounds × Option Form)
+range_in l = elim l [ RangeLine a b w ↦ Some (record { low = a; high = b }, w) | _ ↦ None ]
+
+abbrev pub targets : SelectOrImply → SymId → Numbered → Option (Option Form)
+targets word s l = elim word [
+  | SelectOrImply.Select ↦ elim l [ SelectLine t w ↦ if same_symbol t s then Some w else None | _ ↦ None ]
+  | SelectOrImply.Imply ↦ elim l [ ImplyLine t w ↦ if same_symbol t s then Some w else None | _ ↦ None ]
+]
+
 -- whether it selects or implies, which symbol, and under which condition
 abbrev pub target_of : Numbered → Option (SelectOrImply × SymId × Option Form)
 target_of s = elim s [ SelectLine n w ↦ Some (SelectOrImply.Select, n, w) | ImplyLine n w ↦ Some (SelectOrImply.Imply, n, w) | _ ↦ None ]
@@ -83,7 +101,7 @@ entry_symbol e = elim e [ MenuEntry.Symbol s ↦ Some s | _ ↦ None ]
 abbrev pub entry_choice : MenuEntry → Option ℕ
 entry_choice e = elim e [ MenuEntry.Choice k ↦ Some k.0 | _ ↦ None ]
 
--- ---- Symbols and types. The option holds this symbol
+-- ---- Symbols and types. Whether the option holds this symbol
 abbrev pub is_symbol_of : SymId → Option SymId → Bool
 is_symbol_of s o = elim o [ None ↦ false | Some t ↦ same_symbol s t ]
 
@@ -95,7 +113,7 @@ all_added ids (s ∷ ss) = all_added (if list_any (same_symbol s) ids then ids e
 abbrev pub defined_symbols : List Numbered → List SymId
 defined_symbols ss = all_added [] (definitions ss)
 
--- the symbol that an expression names, if it is one name, parentheses aside
+-- the symbol that an expression names, if the expression is one name (parentheses do not count)
 abbrev pub single_symbol : Form → Option SymId
 single_symbol e = elim e [ Single (Symbol s) ↦ Some s | _ ↦ None ]
 
@@ -130,7 +148,7 @@ module _ (ss : List Numbered) where
   abbrev pub indices : List ℕ
   indices = numbers (length ss)
 
-  -- the symbol that a `config` line defines; the statement begins such a block
+  -- the symbol that a `config` line defines; whether the statement begins such a block
   abbrev pub symbol_at : ℕ → Option SymId
   symbol_at i = option_and_then defined_name (slice_get ss i)
 
@@ -151,11 +169,11 @@ module _ (ss : List Numbered) where
   abbrev pub own_visible : ℕ → List Form
   own_visible i = filter_map (λ s. elim s [ VisibleLine e ↦ Some e | _ ↦ None ]) (attributes ss i)
 
-  -- what a block asks of the entries in it: a menu its `depends on` lines, an `if` its condition, a choice nothing (`dependency` adds its mode)
+  -- the conditions that a block adds to its entries: a menu its `depends on` lines, an `if` its condition, a choice none (`dependency` adds its mode)
   abbrev pub block_conjuncts : ℕ → List Form
   block_conjuncts i = if of_block Block.Menu i then own_dependencies i else elim (slice_get ss i) [ Some (IfLine e) ↦ e ∷ [] | _ ↦ [] ]
 
-  -- what an entry depends on: what the blocks around it ask, its own `depends on` lines, and the mode of the choice around it
+  -- what an entry depends on: the conditions of the blocks around it, its own `depends on` lines, and the mode of the choice around it
   abbrev pub dependency : ℕ → Condition
   dependency i = record { conjuncts = flat_map block_conjuncts (enclosing ss i) ++ own_dependencies i; mode = enclosing_choice i }
 
@@ -172,14 +190,14 @@ module _ (ss : List Numbered) where
   abbrev pub prompt_at : ℕ → Option Condition
   prompt_at i = option_map (λ p. shown_under i (listed p.when)) (last_of (filter_map prompt_of (attributes ss i)))
 
-  -- where a symbol is defined; the choice of a symbol that is a member in any of its definitions
+  -- the indices of a symbol's definitions; the choice of a symbol that is a member in any of them
   abbrev pub definitions_of : SymId → List ℕ
   definitions_of s = filter (λ i. is_symbol_of s (symbol_at i)) indices
 
   abbrev pub choice_of : SymId → Option ℕ
   choice_of s = slice_get (filter_map enclosing_choice (definitions_of s)) 0
 
-  -- its first type; without one a member of a choice is bool
+  -- its first type; a member of a choice without a type is bool
   abbrev pub type_of : SymId → SymbolType
   type_of s = unwrap_or (slice_get (filter_map stated_type (flat_map (attributes ss) (definitions_of s))) 0)
       (if is_some (choice_of s) then SymbolType.Bool else SymbolType.Undefined)
@@ -188,7 +206,7 @@ module _ (ss : List Numbered) where
   abbrev pub can_be_target : SymId → Bool
   can_be_target t = is_none (choice_of t) && is_selectable (type_of t)
 
-  -- the symbol that statement i defines, once for each line of its entry that `condition_in` takes, under the condition that it gives
+  -- the symbol that statement i defines, once for each line of its entry for which `condition_in` gives a condition, under that condition
   abbrev pub naming_at : (Numbered → Option (Option Form)) → ℕ → List (Guarded SymId)
   naming_at condition_in i = flat_map (λ s. map (guarded i s) (filter_map condition_in (attributes ss i))) (listed (symbol_at i))
 
@@ -218,7 +236,7 @@ module _ (ss : List Numbered) where
     members = members_of (choice_number i);
   }
 
-  -- no statement before i defines the symbol; statement i is the first `config` line of its symbol
+  -- whether no statement before i defines the symbol; whether statement i is the first `config` line of its symbol
   abbrev pub is_first_definition : ℕ → SymId → Bool
   is_first_definition i s = is_none (position (same_symbol s) (definitions (take i ss)))
 
@@ -230,7 +248,7 @@ module _ (ss : List Numbered) where
   shows_entry i (Some (ConfigLine s)) = is_first_definition i s
   shows_entry i o = elim o [ Some (MenuLine t) ↦ true | Some EndMenuLine ↦ true | Some (CommentLine t) ↦ true | _ ↦ false ]
 
-  -- the entry; an `endmenu` closes the innermost block, whose index is the number of entries before it
+  -- the entry of the menu; an `endmenu` closes the innermost block, whose index is the number of entries before that block
   abbrev pub shown_at : ℕ → Option Numbered → Option Shown
   shown_at i (Some (ConfigLine s)) = if is_first_definition i s then Some (SymbolShown s) else None
   shown_at i (Some (MenuLine t)) = Some (MenuShown t (shown_under i (own_visible i)))
@@ -238,36 +256,59 @@ module _ (ss : List Numbered) where
   shown_at i (Some (CommentLine t)) = Some (CommentShown t (dependency i))
   shown_at i _ = None
 
-  -- ---- Warnings and refusals. The entry that a statement belongs to: the one begun by the last statement, up to this one, that is no attribute
+  -- ---- Warnings and refusals. The entry that a statement belongs to: the one that begins with the last statement, up to this one, that is no attribute
   abbrev pub menu_entry_at : ℕ → MenuEntry
   menu_entry_at i = unwrap_or (option_map (λ j. unwrap_or (option_map (begun (choice_number j)) (slice_get ss j)) MenuEntry.Other)
       (last_of (filter (λ j. elim (slice_get ss j) [ None ↦ false | Some s ↦ is_no_attribute s ]) (numbers (suc i))))) MenuEntry.Other
 
-  -- The warnings about statement i, which is s. K1: a type that is not the symbol's. K2: a prompt after another one of the entry. K3: the first definition
-  -- of a symbol without a type, in no choice. K4, K6: a `select` or `imply` of a text or number, of a choice member. K5: a choice's default that is no member.
-  abbrev pub line_warnings : ℕ → Numbered → List LineWarning
-  line_warnings i s = flat_map (λ t. flat_map (λ k. when (not (same_type k (type_of t))) (LineWarning.TypeRedefined t)) (listed (stated_type s)))
+  -- The warnings about statement i, which is s. K1: a type that is not the symbol's. K2: a prompt after another one of the entry.
+  abbrev pub types_redefined : ℕ → Numbered → List LineWarning
+  types_redefined i s = flat_map (λ t. flat_map (λ k. when (not (same_type k (type_of t))) (LineWarning.TypeRedefined t)) (listed (stated_type s)))
       (listed (entry_symbol (menu_entry_at i)))
-      ++ when (is_some (prompt_of s) && list_any (λ p. is_some (prompt_of p)) (take_while is_attribute (reverse (take i ss))))
+
+  abbrev pub prompts_redefined : ℕ → Numbered → List LineWarning
+  prompts_redefined i s = when (is_some (prompt_of s) && list_any (λ p. is_some (prompt_of p)) (take_while is_attribute (reverse (take i ss))))
       (LineWarning.PromptRedefined (entry_symbol (menu_entry_at i)))
-      ++ flat_map (λ t. when (is_first_definition_at i && not (is_some (choice_of t) || not (same_type (type_of t) SymbolType.Undefined)))
+
+  -- K3: the first definition of a symbol without a type that is in no choice. K4: a `select` or `imply` of a string, int or hex symbol. K6: of a choice member.
+  abbrev pub types_missing : ℕ → Numbered → List LineWarning
+  types_missing i s = flat_map (λ t. when (is_first_definition_at i && not (is_some (choice_of t) || not (same_type (type_of t) SymbolType.Undefined)))
       (LineWarning.WithoutType t)) (listed (defined_name s))
-      ++ flat_map (λ t. when (holds_text (type_of (t.1))) (LineWarning.TextTarget (t.1) (t.0))) (listed (target_of s))
-      ++ flat_map (λ k. flat_map (λ g. flat_map (λ t. when (not (list_any (same_symbol t) (members_of k))) (LineWarning.DefaultNotMember t))
+
+  abbrev pub text_targets : Numbered → List LineWarning
+  text_targets s = flat_map (λ t. when (holds_text (type_of (t.1))) (LineWarning.TextTarget (t.1) (t.0))) (listed (target_of s))
+
+  abbrev pub member_targets : Numbered → List LineWarning
+  member_targets s = flat_map (λ t. when (is_some (choice_of (t.1))) (LineWarning.MemberTarget (t.1) (t.0))) (listed (target_of s))
+
+  -- K5: a choice's default that is not a member of it.
+  abbrev pub defaults_outside : ℕ → Numbered → List LineWarning
+  defaults_outside i s = flat_map (λ k. flat_map (λ g. flat_map (λ t. when (not (list_any (same_symbol t) (members_of k))) (LineWarning.DefaultNotMember t))
       (listed (single_symbol g.value))) (listed (stated_default s))) (listed (entry_choice (menu_entry_at i)))
-      ++ flat_map (λ t. when (is_some (choice_of (t.1))) (LineWarning.MemberTarget (t.1) (t.0))) (listed (target_of s))
+
+  -- all of them, in this order
+  abbrev pub line_warnings : ℕ → Numbered → List LineWarning
+  line_warnings i s = types_redefined i s ++ prompts_redefined i s ++ types_missing i s ++ text_targets s ++ defaults_outside i s ++ member_targets s
 
   -- E13: a second `config` line of a member of a choice; a `config` line in a choice, of a symbol that is not bool
+  abbrev pub is_member_again : ℕ → SymId → Bool
+  is_member_again i t = is_some (choice_of t) && not (is_first_definition_at i)
+
+  abbrev pub is_member_not_bool : ℕ → SymId → Bool
+  is_member_not_bool i t = is_some (enclosing_choice i) && not (same_type (type_of t) SymbolType.Bool)
+
   abbrev pub bad_members : List ℕ
-  bad_members = filter (λ i. list_any (λ s. list_any (λ t.
-      (is_some (choice_of t) && not (is_first_definition_at i)) || (is_some (enclosing_choice i) && not (same_type (type_of t) SymbolType.Bool)))
-      (listed (defined_name s))) (listed (slice_get ss i))) indices
+  bad_members = filter (λ i. list_any (λ s. list_any (λ t. is_member_again i t || is_member_not_bool i t) (listed (defined_name s))) (listed (slice_get ss i))) indices
 
   -- E14: a default of a string, int or hex symbol that is not one operand; a default of a choice that is not the name of a symbol
+  abbrev pub is_no_operand : ℕ → Form → Bool
+  is_no_operand i value = list_any (λ t. holds_text (type_of t)) (listed (entry_symbol (menu_entry_at i))) && not (elim value [ Single l ↦ true | _ ↦ false ])
+
+  abbrev pub is_no_member : ℕ → Form → Bool
+  is_no_member i value = is_some (entry_choice (menu_entry_at i)) && is_none (single_symbol value)
+
   abbrev pub bad_defaults : List ℕ
-  bad_defaults = filter (λ i. list_any (λ s. list_any (λ g.
-      (list_any (λ t. holds_text (type_of t)) (listed (entry_symbol (menu_entry_at i))) && not (elim g.value [ Single l ↦ true | _ ↦ false ]))
-      || (is_some (entry_choice (menu_entry_at i)) && is_none (single_symbol g.value)))
+  bad_defaults = filter (λ i. list_any (λ s. list_any (λ g. is_no_operand i g.value || is_no_member i g.value)
       (listed (stated_default s))) (listed (slice_get ss i))) indices
 
 -- a warning with its names and values as texts; its number and text
@@ -307,7 +348,7 @@ abbrev pub keyword_text : SelectOrImply → List ℕ
 keyword_text w = elim w [ SelectOrImply.Select ↦ codes "select" | SelectOrImply.Imply ↦ codes "imply" ]
 
 module _ (names : List (List ℕ)) where
-  -- the name of a symbol; that of the symbol of an entry, and `choice` for a choice; a warning with these names
+  -- the name of a symbol; the name of an entry's symbol, and `choice` for a choice; a warning with these names
   abbrev pub name_by : SymId → List ℕ
   name_by s = slice_index_or names s.0 []
 
@@ -322,7 +363,7 @@ module _ (names : List (List ℕ)) where
   named (LineWarning.DefaultNotMember t) = DefaultNotMember (name_by t)
   named (LineWarning.MemberTarget t r) = MemberTarget (name_by t) (keyword_text r)
 
-  -- The modules symbol: that of the first `modules` line; without such a line the one named `MODULES`, if a line mentions it.
+  -- The modules symbol: the symbol of the first `modules` line. Without such a line it is the one named `MODULES`, if a line mentions it.
   abbrev pub modules_symbol : List Numbered → Option SymId
   modules_symbol ss = option_or (modules_of ss) (option_map symbol (position (same_name (codes "MODULES")) names))
 
@@ -332,7 +373,7 @@ module _ (names : List (List ℕ)) (ls : List (Located Numbered)) where
   abbrev pub refused_at : (List ℕ → Cause) → ℕ → List Refused
   refused_at c i = map (λ l. refusal_at (c (entry_name names (entry_symbol (menu_entry_at (statements ls) i)))) l.file l.line) (listed (slice_get ls i))
 
-  -- what all statements say, if none is refused; the first refusal or, without one, this tree
+  -- the tree, if no statement is refused; the first refusal or, without one, this tree
   abbrev pub facts_with : TreeFacts
   facts_with = let ss = statements ls in record {
     names = names;
@@ -346,13 +387,14 @@ module _ (names : List (List ℕ)) (ls : List (Located Numbered)) where
     ]) (indices ss);
     main_menu = unwrap_or (last_of (filter_map (λ s. elim s [ MainMenuLine t ↦ Some t | _ ↦ None ]) ss)) (codes "Main menu");
     modules = option_and_then (λ s. if list_any (same_symbol s) (defined_symbols ss) then Some s else None) (modules_symbol names ss);
+    lines = ls;
   }
 
   abbrev pub tree_with : Result TreeFacts Refused
   tree_with = elim (flat_map (refused_at ChoiceMember) (bad_members (statements ls)) ++
       flat_map (refused_at BadDefault) (bad_defaults (statements ls))) [ [] ↦ Ok facts_with | r ∷ rs ↦ Err r ]
 
--- the tree of a root file, whose names have numbers once it is expanded, or the first refusal
+-- the tree of a root file, or the first refusal; names get their numbers once all files are expanded
 abbrev pub IsTreeOf : Files → List ℕ → Result TreeFacts Refused → Type 0
 IsTreeOf files root r = (e : Result ReadSoFar Refused) × Expands files root e ×
     (r ≡ elim e [ Ok log ↦ tree_with (mentioned_names (statements log.lines)) (numbered_lines log.lines) | Err refusal ↦ Err refusal ])

@@ -38,7 +38,7 @@ abbrev pub unescape : List ℕ → List ℕ
 unescape (b ∷ c ∷ bs) = if b == byte "\\" then c ∷ unescape bs else b ∷ unescape (c ∷ bs)
 unescape bs = bs
 
--- The number that a text writes: one or more digits of the radix and nothing else, and the number is below the limit.
+-- The number that a text spells: the text is one or more digits of the radix, and the number is below the limit.
 unfoldable pub natural_of : ℕ → ℕ → List ℕ → Option ℕ
 natural_of radix limit text = if nat_lt 0 (length text) && list_all (λ c. is_digit c radix) text && nat_lt (digits_value radix text) limit
     then Some (digits_value radix text) else None
@@ -55,7 +55,7 @@ has_hex_prefix text = slice_index text 0 == byte "0" && (slice_index text 1 == b
 abbrev pub hex_of : List ℕ → Option ℤ
 hex_of text = option_map pos (natural_of 16 (2 ^ 64) (if has_hex_prefix text then drop 2 text else text))
 
--- The text begins with `front`, and may end there; the text begins with `front` and goes on.
+-- `BeginsWith`: the text begins with `front` and may end there. `GoesBeyond`: at least one byte follows `front`.
 abbrev pub BeginsWith : List ℕ → List ℕ → Type 0
 BeginsWith text front = (rest : List ℕ) × (text ≡ front ++ rest)
 

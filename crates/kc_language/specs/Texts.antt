@@ -1,5 +1,5 @@
 -- Trusted: 11. Texts: what a run writes: the `.config`, the header, the minimal file, and the warnings K11 to K14 about values.
--- Source: our own, in the manner of the kernel's `conf` and kconfiglib (docs/language.md, "Texts"). At the end: what reading a written file again gives.
+-- Source: our own, like the kernel's `conf` and kconfiglib (docs/language.md, "Texts"). At the end: what reading a written file again gives.
 use Rattle.kc_language.specs.{ConfigFile.{ArePlacesOf, Notation, Places, ReadResult, StreamLocation, Unset, UserInput, is_within, lines_from, meaning_of, no_input, place_at, reading_of, string_text, text_in_config, value_text}, Expressions.{SymbolValue, TextValue, Truth, tri_text}, Lines.{is_line_feed}, Symbols.{CommentShown, Condition, EndShown, MenuShown, Shown, SymbolFacts, SymbolShown, TreeFacts, Warning, located_warning, warning_line}, Text.{byte, has_hex_prefix, hex_of, int_of, longest_value}, Tokens.{is_blank}, Values.{GivenValue, IsOnlySolution, Solves, SymbolPlace, UserPlace, above, active_range, changes_on_reread, clamped, condition, differs, direct, equations, facts, first_met, given_of, if_within_range, is_n, is_new, is_within_range, known_from, name, name_count, number_text, same_given, selected_to, single_text, visibility, visible_text, written}, declared.{diagnostics.{Warning.{TheVariants.{DefaultOutside, Lost, LostWithoutPrompt, Selected, UserOutside}}}, expressions.{SymId.{SymId}, SymbolType.{SymbolType, TheVariants.{Bool as IsBool, Hex, Int, Str, Tristate, Undefined}}, Tri.{TheVariants.{M, N, Y}, Tri}}, values.{Interval.{Interval}}}}
 use Rattle.std.specs.{List.{enumerate_from, last_or}, Option.{option_map_or}, Prelude.{All, Bool, List, None, Option, Some, [], codes, false, filter, flat_map, if◌then◌else◌, is_some, length, map, not, option_map, slice_get, slice_index_or, take, true, ℕ, ◌++◌, ◌<◌, ◌==◌, ◌||◌, ◌↔◌, ◌∷◌, ◌≡◌, ◌≤◌}, Str.{Lines.{strip_carriage_return}}}
 
@@ -29,7 +29,7 @@ header_line is_raw called (TextValue Int text) = codes "#define " ++ called ++ c
 header_line is_raw called (TextValue Hex text) = codes "#define " ++ called ++ codes " " ++ (if has_hex_prefix text then text else codes "0x" ++ text) ++ codes "\n"
 header_line is_raw called _ = []
 
--- What the files need of a solution: the value of a symbol, whether it is written, whether it differs, whether it is new, and the value of a condition.
+-- What the files need from a solution: the value of a symbol, whether it is written, whether it differs, whether it is new, and the value of a condition.
 pub record SolutionView : Type 0 where
   pub value : SymId → SymbolValue
   pub written : SymId → Bool
@@ -37,7 +37,7 @@ pub record SolutionView : Type 0 where
   pub is_new : SymId → Bool
   pub truth : Condition → Tri
 
--- A menu or a comment is shown unless its condition is n. The lines of its title. The title of a menu that is shown, for its end line.
+-- A menu or a comment is shown unless its condition is n. `title_lines`: the lines of its title. `shown_title`: the title of a shown menu, for its end line.
 abbrev pub is_shown : Tri → Bool
 is_shown t = not (is_n t)
 
@@ -47,7 +47,7 @@ title_lines text = codes "\n#\n# " ++ text ++ codes "\n#\n"
 abbrev pub shown_title : SolutionView → Option Shown → Option (List ℕ)
 shown_title solution e = elim e [ Some (MenuShown text when) ↦ if is_shown (solution.truth when) then Some text else None | _ ↦ None ]
 
--- An entry has lines if it is a symbol that is written, a title that is shown or the end of such a menu. Is the last entry that has lines an end?
+-- An entry has lines if it is a written symbol, a shown title or the end of a shown menu. `end_is_last`: the last entry that has lines is an end.
 abbrev pub has_lines : TreeFacts → SolutionView → Shown → Bool
 has_lines tree solution (SymbolShown s) = solution.written s
 has_lines tree solution (MenuShown text when) = is_shown (solution.truth when)
@@ -58,7 +58,7 @@ abbrev pub end_is_last : TreeFacts → SolutionView → List Shown → Bool
 end_is_last tree view es = option_map_or (λ e. elim e [ EndShown k ↦ true | _ ↦ false ]) (last_or None (filter (has_lines tree view) es)) false
 
 module _ (tree : TreeFacts) (notation : Notation) (solution : SolutionView) where
-  -- The `.config` lines of a symbol and of an entry. An empty line stands between an end line and a symbol's line directly after it.
+  -- The `.config` lines of a symbol and of an entry. An empty line separates an end line from a symbol's line directly after it.
   abbrev pub symbol_config : SymId → List ℕ
   symbol_config s = config_file_line notation.is_raw (notation.prefix ++ name tree s) (solution.value s)
 
@@ -91,7 +91,7 @@ module _ (tree : TreeFacts) (notation : Notation) (solution : SolutionView) wher
   new_text = flat_map (λ s. if solution.is_new s then symbol_new s else []) tree.defined
 
 -- ---- Warnings about values
--- K12: a visible user value is outside the active range. K13: so is a default that counts, since no user value is `used`.
+-- K12: a visible user value is outside the active range. K13: a default is outside it, and no user value is `used`.
 abbrev pub user_warnings : SymbolType → List ℕ → Option Interval → Option (List ℕ) → List Warning
 user_warnings kind called (Some r) (Some t) =
     if is_within_range kind (Some r) t then [] else UserOutside called t (number_text kind r.low) (number_text kind r.high) ∷ []
@@ -146,6 +146,12 @@ pub record IsSolution (s : Solution) : Type 0 where
   pub solves : Solves (name_count s.tree) (equations s.tree (place_at s.places)) (value_of s)
   pub only : IsOnlySolution (name_count s.tree) (equations s.tree (place_at s.places)) (value_of s)
 
+-- the one solution of the tree's equations for these user values
+pub record IsSolutionFor (tree : TreeFacts) (places : Places) (solution : Solution) : Type 0 where
+  pub tree_is : solution.tree ≡ tree
+  pub places_are : solution.places ≡ places
+  pub solves : IsSolution solution
+
 -- What the files need, for values V; and for a solution.
 abbrev pub valuation_view : TreeFacts → (UserPlace → Option GivenValue) → (ℕ → SymbolValue) → SolutionView
 valuation_view tree user V = record {
@@ -159,7 +165,7 @@ valuation_view tree user V = record {
 abbrev pub solution_view : Solution → SolutionView
 solution_view s = valuation_view s.tree (place_at s.places) (value_of s)
 
--- The warnings K11 to K13 of a solution, in order of first definition; and their lines.
+-- The warnings K11 to K13 of a solution, in order of first definition; and their lines as printed.
 abbrev pub value_warnings : Solution → List Warning
 value_warnings s = flat_map (λ i. warnings_of s.tree (known s) (name s.tree i) (facts s.tree i) (place_at s.places (SymbolPlace i.0))) s.tree.defined
 
@@ -208,7 +214,7 @@ MinimalGivesBack tree notation places V =
     (stream : List ℕ) → let read = read_alone tree notation stream (minimal_text tree notation (valuation_view tree (place_at places) V)) in
     (read.stopped ≡ None) × IsOneSolution tree read.input.places V
 
--- The minimal file needs each of its lines: each is one line, and if any are left out, no solution for the user values that are read is this one.
+-- The minimal file needs each of its lines. Each symbol's text is one line. If any are left out, the values that are read do not give this solution.
 abbrev pub MinimalNeedsEach : TreeFacts → Notation → Places → (ℕ → SymbolValue) → Type 0
 MinimalNeedsEach tree notation places V =
     (stream : List ℕ) (keep : SymId → Bool) (s : SymId) →
@@ -228,7 +234,7 @@ abbrev pub HasPlainNumbers : TreeFacts → (ℕ → SymbolValue) → Type 0
 HasPlainNumbers tree V = (s : SymId) → s.0 < name_count tree → written tree (known_from tree V) s ≡ true →
     elim (V s.0) [ TextValue Int text ↦ EndsPlainly text | TextValue Hex text ↦ EndsPlainly text | _ ↦ Unit {0} ]
 
--- No title that is written reads as `# CONFIG_NAME is not set`, neither the main menu's nor that of a menu or comment.
+-- No written title reads as `# CONFIG_NAME is not set`: neither the main menu's nor that of a menu or comment.
 abbrev pub IsNotUnsetLine : List ℕ → List ℕ → Type 0
 IsNotUnsetLine prefix bytes = (called : List ℕ) → meaning_of prefix (strip_carriage_return bytes) ≡ Unset called → ⊥
 
@@ -248,13 +254,13 @@ ConfigGivesBack tree notation places V =
     let read = read_alone tree notation stream (config_text tree notation (valuation_view tree (place_at places) V)) in
     (read.stopped ≡ None) × (IsOneSolution tree read.input.places V ↔ ((i : ℕ) → i < name_count tree → changes_on_reread tree V i ≡ false))
 
--- No new string is too long for a line, where it stands in quotes with its escapes.
+-- No new string is too long for a line when it is written in quotes with its escapes.
 abbrev pub HasShortStrings : TreeFacts → SolutionView → (ℕ → SymbolValue) → Type 0
 HasShortStrings tree view V = (s : SymId) (text : List ℕ) → s.0 < name_count tree → view.is_new s ≡ true → V s.0 ≡ TextValue Str text →
     length (text_in_config false Str text) ≤ longest_value
 
--- Reading the list of new symbols after the input files that gave these user values. With short strings nothing is warned of. The values stay, if and
--- only if no new symbol changes on rereading. And under them a symbol is still new only if it has a comment.
+-- Reading the list of new symbols after the input files that gave these user values. With short strings there is no warning. The values stay if and
+-- only if no new symbol changes on rereading. Under these values a symbol is still new only if it was new and its line is a comment.
 abbrev pub NewGivesBack : TreeFacts → Notation → UserInput → (ℕ → SymbolValue) → Type 0
 NewGivesBack tree notation input V =
     HasShortStrings tree (valuation_view tree (place_at input.places) V) V → (stream : List ℕ) → let view = valuation_view tree (place_at input.places) V in

@@ -1,19 +1,19 @@
--- Trusted: 8. Values: the equation that gives each symbol its value, which symbols are written, and which stand in the minimal file.
+-- Trusted: 8. Values: the equation that gives each symbol its value, which symbols are written, and which are in the minimal file.
 -- Sources: the kernel's kconfig-language document and kconfiglib's documentation; "our own" marks the rest. `known` is the value of each symbol.
 use Rattle.std.specs.{Fmt.{digits, signed_decimal}, List.list_any, Option.{option_map_or, option_or}, Prelude.{Bool, List, None, Option, Some, [], bytes_eq, codes, false, find, if◌then◌else◌, int_lt, is_some, length, map, nat_lt, not, option_and_then, option_map, pos, slice_get, true, unsigned_abs, unwrap_or, ℕ, ℤ, ◌&&◌, ◌++◌, ◌<◌, ◌||◌, ◌≡◌}}
 use Rattle.kc_language.specs.{Expressions.{Form, Leaf, Single, SymbolValue, TextValue, Truth, greater, greatest, least, lesser, same_symbol, symbol, text, truth_of_value, value}, Symbols.{ChoiceFacts, Condition, Guarded, SymbolFacts, TreeFacts, is_symbol_of, name_by}, Text.{hex_of, int_of}, declared.{expressions.{SymId.SymId, SymbolType.{SymbolType, TheVariants.{Bool as IsBool, Hex, Int, Str, Tristate, Undefined}}, Tri.{TheVariants.{M, N, Y}, Tri}}, values.Interval.Interval}}
 
--- What the user gives: a truth value or a text to a symbol, or to a choice the member to select.
+-- What the user gives: a truth value or a text for a symbol, or the member to select for a choice.
 pub data GivenValue : Type 0 where
   GivenTruth : Tri → GivenValue
   GivenText : List ℕ → GivenValue
   Member : SymId → GivenValue
 
--- Where the user gives it: the symbol or the choice of this number.
+-- What the user gives it for: the symbol or the choice of this number.
 pub data UserPlace : Type 0 where
   SymbolPlace ChoicePlace : ℕ → UserPlace
 
--- Truth values: y, n, the same one, the first is greater, and the tristate upgrade of m to y.
+-- Truth values: whether one is y, is n, equals another, is greater than another; and the upgrade of m to y.
 abbrev pub is_yes : GivenValue → Bool
 is_yes g = elim g [ GivenTruth Y ↦ true | _ ↦ false ]
 
@@ -82,7 +82,7 @@ name tree s = name_by tree.names s
 abbrev pub choice_at : TreeFacts → ℕ → Option ChoiceFacts
 choice_at tree c = slice_get tree.choices c
 
--- Whether a line chose the member that is selected. Where the chosen member is not visible, another one is selected.
+-- Whether the selected member is the one that a line chose. If the chosen member is not visible, another one is selected.
 abbrev pub is_chosen : Option SymId → Option GivenValue → Bool
 is_chosen selection user = elim user [ Some (Member m) ↦ is_symbol_of m selection | _ ↦ false ]
 
@@ -187,8 +187,8 @@ module _ (tree : TreeFacts) (known : SymId → SymbolValue) where
   equation s None = λ user. TextValue Undefined (name tree s)
   equation s (Some f) = elim f.choice [ None ↦ by_type s f f.symbol_type | Some c ↦ λ u. Truth (if is_symbol_of s (selected (choice_at tree c) u) then Y else N) ]
 
-  -- Whether an answer of the user would change the value of a symbol outside a choice: of a bool y or n, of a tristate y, m or n. Of a string some text
-  -- would, if it is visible; of an int or hex some number in its range, since each number can be written with more zeros in front.
+  -- Whether an answer of the user could change the value of a symbol outside a choice: y or n for a bool, and y, m or n for a tristate. A string can change
+  -- if it is visible. An int or hex can if it is visible and its range is not empty, since each number can be written with more leading zeros.
   abbrev pub changes : SymId → SymbolFacts → Tri → Bool
   changes s f t = not (same_tri (truth_equation f (Some (GivenTruth t))) (truth_of_value (known s)))
 
@@ -201,12 +201,12 @@ module _ (tree : TreeFacts) (known : SymId → SymbolValue) where
     | _ ↦ is_visible f && option_map_or (λ r. not (int_lt r.high r.low)) (active_range f) true
   ]
 
-  -- Whether a choice has a visible member beside the one that it selects without the user's.
+  -- Whether a choice has a visible member besides the one that it selects without a user value.
   abbrev pub has_other : ChoiceFacts → Bool
   has_other c = elim (selected (Some c) None) [ None ↦ false | Some s ↦ list_any (λ m. not (same_symbol s m) && visible m) c.members ]
 
-  -- A symbol is new if no line answered its question (our own): none gave it a value, and an answer would change its value. A member: none gave it a
-  -- value, none chose the selection of its choice, it is visible, and another member could be selected in place of the selection.
+  -- A symbol outside a choice is new if no line gave it a value and an answer would change its value (our own). A member of a choice is new if no
+  -- line gave it a value, no line chose the selected member of its choice, it is visible, and another member could be selected instead.
   abbrev pub is_new_by : (UserPlace → Option GivenValue) → SymId → SymbolFacts → Option ℕ → Bool
   is_new_by user s f None = can_change s f f.symbol_type
   is_new_by user s f (Some c) = let given = user (ChoicePlace c) in
@@ -215,8 +215,8 @@ module _ (tree : TreeFacts) (known : SymId → SymbolValue) where
   abbrev pub is_new : (UserPlace → Option GivenValue) → SymId → Bool
   is_new user s = not (is_some (user (SymbolPlace s.0))) && elim (facts tree s) [ None ↦ false | Some f ↦ is_new_by user s f f.choice ]
 
-  -- Which symbols have a line in the .config: each visible one with a type. Outside a choice also a bool or tristate if its default or what it is
-  -- selected to is not n, or what it is implied to and its direct dependency both are not n; and a string, int or hex if a default is met.
+  -- A symbol has a line in the .config if it is visible and has a type. Outside a choice a bool or tristate also has one if its default or what it is
+  -- selected to is not n, or if what it is implied to and its direct dependency both are not n. A string, int or hex also has one if a default is met.
   abbrev pub written_truth : SymbolFacts → Bool
   written_truth f = is_visible f || (not (is_n (default_value (first_met f.defaults))) || (not (is_n (selected_to f)) ||
       (not (is_n (implied_to f)) && not (is_n (direct f)))))
@@ -244,7 +244,7 @@ changes_on_reread tree V i = changes_on_reread_facts tree (known_from tree V) (f
 abbrev pub default_selection : TreeFacts → (ℕ → SymbolValue) → ℕ → Option SymId
 default_selection tree V c = selected tree (known_from tree V) (choice_at tree c) None
 
--- Where the user gives symbol i a value: a member in its choice. The right side of its equation, under what is given there.
+-- Where the user value of symbol i is given: for a member, at its choice. `rhs`: the right side of its equation for such a user value.
 module _ (tree : TreeFacts) where
   abbrev pub user_place : ℕ → UserPlace
   user_place i = elim (facts tree (symbol i)) [ None ↦ SymbolPlace i | Some f ↦ elim f.choice [ None ↦ SymbolPlace i | Some c ↦ ChoicePlace c ] ]
@@ -255,14 +255,14 @@ module _ (tree : TreeFacts) where
   abbrev pub equations : (UserPlace → Option GivenValue) → ℕ → (ℕ → SymbolValue) → SymbolValue
   equations user i V = rhs i (user (user_place i)) V
 
--- V solves if each of the first n symbols has the value that its equation gives. It is the only solution if all that solve agree with it.
+-- V solves the equations if each of the first n symbols has the value that its equation gives. It is the only solution if every solution agrees with it.
 abbrev pub Solves : {A : Type 0} → ℕ → (ℕ → (ℕ → A) → A) → (ℕ → A) → Type 0
 Solves n rhs V = (s : ℕ) → s < n → V s ≡ rhs s V
 
 abbrev pub IsOnlySolution : {A : Type 0} → ℕ → (ℕ → (ℕ → A) → A) → (ℕ → A) → Type 0
 IsOnlySolution {A} n rhs V = (W : ℕ → A) → Solves n rhs W → (s : ℕ) → s < n → W s ≡ V s
 
--- A symbol differs if its equation gives another value without the user's; a member, if it is selected and not by default (our own).
+-- A symbol differs if its equation gives another value without the user value. A member differs if it is selected, but not by default (our own).
 module _ (tree : TreeFacts) (user : UserPlace → Option GivenValue) (V : ℕ → SymbolValue) where
   abbrev pub selection : ℕ → Option SymId
   selection c = selected tree (known_from tree V) (choice_at tree c) (user (ChoicePlace c))

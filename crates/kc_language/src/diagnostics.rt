@@ -5,7 +5,7 @@ ghost use Rattle.kc_language.specs.declared.diagnostics.Cause.TheVariants.{Memor
 
 use std::alloc::{AllocError, AllocFailed};
 
-/// Why there is no tree (our own). A cause that is about a name, a word or a loop holds its text, kept as an `N`.
+/// Why a tree is refused (our own). A cause about a name, a word or a loop holds its text as an `N`.
 #[derive(Clone, Copy, Debug, Drop, PartialEq, Eq)]
 pub enum Cause<N> {
     /// E1: the file does not exist, or its name is not UTF-8.
@@ -18,25 +18,25 @@ pub enum Cause<N> {
     LineTooLong,
     /// E5: a byte starts no token, or a quoted text has no end.
     BadToken,
-    /// E6: a `$` stands where a token starts, or in a quoted text.
+    /// E6: a macro: a `$` at the start of a token, or in a quoted text.
     Macro,
     /// E7: this construct of the language is not supported.
     LeftOut(N),
     /// E8: the line does not follow the grammar.
     Syntax,
-    /// E9: a block is closed that is not the innermost open one, or a block is never closed.
+    /// E9: a line closes a block that is not the innermost open one, or a block is never closed.
     Block,
-    /// E10: the line may not stand here.
+    /// E10: the line is not allowed here.
     Misplaced,
-    /// E11: a symbol may not have this name.
+    /// E11: a symbol must not have this name.
     BadName(N),
     /// E12: too many blocks, files or levels are open at once.
     TooDeep,
     /// E13: this member of a choice has a second `config` line, or a type that is not bool.
     ChoiceMember(N),
-    /// E14: the entry of this name has a default that it may not have.
+    /// E14: this entry has a default that is not allowed.
     BadDefault(N),
-    /// E15: the value of a symbol depends on itself, by this loop.
+    /// E15: a symbol depends on itself through this dependency loop.
     Loop(N),
     /// E16: too many symbols are defined.
     TooManySymbols,
@@ -60,7 +60,7 @@ impl<N, T: Drop> From<AllocFailed<T>> for Cause<N> {
     }
 }
 
-/// Why a run fails, besides what is wrong with the tree (our own). An error about a file holds its name, kept as an `N`.
+/// Errors of a run that are not errors of its tree (our own). An error about a file holds its name as an `N`.
 #[derive(Clone, Copy, Debug, PartialEq, Eq)]
 pub enum RunError<N> {
     /// E17: a line of an input file has too many bytes.
@@ -71,43 +71,42 @@ pub enum RunError<N> {
     CannotWrite(N),
     /// E20: memory ran out.
     Memory,
-    /// E21: there were warnings that the run does not accept.
+    /// E21: there were warnings, and an option refuses them.
     WarningsRefused,
-    /// E22: the file does not hold its text.
+    /// E22: the file is not up to date.
     NotUpToDate(N),
     /// E23: make cannot read the name of the file.
     UnreadableName(N),
-    /// E24: no symbol has the first name. The second text names those that differ from it by one letter.
+    /// E24: no symbol has the first name. The second text lists the names that differ from it by one letter.
     UnknownName(N, N),
 }
 
-/// What there is to warn of (our own). A warning holds the texts that it is about, each kept as an `N`: names of symbols, and
-/// values as they are shown.
+/// Warnings (our own). A warning holds the names of symbols and the printed values that it is about, each as an `N`.
 #[derive(Clone, Copy, Debug, Drop, PartialEq, Eq)]
 pub enum Warning<N> {
-    /// K1: a type line of this symbol whose type is not that of its first type line, which is kept.
+    /// K1: a line gives this symbol another type than its first type line. The first type is kept.
     TypeRedefined(N),
-    /// K2: a second prompt in the entry of this name, of which the last is kept.
+    /// K2: the entry of this name has a second prompt. The last prompt is kept.
     PromptRedefined(N),
     /// K3: the symbol has no type and is no member of a choice.
     WithoutType(N),
-    /// K4: a line of this word, `select` or `imply`, names a string, int or hex symbol and has no effect.
+    /// K4: a `select` or `imply` line names a string, int or hex symbol and has no effect. `word` is its keyword.
     TextTarget {
         name: N,
         word: N,
     },
-    /// K5: a default of a choice that names no member of it.
+    /// K5: a default of a choice names a symbol that is not a member of it.
     DefaultNotMember(N),
-    /// K6: a line of this word, `select` or `imply`, names a member of a choice and has no effect.
+    /// K6: a `select` or `imply` line names a member of a choice and has no effect. `word` is its keyword.
     MemberTarget {
         name: N,
         word: N,
     },
-    /// K7: no symbol of this name is defined and has a type.
+    /// K7: no defined symbol with a type has this name.
     UnknownSymbol(N),
-    /// K8: the symbol may not have the value.
+    /// K8: the value is not allowed for the symbol.
     NotAllowed(N),
-    /// K9: the line is none of those that a `.config` has.
+    /// K9: the line has none of the forms of a `.config` line.
     MalformedLine,
     /// K10: the symbol was set before.
     SetAgain(N),
@@ -132,19 +131,19 @@ pub enum Warning<N> {
         high: N,
         used: N,
     },
-    /// K14: the value that was given is not the symbol's value, and the symbol has a prompt.
+    /// K14: the value that was given is not the value of the symbol, which has a prompt.
     Lost {
         name: N,
         given: N,
         value: N,
     },
-    /// K14: the value that was given is not the symbol's value, and the symbol has no prompt.
+    /// K14: the value that was given is not the value of the symbol, which has no prompt.
     LostWithoutPrompt {
         name: N,
         given: N,
         value: N,
     },
-    /// K15: the symbol had another value before, which the line `FILE:LINE` gave it.
+    /// K15: a line changes the value that the line `FILE:LINE` gave the symbol.
     Changed {
         name: N,
         old: N,
@@ -152,6 +151,6 @@ pub enum Warning<N> {
         line: u64,
         new: N,
     },
-    /// K16: an unset line names a string, int or hex symbol and has no effect.
+    /// K16: a line `# NAME is not set` names a string, int or hex symbol and has no effect.
     TextUnset(N),
 }

@@ -11,7 +11,7 @@ pub enum Tri {
     Y,
 }
 
-/// The number of a name, by first mention, from 0 on.
+/// The number of a name. Names are numbered from 0 in the order of their first mention.
 #[derive(Clone, Copy, PartialEq, Eq, PartialOrd, Ord, Hash, Debug)]
 pub struct SymId(pub usize);
 
@@ -32,7 +32,7 @@ pub enum SymbolType {
     Hex,
 }
 
-/// What joins the parts of a chain (the kernel's kconfig-language document, "Menu dependencies").
+/// The connective between the parts of a chain (the kernel's kconfig-language document, "Menu dependencies").
 #[derive(Clone, Copy)]
 pub enum Connective {
     /// `&&`

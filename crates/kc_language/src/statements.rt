@@ -2,7 +2,7 @@
 
 use crate::expressions::SymbolType;
 
-/// What a first word says (the kernel's kconfig-language document).
+/// The keyword that is the first word of a line (the kernel's kconfig-language document).
 #[derive(Clone, Copy, Debug, PartialEq, Eq)]
 pub enum Keyword {
     Config,
@@ -30,7 +30,7 @@ pub enum Keyword {
     LeftOut,
 }
 
-/// A block: the lines up to the word that ends it (the kernel's kconfig-language document, "Kconfig syntax").
+/// A block: the lines up to its closing keyword (the kernel's kconfig-language document, "Kconfig syntax").
 #[derive(Clone, Copy, Debug, PartialEq, Eq)]
 pub enum Block {
     If,
@@ -38,7 +38,7 @@ pub enum Block {
     Choice,
 }
 
-/// The entry to which an attribute would belong (the kernel's kconfig-language document, "Menu attributes").
+/// The kind of entry that an attribute would belong to (the kernel's kconfig-language document, "Menu attributes").
 #[derive(Clone, Copy, Debug, PartialEq, Eq)]
 pub enum EntryKind {
     Nothing,

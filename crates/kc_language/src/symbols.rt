@@ -1,9 +1,8 @@
-//! Menu entries, and what a line of a tree is warned of.
+//! Menu entries, and warnings about the lines of a tree.
 
 use crate::expressions::SymId;
 
-/// The number of a choice: its place among the tree's choices, in the order in which they open. The numbers are our
-/// own.
+/// The number of a choice. Choices are numbered from 0 in the order in which they open. The numbers are our own.
 #[derive(Clone, Copy, PartialEq, Eq, Debug)]
 pub struct ChoiceId(pub u32);
 
@@ -15,20 +14,20 @@ pub enum MenuEntry {
     Other,
 }
 
-/// Which of the two a line is: one that selects a symbol, or one that implies it.
+/// Whether a line selects a symbol or implies it.
 #[derive(Clone, Copy, Debug, PartialEq, Eq)]
 pub enum SelectOrImply {
     Select,
     Imply,
 }
 
-/// What there is to warn of, about a line:
-/// - `TypeRedefined`: a type line whose type is not the symbol's first type, which is kept;
-/// - `PromptRedefined`: a second prompt in one entry, of which the last is kept; without a symbol it is a choice's;
-/// - `WithoutType`: the first definition of a symbol that has no type and is no member of a choice;
-/// - `TextTarget`: a select or imply of a string, int or hex symbol, which has no effect;
-/// - `DefaultNotMember`: a choice's default that names no member of it;
-/// - `MemberTarget`: a select or imply of a member of a choice, which has no effect.
+/// A warning about a line:
+/// - `TypeRedefined`: the line's type is not the symbol's first type, which is kept;
+/// - `PromptRedefined`: an entry has a second prompt, and the last is kept; without a symbol the entry is a choice;
+/// - `WithoutType`: the line is the first definition of a symbol that has no type and is no member of a choice;
+/// - `TextTarget`: the line selects or implies a string, int or hex symbol, which has no effect;
+/// - `DefaultNotMember`: the line is a choice's default and names a symbol that is not a member;
+/// - `MemberTarget`: the line selects or implies a member of a choice, which has no effect.
 #[derive(Clone, Copy, Debug, PartialEq, Eq)]
 pub enum LineWarning {
     TypeRedefined(SymId),

@@ -1,4 +1,4 @@
-//! What a line is cut into: operators, and why a line cannot be read.
+//! The operators of a line, and why a line cannot be read.
 
 ghost use Rattle.std.specs.Prelude.{◌≡◌};
 ghost use Rattle.kc_language.specs.declared.tokens.TextFault.TheVariants.{Memory};
@@ -6,7 +6,7 @@ ghost use Rattle.kc_language.specs.declared.tokens.TextFault.TheVariants.{Memory
 use std::alloc::{AllocError, AllocFailed};
 use thiserror::Error;
 
-/// A sign: a relation, a connective or a parenthesis of the kernel's kconfig-language document
+/// An operator: a relation, a connective or a parenthesis of the kernel's kconfig-language document
 /// ("Menu dependencies").
 #[derive(Clone, Copy, Debug, PartialEq, Eq)]
 pub enum Op {
@@ -41,16 +41,16 @@ pub enum TextFault {
     /// The number is that of its first physical line. The limit is our own.
     #[error("line {0} is longer than 8191 bytes")]
     LineTooLong(u32),
-    /// E5: a place of the line begins no token, and no macro either: a byte of no token, a lone `&`
+    /// E5: at a position of the line neither a token nor a macro begins: a byte of no token, a lone `&`
     /// or `|`, or a quoted text without an end.
     #[error("bad token")]
     BadToken,
-    /// E6: a `$`, or a quoted text with a `$` before its end, or before the end of the line where
-    /// it has none. The kernel's kconfig-macro-language document gives a `$` its meaning, which is
-    /// left out here.
+    /// E6: a macro: a `$`, or a quoted text that holds a `$`. A quoted text without an end reaches to
+    /// the end of the line. The kernel's kconfig-macro-language document defines macros. They are not
+    /// supported here.
     #[error("macro")]
     Macro,
-    /// E20: a growth of a vector was refused.
+    /// E20: memory ran out.
     #[error("out of memory")]
     Memory,
 }

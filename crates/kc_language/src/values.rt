@@ -1,7 +1,7 @@
 //! The bounds of a range.
 
 /// The bounds of a range, both of them inside (the kernel's kconfig-language document, "Menu attributes": numerical
-/// ranges). Nothing asks that the low one is below the high one.
+/// ranges). The low bound may be above the high bound.
 #[derive(Clone, Copy, Debug)]
 pub struct Interval {
     /// The least number inside.

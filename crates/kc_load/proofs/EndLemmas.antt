@@ -1,27 +1,11 @@
 -- The beginning of the loading, its ends, and why it ends.
-use Rattle.std.proofs.Common.{◌≡◌, ℕ, Bool, ◌+◌, ◌-◌, ◌*◌, ◌<◌, ◌≤◌, zero, suc, List, [], ◌∷◌, ◌++◌, reverse, length, min, Option, None, Contains, IsUtf8, arith, refl, sym, ap, ◌∙◌, subst, length-append, append-nil, nat_lt, true, false, map, vec_len}
-use Rattle.std.proofs.lemmas.Bool.Decides.{nat_tests}
-use Rattle.std.proofs.lemmas.List.{nil_from_length}
-use Rattle.std.proofs.lemmas.List.Elements.{All-nil, Contains-append_left}
-use Rattle.std.proofs.Math.ListN.{length-map}
-use Rattle.std.specs.declared.vec.Vec.{Vec}
-use Rattle.std.specs.declared.alloc.Global.{Global}
-use Rattle.kc_load.specs.Folder.{IsLoadFault, IsNext, FolderFiles, AnswersAs, Answer, AreAsked, files_found}
-use Rattle.kc_language.specs.Outcome.{path_of}
-use Rattle.kc_load.specs.Asking.{AreSourcesOf, AskedAlong, ended, asked}
-use Rattle.kc_language.specs.Text.{most_lines}
+use Rattle.std.proofs.{Common.{Bool, Contains, IsUtf8, List, None, Option, [], ap, append-nil, arith, false, length, length-append, map, min, nat_lt, refl, reverse, subst, suc, sym, true, vec_len, zero, ℕ, ◌*◌, ◌++◌, ◌+◌, ◌-◌, ◌<◌, ◌∙◌, ◌∷◌, ◌≡◌, ◌≤◌}, Math.ListN.length-map, lemmas.{Bool.Decides.nat_tests, List.{Elements.{All-nil, Contains-append_left}, nil_from_length}}}
+use Rattle.std.specs.declared.{alloc.Global.Global, vec.Vec.Vec}
+use Rattle.kc_load.specs.{Asking.{AreSourcesOf, AskedAlong, asked, ended}, Folder.{Answer, AnswersAs, AreAsked, FolderFiles, IsLoadFault, IsNext, files_found}, Loading.Loads, Steps.{FailsAt, IsDue, State, Visits, file, initial_state, no_file, no_text, not_new, was_requested}, declared.fault.LoadFault.{LoadFault, TheVariants.{CannotRead, Memory}}}
+use Rattle.kc_language.specs.{Files.path_of, Text.most_lines}
 use Rattle.kc_text.specs.PartsOfText.{last_count}
-use Rattle.kc_read.specs.PartsOfExpansion.{lines_of}
-use Rattle.kc_load.specs.Loading.{Loads}
-use Rattle.kc_load.specs.Steps.{FailsAt, IsDue, State, Visits, no_text, not_new, no_file, file, initial_state, was_requested}
-use Rattle.kc_load.specs.declared.fault.LoadFault.{LoadFault}
-use Rattle.kc_load.specs.declared.fault.LoadFault.TheVariants.{CannotRead, Memory}
-use Rattle.kc_load.proofs.FoundLemmas.{found_absent, names_of}
-use Rattle.kc_load.proofs.OrderLemmas.{flat}
-use Rattle.kc_load.proofs.RequestedLemmas.{in_requested}
-use Rattle.kc_load.proofs.SourceLemmas.{no_lines_no_sources}
-use Rattle.kc_load.proofs.Ongoing.{Ongoing}
-use Rattle.kc_load.proofs.TurnLemmas.{is_new, waits_first}
+use Rattle.kc_entries.specs.PartsOfExpansion.{lines_of}
+use Rattle.kc_load.proofs.{FoundLemmas.{found_absent, names_of}, Ongoing.Ongoing, OrderLemmas.flat, RequestedLemmas.in_requested, SourceLemmas.no_lines_no_sources, TurnLemmas.{is_new, waits_first}}
 
 pub not_over : (n : ℕ) → false ≡ nat_lt most_lines n → n ≤ most_lines
 not_over n e = grind (arith, nat_tests)

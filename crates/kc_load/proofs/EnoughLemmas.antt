@@ -1,30 +1,12 @@
 -- What was loaded is enough: the expansion over it is the expansion over the folder's files.
-use Rattle.std.proofs.Common.{◌≡◌, ℕ, Bool, true, false, cond, nat_le, List, [], ◌∷◌, ◌++◌, length, Option, Some, None, MatchOption, Result, Ok, Err, Contains, IsUtf8, arith, refl, sym, ap, ◌∙◌, subst}
-use Rattle.std.proofs.lemmas.Bool.{false≢true}
-use Rattle.std.specs.Prelude.{All, IfOk, ◌&&◌}
-use Rattle.std.proofs.lemmas.List.Elements.{All-append, All-cons, All-nil, Contains-append_left, Contains-append_right}
-use Rattle.std.proofs.lemmas.Str.{IsUtf8-from_is_utf8, is_utf8-from_IsUtf8}
-use Rattle.std.specs.List.{list_any}
-use Rattle.std.specs.Str.{is_utf8}
-use Rattle.kc_language.specs.Lines.{UnreadLines, unread_lines}
-use Rattle.kc_language.specs.Expressions.{same_name}
+use Rattle.std.proofs.{Common.{Bool, Contains, Err, IsUtf8, List, MatchOption, None, Ok, Option, Result, Some, [], ap, arith, cond, false, length, nat_le, refl, subst, sym, true, ℕ, ◌++◌, ◌∙◌, ◌∷◌, ◌≡◌}, lemmas.{Bool.false≢true, List.Elements.{All-append, All-cons, All-nil, Contains-append_left, Contains-append_right}, Str.{IsUtf8-from_is_utf8, is_utf8-from_IsUtf8}}}
+use Rattle.std.specs.{List.list_any, Prelude.{All, IfOk, ◌&&◌}, Str.is_utf8}
+use Rattle.kc_language.specs.{Expansion.{Expands, OpensFile, ReadSoFar, Reading, Refused, Rest, at_end, at_root, bad_line, bad_source, blank, bytes_cause, goes_on, moved, no_tokens, over_limit, refusal_at, refused, refused_inside, renumbered, source, sourcing_cause, statement, too_long, unclosed}, Expressions.same_name, Files.path_of, Lines.{UnreadLines, unread_lines}, Statements.{Cause, Located, Named}}
 use Rattle.kc_language.specs.declared.diagnostics.Cause.TheVariants as cause
-use Rattle.kc_language.specs.Expansion.{FileContext, Expands, ReadSoFar, Refused, Rest, bytes_cause, first_log, refusal_at, sourcing_cause, at_end, unclosed, too_long, no_tokens, blank, renumbered, moved, bad_line, over_limit, statement, bad_source, refused_inside, source}
-use Rattle.kc_read.specs.PartsOfExpansion.{root_context}
-use Rattle.kc_language.specs.Statements.{Cause, Located, Named}
 use Rattle.kc_read.specs.OpenedFiles.{sourced_files}
-use Rattle.kc_read.proofs.ExpansionThere.{has_one_expansion}
-use Rattle.kc_read.proofs.OneExpansion.{one_expansion_law}
-use Rattle.kc_load.specs.Asking.{FileBytes, tree_of}
-use Rattle.kc_load.specs.Loading.{ExpandsAlike, Suffices}
-use Rattle.kc_load.specs.PartsOfFolder.{named}
-use Rattle.kc_load.specs.Folder.{FolderFiles, files_found}
-use Rattle.kc_language.specs.Outcome.{path_of}
-use Rattle.kc_load.specs.Steps.{State, was_requested}
-use Rattle.kc_load.proofs.FoundLemmas.{at_name, found_absent, names_of}
-use Rattle.kc_load.proofs.FollowLemmas.{IsClosed, enter, few_lines, follow}
-use Rattle.kc_load.proofs.Ongoing.{Ongoing}
-use Rattle.kc_load.proofs.Walks.{IsMetIn, Walks, first_is_met}
+use Rattle.kc_read.proofs.{ExpansionThere.has_one_expansion, OneExpansion.one_expansion_law}
+use Rattle.kc_load.specs.{Asking.{FileBytes, tree_of}, Folder.{FolderFiles, files_found}, Loading.{ExpandsAlike, Suffices}, PartsOfFolder.named, Steps.{State, was_requested}}
+use Rattle.kc_load.proofs.{FollowLemmas.{IsClosed, enter, few_lines, follow}, FoundLemmas.{at_name, found_absent, names_of}, Ongoing.Ongoing, Walks.{IsMetIn, Walks, first_is_met}}
 
 -- ---- Files that agree on all that is asked for
 
@@ -36,61 +18,66 @@ module _ (files others : FileBytes) where
   same_cause opens n name o e h =
       ap (λ f. cond (list_any (same_name name) opens) (Some (cause.InclusionLoop name)) (cond (nat_le 64 (length opens)) (Some cause.TooDeep) (bytes_cause name n f))) e ∙ h
 
+  -- the file is opened over the other too
+  abbrev opens : (at : Reading) (f : OpensFile (tree_of files) at) → others f.name ≡ files f.name → OpensFile (tree_of others) at
+  opens at f same = record {
+    after = f.after;
+    name = f.name;
+    bytes = f.bytes;
+    next = f.next;
+    allowed = same_cause at.context.open_files at.log.total_lines f.name None same f.allowed;
+    found = same ∙ f.found;
+  }
+
   -- the expansion over the one is one over the other
-  pub over : {a : FileContext} {l : UnreadLines} {own : List (Located Named)} {log : ReadSoFar} {r : Result ReadSoFar Refused} (d : Rest (tree_of files) a l own log r) →
-      ((y : List ℕ) → Contains (sourced_files d) y → others y ≡ files y) → Rest (tree_of others) a l own log r
-  over (at_end a l own log none closed) h = at_end a l own log none closed
-  over (unclosed a l own log line none unmatched) h = unclosed a l own log line none unmatched
-  over (too_long a l own log long) h = too_long a l own log long
-  over (no_tokens a l m own log ts why next) h = no_tokens a l m own log ts why next
-  over (blank a l m own log r next d) h = blank a l m own log r next (over d h)
-  over (renumbered a l m own log n r marks d) h = absurd (false≢true marks.1)
-  over (moved a l m own log n name r marks differs d) h = absurd (false≢true marks.1)
-  over (bad_line a l m own log c n) h = bad_line a l m own log c n
-  over (over_limit a l m own log s c n f) h = over_limit a l m own log s c n f
-  over (statement a l m own log s r n plain f d) h = statement a l m own log s r n plain f (over d h)
-  over (bad_source a l m own log name c n f) h = bad_source a l m own log name c n (same_cause a.open_files log.total_lines name (Some c) (h name (here name [])) f)
-  over (refused_inside a l m own log name bytes e n free there d) h =
-      let same = h name (here name (sourced_files d)) in
-      refused_inside a l m own log name bytes e n (same_cause a.open_files log.total_lines name None same free) (same ∙ there) (over d (λ y c. h y (Contains-append_right (name ∷ []) (sourced_files d) y c)))
-  over (source a l m own log more name bytes r n free there d g) h =
-      let same = h name (here name (sourced_files d ++ sourced_files g)) in
-      source a l m own log more name bytes r n (same_cause a.open_files log.total_lines name None same free) (same ∙ there)
-      (over d (λ y c. h y (Contains-append_right (name ∷ []) (sourced_files d ++ sourced_files g) y (Contains-append_left (sourced_files d) (sourced_files g) y c))))
-      (over g (λ y c. h y (Contains-append_right (name ∷ []) (sourced_files d ++ sourced_files g) y (Contains-append_right (sourced_files d) (sourced_files g) y c))))
+  pub over : {at : Reading} {r : Result ReadSoFar Refused} (d : Rest (tree_of files) at r) →
+      ((y : List ℕ) → Contains (sourced_files d) y → others y ≡ files y) → Rest (tree_of others) at r
+  over (at_end at none closed) h = at_end at none closed
+  over (unclosed at line none unmatched) h = unclosed at line none unmatched
+  over (refused at c (too_long long)) h = refused at c (too_long long)
+  over (refused at c (no_tokens m ts why next)) h = refused at c (no_tokens m ts why next)
+  over (refused at c (bad_line m why n)) h = refused at c (bad_line m why n)
+  over (refused at c (over_limit m s why n f)) h = refused at c (over_limit m s why n f)
+  over (refused at c (bad_source m name why n f)) h =
+      refused at c (bad_source m name why n (same_cause at.context.open_files at.log.total_lines name (Some c) (h name (here name [])) f))
+  over (goes_on at next r (blank m n) d) h = goes_on at next r (blank m n) (over d h)
+  over (goes_on at next r (renumbered m n marks) d) h = absurd (false≢true marks.1)
+  over (goes_on at next r (moved m n name marks differs) d) h = absurd (false≢true marks.1)
+  over (goes_on at next r (statement m s n plain f) d) h = goes_on at next r (statement m s n plain f) (over d h)
+  over (refused_inside at f e d) h = refused_inside at (opens at f (h f.name (here f.name (sourced_files d)))) e
+      (over d (λ y c. h y (Contains-append_right (f.name ∷ []) (sourced_files d) y c)))
+  over (source at f more r d g) h = source at (opens at f (h f.name (here f.name (sourced_files d ++ sourced_files g)))) more r
+      (over d (λ y c. h y (Contains-append_right (f.name ∷ []) (sourced_files d ++ sourced_files g) y (Contains-append_left (sourced_files d) (sourced_files g) y c))))
+      (over g (λ y c. h y (Contains-append_right (f.name ∷ []) (sourced_files d ++ sourced_files g) y (Contains-append_right (sourced_files d) (sourced_files g) y c))))
 
 -- What holds of the file that is read and of those that are sourced holds of the file of each line.
 module _ (files : FileBytes) (P : List ℕ → Type 0) where
   abbrev OfLines : List (Located Named) → Type 0
   OfLines ls = All (λ (l : Located Named). P l.file) ls
 
-  pub of_lines : {a : FileContext} {l : UnreadLines} {own : List (Located Named)} {log : ReadSoFar} {r : Result ReadSoFar Refused} (d : Rest (tree_of files) a l own log r) →
-      P a.file → ((y : List ℕ) → Contains (sourced_files d) y → P y) → OfLines log.lines → IfOk r (λ more. OfLines more.lines)
-  of_lines (at_end a l own log none closed) p h all = all
-  of_lines (unclosed a l own log line none unmatched) p h all = tt
-  of_lines (too_long a l own log long) p h all = tt
-  of_lines (no_tokens a l m own log ts why next) p h all = tt
-  of_lines (blank a l m own log r next d) p h all = of_lines d p h all
-  of_lines (renumbered a l m own log n r marks d) p h all = absurd (false≢true marks.1)
-  of_lines (moved a l m own log n name r marks differs d) p h all = absurd (false≢true marks.1)
-  of_lines (bad_line a l m own log c n) p h all = tt
-  of_lines (over_limit a l m own log s c n f) p h all = tt
-  of_lines (statement a l m own log s r n plain f d) p h all =
-      let last : Located Named = record { file = a.file; line = l.number; statement = s } in
-      of_lines d p h (All-append (λ (x : Located Named). P x.file) log.lines (last ∷ []) all
+  pub of_lines : {at : Reading} {r : Result ReadSoFar Refused} (d : Rest (tree_of files) at r) →
+      P at.context.file → ((y : List ℕ) → Contains (sourced_files d) y → P y) → OfLines at.log.lines → IfOk r (λ more. OfLines more.lines)
+  of_lines (at_end at none closed) p h all = all
+  of_lines (unclosed at line none unmatched) p h all = tt
+  of_lines (refused at c here) p h all = tt
+  of_lines (goes_on at next r (blank m n) d) p h all = of_lines d p h all
+  of_lines (goes_on at next r (renumbered m n marks) d) p h all = absurd (false≢true marks.1)
+  of_lines (goes_on at next r (moved m n name marks differs) d) p h all = absurd (false≢true marks.1)
+  of_lines (goes_on at next r (statement m s n plain f) d) p h all =
+      let last : Located Named = record { file = at.context.file; line = at.unread.number; statement = s } in
+      of_lines d p h (All-append (λ (x : Located Named). P x.file) at.log.lines (last ∷ []) all
       (All-cons (λ (x : Located Named). P x.file) last [] p (All-nil (λ (x : Located Named). P x.file))))
-  of_lines (bad_source a l m own log name c n f) p h all = tt
-  of_lines (refused_inside a l m own log name bytes e n free there d) p h all = tt
-  of_lines (source a l m own log more name bytes r n free there d g) p h all =
+  of_lines (refused_inside at f e d) p h all = tt
+  of_lines (source at f more r d g) p h all =
       let within : OfLines more.lines =
-      of_lines d (h name (here name (sourced_files d ++ sourced_files g)))
-      (λ y c. h y (Contains-append_right (name ∷ []) (sourced_files d ++ sourced_files g) y (Contains-append_left (sourced_files d) (sourced_files g) y c))) all in
-      of_lines g p (λ y c. h y (Contains-append_right (name ∷ []) (sourced_files d ++ sourced_files g) y (Contains-append_right (sourced_files d) (sourced_files g) y c))) within
+      of_lines d (h f.name (here f.name (sourced_files d ++ sourced_files g)))
+      (λ y c. h y (Contains-append_right (f.name ∷ []) (sourced_files d ++ sourced_files g) y (Contains-append_left (sourced_files d) (sourced_files g) y c))) all in
+      of_lines g p (λ y c. h y (Contains-append_right (f.name ∷ []) (sourced_files d ++ sourced_files g) y (Contains-append_right (sourced_files d) (sourced_files g) y c))) within
 
 -- ---- From the root file on
 
 abbrev RootGives : FileBytes → List ℕ → Result ReadSoFar Refused → Type 0
-RootGives files root r = (bytes : List ℕ) × (files root ≡ Some bytes) × Rest (tree_of files) (root_context root) (unread_lines bytes 1) [] (first_log (tree_of files) root bytes) r
+RootGives files root r = (bytes : List ℕ) × (files root ≡ Some bytes) × Rest (tree_of files) (at_root (tree_of files) root bytes) r
 
 module _ (folder_files : List ℕ → Option (List ℕ)) (dir first : List ℕ) (loaded : FileBytes) (w : List (List ℕ)) (m : ℕ) (b : Bool)
     (walk : Walks (Some folder_files) dir [] 0 (first ∷ []) w m b) (agree : (y : List ℕ) → IsMetIn w y → loaded y ≡ named folder_files dir y) where
@@ -99,7 +86,7 @@ module _ (folder_files : List ℕ → Option (List ℕ)) (dir first : List ℕ) 
 
   -- what the root file asks for was loaded
   requested_agree : (bytes : List ℕ) (r : Result ReadSoFar Refused) → bytes_cause first 0 (named folder_files dir first) ≡ None → named folder_files dir first ≡ Some bytes →
-      (d : Rest (tree_of (named folder_files dir)) (root_context first) (unread_lines bytes 1) [] (first_log (tree_of (named folder_files dir)) first bytes) r) → (y : List ℕ) → Contains (sourced_files d) y → loaded y ≡ named folder_files dir y
+      (d : Rest (tree_of (named folder_files dir)) (at_root (tree_of (named folder_files dir)) first bytes) r) → (y : List ℕ) → Contains (sourced_files d) y → loaded y ≡ named folder_files dir y
   requested_agree bytes r free there d y c =
       let few = few_lines first bytes 0 (named folder_files dir first) free there in
       let free : list_any (same_name first) [] ≡ false = refl in

@@ -1,18 +1,10 @@
 -- Of a flat tree the first file is all that is read, and it is enough.
-use Rattle.std.proofs.Common.{◌≡◌, ℕ, Bool, true, false, cond, List, [], ◌∷◌, Option, Some, None, MatchOption, Result, Ok, Err, Contains, IsUtf8, arith, refl, sym, ap, ◌∙◌, subst}
-use Rattle.std.specs.Prelude.{IfOk, ◌&&◌, if◌then◌else◌}
-use Rattle.std.specs.Str.{is_utf8}
-use Rattle.std.proofs.lemmas.Str.{is_utf8-from_IsUtf8}
-use Rattle.std.proofs.lemmas.List.Elements.{All-nil}
-use Rattle.kc_language.specs.Expansion.{Files, bytes_in}
-use Rattle.kc_language.specs.Expressions.{same_name}
-use Rattle.kc_language.specs.Outcome.{path_of}
+use Rattle.std.proofs.{Common.{Bool, Contains, Err, IsUtf8, List, MatchOption, None, Ok, Option, Result, Some, [], ap, arith, cond, false, refl, subst, sym, true, ℕ, ◌∙◌, ◌∷◌, ◌≡◌}, lemmas.{List.Elements.All-nil, Str.is_utf8-from_IsUtf8}}
+use Rattle.std.specs.{Prelude.{IfOk, if◌then◌else◌, ◌&&◌}, Str.is_utf8}
+use Rattle.kc_language.specs.{Expansion.{Files, bytes_in}, Expressions.same_name, Files.path_of}
 use Rattle.kc_read.specs.Files.{FileTable, Puts, files_in}
 use Rattle.kc_read.proofs.FileLemmas.{same_name_eq}
-use Rattle.kc_load.specs.Asking.{tree_of, asked, ended}
-use Rattle.kc_load.specs.Folder.{Answer, AnswersAs, FolderFiles, IsNext, is_read}
-use Rattle.kc_load.specs.Loading.{LoadsFlat, Suffices}
-use Rattle.kc_load.specs.declared.fault.LoadFault.{LoadFault}
+use Rattle.kc_load.specs.{Asking.{asked, ended, tree_of}, Folder.{Answer, AnswersAs, FolderFiles, IsNext, is_read}, Loading.{LoadsFlat, Suffices}, declared.fault.LoadFault.LoadFault}
 
 -- the one file that was found is that of the folder
 module _ (held : List ℕ → Option (List ℕ)) (dir first : List ℕ) (found : Option (List ℕ)) (text : IsUtf8 first) (answer : held (path_of dir first) ≡ found) where

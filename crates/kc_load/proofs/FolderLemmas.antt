@@ -1,8 +1,7 @@
 -- What a folder tells, from one state of it to a later one.
-use Rattle.std.proofs.Common.{◌≡◌, ℕ, List, [], ◌++◌, append-nil, Option, Some, None, refl, sym, ap, ◌∙◌, subst}
-use Rattle.kc_load.specs.Folder.{FolderFiles, FolderState, AnswersAs, Leads, files_told}
-use Rattle.kc_language.specs.Outcome.{path_of}
-use Rattle.kc_load.specs.Steps.{State, Visits, no_text, not_new, no_file, file}
+use Rattle.std.proofs.Common.{List, None, Option, Some, [], ap, append-nil, refl, subst, sym, ℕ, ◌++◌, ◌∙◌, ◌≡◌}
+use Rattle.kc_load.specs.{Folder.{AnswersAs, FolderFiles, FolderState, Leads, files_told}, Steps.{State, Visits, file, no_file, no_text, not_new}}
+use Rattle.kc_language.specs.Files.{path_of}
 
 -- a state with these failures more
 abbrev pub failed_more : FolderState → List (List ℕ) → FolderState

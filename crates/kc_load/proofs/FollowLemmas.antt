@@ -1,33 +1,16 @@
 -- What an expansion asks for, the loading asked for: along the rest of a file, by the walk through its names.
-use Rattle.std.proofs.Common.{◌≡◌, ℕ, ◌+◌, ◌≤◌, Bool, true, false, cond, ◌||◌, nat_le, nat_lt, List, [], ◌∷◌, ◌++◌, length, codes, drop, min, Option, Some, None, Result, Ok, Err, Contains, inl, inr, arith, refl, sym, ap, ◌∙◌, subst}
-use Rattle.std.proofs.lemmas.Bool.{cases_Bool, both_ways, or_from, or_parts, true≢false, false≢true}
-use Rattle.std.proofs.lemmas.Bool.Decides.{nat_tests}
-use Rattle.std.proofs.lemmas.List.Elements.{Contains-append_cases}
-use Rattle.std.proofs.lemmas.List.Folds.{list_any-append}
-use Rattle.std.proofs.lemmas.Str.{IsUtf8-from_is_utf8}
-use Rattle.std.specs.List.{list_any}
-use Rattle.std.specs.Str.{is_utf8}
-use Rattle.kc_language.specs.Tokens.{Lexeme}
-use Rattle.kc_language.specs.Lines.{UnreadLines}
-use Rattle.kc_language.specs.Expressions.{same_name, mention}
+use Rattle.std.proofs.{Common.{Bool, Contains, Err, List, None, Ok, Option, Result, Some, [], ap, arith, codes, cond, drop, false, inl, inr, length, min, nat_le, nat_lt, refl, subst, sym, true, ℕ, ◌++◌, ◌+◌, ◌||◌, ◌∙◌, ◌∷◌, ◌≡◌, ◌≤◌}, lemmas.{Bool.{Decides.nat_tests, both_ways, cases_Bool, false≢true, or_from, or_parts, true≢false}, List.{Elements.Contains-append_cases, Folds.list_any-append}, Str.IsUtf8-from_is_utf8}}
+use Rattle.std.specs.{List.list_any, Str.is_utf8}
+use Rattle.kc_language.specs.{Expansion.{FileContext, NextStatement, ReadSoFar, Reading, Refused, Rest, SourceNames, at_end, bad_line, bad_source, blank, bytes_cause, goes_on, moved, no_tokens, over_limit, refused, refused_inside, renumbered, source, sourcing_cause, statement, too_long, unclosed}, Expressions.{mention, same_name}, Files.path_of, Lines.UnreadLines, Statements.{After, Cause, LineContext, Located, Named, ReadsSource, SourceLine, begins_with, finish, plain_text, text_of}, Text.most_lines, Tokens.Lexeme}
 use Rattle.kc_expr.proofs.NamesLemmas.{same_name-refl}
 use Rattle.kc_language.specs.declared.diagnostics.Cause.TheVariants as cause
-use Rattle.kc_language.specs.Expansion.{FileContext, ReadSoFar, Refused, Rest, NextStatement, bytes_cause, sourcing_cause, at_end, unclosed, too_long, no_tokens, blank, renumbered, moved, bad_line, over_limit, statement, bad_source, refused_inside, source, SourceNames}
-use Rattle.kc_read.specs.PartsOfExpansion.{is_source, lines_of}
-use Rattle.kc_language.specs.Statements.{Cause, LineContext, After, ReadsSource, begins_with, finish, plain_text, text_of, Located, Named, SourceLine}
+use Rattle.kc_entries.specs.PartsOfExpansion.{is_source, lines_of}
 use Rattle.kc_read.specs.OpenedFiles.{sourced_files}
-use Rattle.kc_read.proofs.FileLemmas.{same_name_eq}
-use Rattle.kc_read.proofs.OneExpansion.{none_or_some, one_some, source_line}
+use Rattle.kc_read.proofs.{FileLemmas.same_name_eq, OneExpansion.{none_or_some, one_some, source_line}, SourceWord.{begins_source, source_begins}}
 use Rattle.kc_read.proofs.SourceLines as lines
-use Rattle.kc_read.proofs.SourceWord.{source_begins, begins_source}
-use Rattle.kc_load.specs.PartsOfFolder.{named}
-use Rattle.kc_language.specs.Outcome.{path_of}
-use Rattle.kc_load.specs.Asking.{AreSources, FileBytes, tree_of}
-use Rattle.kc_language.specs.Text.{most_lines}
+use Rattle.kc_load.specs.{Asking.{AreSources, FileBytes, tree_of}, PartsOfFolder.named, Steps.was_requested}
 use Rattle.kc_text.specs.PartsOfText.{last_count}
-use Rattle.kc_load.specs.Steps.{was_requested}
-use Rattle.kc_load.proofs.RequestedLemmas.{requested_cases, requested_itself, requested_still, only_element}
-use Rattle.kc_load.proofs.Walks.{IsMetIn, Walks, stopped, passed, missing, taken, all_passed, first_is_met, first_or_later, grows, meets, no_name, split}
+use Rattle.kc_load.proofs.{RequestedLemmas.{only_element, requested_cases, requested_itself, requested_still}, Walks.{IsMetIn, Walks, all_passed, first_is_met, first_or_later, grows, meets, missing, no_name, passed, split, stopped, taken}}
 use Rattle.kc_load.proofs.Walks as walks
 
 -- ---- The names behind a line
@@ -241,46 +224,46 @@ module _ (folder_files : List ℕ → Option (List ℕ)) (dir : List ℕ) where
   none_requested : (a : FileContext) (e : Refused) (w : List (List ℕ)) (m : ℕ) (b : Bool) → Follows a (Err e) [] w m b
   none_requested a e w m b = record { asks = λ y c. absurd (no_name y c); ends = tt }
 
-  pub follow : {a : FileContext} {l : UnreadLines} {own : List (Located Named)} {log : ReadSoFar} {r : Result ReadSoFar Refused} (d : Rest (tree_of all) a l own log r)
-      {v w : List (List ℕ)} {n m : ℕ} {b : Bool} (ns : List (List ℕ)) → SourceNames l ns → Walks (Some folder_files) dir v n ns w m b → IsClosed a.open_files v →
-      n ≤ log.total_lines → log.total_lines ≤ most_lines → Follows a r (sourced_files d) w m b
-  follow (at_end a l own log none closed) ns names walk shut le lim =
-      let e = walks.at_end walk (lines.one_list l ns [] names (lines.at_end l none)) (omega arith) in
-      record { asks = λ y c. absurd (no_name y c); ends = (e.2, subst (IsClosed a.open_files) e.0 shut, let k = e.1 in omega arith, lim) }
-  follow (unclosed a l own log line none unmatched) ns names walk shut le lim = none_requested a _ _ _ _
-  follow (too_long a l own log long) ns names walk shut le lim = none_requested a _ _ _ _
-  follow (no_tokens a l m own log ts why next) ns names walk shut le lim = none_requested a _ _ _ _
-  follow (blank a l m own log r next d) ns names walk shut le lim = follow d ns (lines.after_other l m ns ([], next.0, refl) names) walk shut le lim
-  follow (renumbered a l m own log n r marks d) ns names walk shut le lim = absurd (false≢true marks.1)
-  follow (moved a l m own log n name r marks differs d) ns names walk shut le lim = absurd (false≢true marks.1)
-  follow (bad_line a l m own log c n) ns names walk shut le lim = none_requested a _ _ _ _
-  follow (over_limit a l m own log s c n f) ns names walk shut le lim = none_requested a _ _ _ _
-  follow (statement a l m own log s r n plain f d) ns names walk shut le lim = follow d ns (names_plain l m _ s ns n plain names) walk shut le lim
-  follow (bad_source a l l' own log name c next f) {v} {w} {n} {m} {b} ns names walk shut le lim =
-      let x = names_source l l' _ name ns next names in
+  pub follow : {at : Reading} {r : Result ReadSoFar Refused} (d : Rest (tree_of all) at r)
+      {v w : List (List ℕ)} {n m : ℕ} {b : Bool} (ns : List (List ℕ)) → SourceNames at.unread ns → Walks (Some folder_files) dir v n ns w m b →
+      IsClosed at.context.open_files v → n ≤ at.log.total_lines → at.log.total_lines ≤ most_lines → Follows at.context r (sourced_files d) w m b
+  follow (at_end at none closed) ns names walk shut le lim =
+      let e = walks.at_end walk (lines.one_list at.unread ns [] names (lines.at_end at.unread none)) (omega arith) in
+      record { asks = λ y c. absurd (no_name y c); ends = (e.2, subst (IsClosed at.context.open_files) e.0 shut, let k = e.1 in omega arith, lim) }
+  follow (unclosed at line none unmatched) ns names walk shut le lim = none_requested at.context _ _ _ _
+  follow (refused at c (too_long long)) ns names walk shut le lim = none_requested at.context _ _ _ _
+  follow (refused at c (no_tokens m ts why next)) ns names walk shut le lim = none_requested at.context _ _ _ _
+  follow (refused at c (bad_line m why n)) ns names walk shut le lim = none_requested at.context _ _ _ _
+  follow (refused at c (over_limit m s why n f)) ns names walk shut le lim = none_requested at.context _ _ _ _
+  follow (refused at c (bad_source l' name why next f)) {v} {w} {n} {m} {b} ns names walk shut le lim =
+      let x = names_source at.unread l' _ name ns next names in
       let met = first_is_met (omega arith) (subst (λ zs. Walks (Some folder_files) dir v n zs w m b) x.1 walk) in
       record { asks = λ y c. subst (IsMetIn w) (only_element name y c) met; ends = tt }
-  follow (refused_inside a l l' own log name bytes e next free there d) {v} {w} {n} {m} {b} ns names walk shut le lim =
-      let x = names_source l l' _ name ns next names in
-      let may = may_open all a.open_files log.total_lines name bytes free there in
-      let en = enter bytes log.total_lines there may.0 le lim shut (subst (λ zs. Walks (Some folder_files) dir v n zs w m b) x.1 walk) in
+  follow (goes_on at next r (blank m n) d) ns names walk shut le lim = follow d ns (lines.after_other at.unread m ns ([], n.0, refl) names) walk shut le lim
+  follow (goes_on at next r (renumbered m n marks) d) ns names walk shut le lim = absurd (false≢true marks.1)
+  follow (goes_on at next r (moved m n name marks differs) d) ns names walk shut le lim = absurd (false≢true marks.1)
+  follow (goes_on at next r (statement m s n plain f) d) ns names walk shut le lim = follow d ns (names_plain at.unread m _ s ns n plain names) walk shut le lim
+  follow (refused_inside at o e d) {v} {w} {n} {m} {b} ns names walk shut le lim =
+      let x = names_source at.unread o.after _ o.name ns o.next names in
+      let may = may_open all at.context.open_files at.log.total_lines o.name o.bytes o.allowed o.found in
+      let en = enter o.bytes at.log.total_lines o.found may.0 le lim shut (subst (λ zs. Walks (Some folder_files) dir v n zs w m b) x.1 walk) in
       let f = follow d en.names en.sources en.walk en.closed en.fewer may.1 in
       record {
-        asks = λ y c. elim (first_or_later name (sourced_files d) y c) [
+        asks = λ y c. elim (first_or_later o.name (sourced_files d) y c) [
           | inl is ↦ subst (IsMetIn w) is en.met
           | inr inside ↦ en.grown y (f.asks y inside)
         ];
         ends = tt;
       }
-  follow (source a l l' own log more name bytes r next free there d g) {v} {w} {n} {m} {b} ns names walk shut le lim =
-      let x = names_source l l' _ name ns next names in
-      let may = may_open all a.open_files log.total_lines name bytes free there in
-      let en = enter bytes log.total_lines there may.0 le lim shut (subst (λ zs. Walks (Some folder_files) dir v n zs w m b) x.1 walk) in
+  follow (source at o more r d g) {v} {w} {n} {m} {b} ns names walk shut le lim =
+      let x = names_source at.unread o.after _ o.name ns o.next names in
+      let may = may_open all at.context.open_files at.log.total_lines o.name o.bytes o.allowed o.found in
+      let en = enter o.bytes at.log.total_lines o.found may.0 le lim shut (subst (λ zs. Walks (Some folder_files) dir v n zs w m b) x.1 walk) in
       let f = follow d en.names en.sources en.walk en.closed en.fewer may.1 in
       let on = en.leaves f.ends.0 f.ends.1 in
       let h = follow g x.0 x.2 on.1 on.0 f.ends.2 f.ends.3 in
       record {
-        asks = λ y c. elim (first_or_later name (sourced_files d ++ sourced_files g) y c) [
+        asks = λ y c. elim (first_or_later o.name (sourced_files d ++ sourced_files g) y c) [
           | inl is ↦ subst (IsMetIn w) is en.met
           | inr later ↦ elim (Contains-append_cases (sourced_files d) (sourced_files g) y later) [
             | inl inside ↦ en.grown y (f.asks y inside)

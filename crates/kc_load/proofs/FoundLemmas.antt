@@ -1,13 +1,9 @@
 -- What was found, with one answer more.
-use Rattle.std.proofs.Common.{◌≡◌, ℕ, ◌+◌, ◌≤◌, zero, suc, Bool, true, false, cond, ◌||◌, List, [], ◌∷◌, ◌++◌, map, take, Option, None, All, arith, refl, sym, ap, ◌∙◌, subst}
-use Rattle.std.proofs.lemmas.Bool.{both_ways, or_parts}
-use Rattle.std.proofs.lemmas.List.{map-append}
-use Rattle.std.proofs.lemmas.List.Elements.{All-head, All-tail}
+use Rattle.std.proofs.{Common.{All, Bool, List, None, Option, [], ap, arith, cond, false, map, refl, subst, suc, sym, take, true, zero, ℕ, ◌++◌, ◌+◌, ◌||◌, ◌∙◌, ◌∷◌, ◌≡◌, ◌≤◌}, lemmas.{Bool.{both_ways, or_parts}, List.{Elements.{All-head, All-tail}, map-append}}}
 use Rattle.kc_language.specs.Expressions.{same_name}
 use Rattle.kc_expr.proofs.NamesLemmas.{same_name-refl}
 use Rattle.kc_read.proofs.FileLemmas.{same_name_eq}
-use Rattle.kc_load.specs.Folder.{Answer, files_found, line_total}
-use Rattle.kc_load.specs.Steps.{was_requested}
+use Rattle.kc_load.specs.{Folder.{Answer, files_found, line_total}, Steps.was_requested}
 
 abbrev pub names_of : List Answer → List (List ℕ)
 names_of asked = map (λ (a : Answer). a.name) asked

@@ -1,11 +1,6 @@
 -- Lists of names, and what they hold.
-use Rattle.std.proofs.Common.{◌≡◌, ℕ, suc, ◌+◌, Bool, true, false, not, cond, ◌||◌, List, [], ◌∷◌, ◌++◌, map, reverse, length, nat_lt, is_some, option_map, position, Contains, inl, inr, arith, refl, sym, ap, ◌∙◌, subst, Some, None}
-use Rattle.std.specs.List.{list_any, position_or_len}
-use Rattle.std.proofs.lemmas.List.{reverse-append, map_push}
-use Rattle.std.proofs.lemmas.List.Elements.{Contains-append_left, Contains-append_right, Contains-append_cases}
-use Rattle.std.proofs.lemmas.Bool.Decides.{nat_tests}
-use Rattle.std.specs.declared.vec.Vec.{Vec}
-use Rattle.std.specs.declared.alloc.Global.{Global}
+use Rattle.std.proofs.{Common.{Bool, Contains, List, None, Some, [], ap, arith, cond, false, inl, inr, is_some, length, map, nat_lt, not, option_map, position, refl, reverse, subst, suc, sym, true, ℕ, ◌++◌, ◌+◌, ◌||◌, ◌∙◌, ◌∷◌, ◌≡◌}, lemmas.{Bool.Decides.nat_tests, List.{Elements.{Contains-append_cases, Contains-append_left, Contains-append_right}, map_push, reverse-append}}}
+use Rattle.std.specs.{List.{list_any, position_or_len}, declared.{alloc.Global.Global, vec.Vec.Vec}}
 use Rattle.kc_language.specs.Expressions.{symbol}
 
 more_is : (n : ℕ) → suc n ≡ n + 1

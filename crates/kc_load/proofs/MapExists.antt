@@ -1,23 +1,12 @@
 -- Over a folder that tells its files there is a map that loading gives.
-use Rattle.std.proofs.Common.{◌≡◌, ◌⊎◌, ℕ, ◌+◌, ◌-◌, ◌<◌, ◌≤◌, zero, suc, Bool, true, false, cond, List, [], ◌∷◌, ◌++◌, append-nil, reverse, length, length-append, min, nat_lt, Option, Some, None, inl, inr, arith, refl, ap, ◌∙◌}
-use Rattle.std.proofs.lemmas.Bool.{both_ways}
-use Rattle.std.proofs.lemmas.Str.{IsUtf8-from_is_utf8, is_utf8-from_IsUtf8}
+use Rattle.std.proofs.{Common.{Bool, List, None, Option, Some, [], ap, append-nil, arith, cond, false, inl, inr, length, length-append, min, nat_lt, refl, reverse, suc, true, zero, ℕ, ◌++◌, ◌+◌, ◌-◌, ◌<◌, ◌∙◌, ◌∷◌, ◌≡◌, ◌≤◌, ◌⊎◌}, lemmas.{Bool.both_ways, Str.{IsUtf8-from_is_utf8, is_utf8-from_IsUtf8}}}
 use Rattle.std.specs.Str.{is_utf8}
-use Rattle.kc_language.specs.Lines.{unread_lines}
+use Rattle.kc_language.specs.{Expressions.{mention, same_name}, Files.path_of, Lines.unread_lines, Text.most_lines}
 use Rattle.kc_text.specs.PartsOfText.{last_count}
-use Rattle.kc_language.specs.Text.{most_lines}
-use Rattle.kc_language.specs.Expressions.{same_name, mention}
 use Rattle.kc_read.proofs.OpenedFileLemmas.{has_one_list_of_names}
-use Rattle.kc_load.specs.Asking.{FileBytes}
-use Rattle.kc_read.specs.PartsOfExpansion.{lines_of}
-use Rattle.kc_language.specs.Outcome.{path_of}
-use Rattle.kc_load.specs.Asking.{AreSources}
-use Rattle.kc_load.specs.Loading.{Loads, MapExists}
-use Rattle.kc_load.specs.Steps.{AddsName, State, Visits, no_text, not_new, no_file, file, initial_state, was_requested}
-use Rattle.kc_load.proofs.EndLemmas.{at_end, at_start, is_over, not_over, when_over}
-use Rattle.kc_load.proofs.Ongoing.{Ongoing}
-use Rattle.kc_load.proofs.SourceLemmas.{no_lines_no_sources}
-use Rattle.kc_load.proofs.TurnLemmas.{turn}
+use Rattle.kc_load.specs.{Asking.{AreSources, FileBytes}, Loading.{Loads, MapExists}, Steps.{AddsName, State, Visits, file, initial_state, no_file, no_text, not_new, was_requested}}
+use Rattle.kc_entries.specs.PartsOfExpansion.{lines_of}
+use Rattle.kc_load.proofs.{EndLemmas.{at_end, at_start, is_over, not_over, when_over}, Ongoing.Ongoing, SourceLemmas.no_lines_no_sources, TurnLemmas.turn}
 
 -- there are no names, or there is a last one
 none_or_last : (names : List (List ℕ)) → (names ≡ []) ⊎ ((rest : List (List ℕ)) × (name : List ℕ) × (names ≡ rest ++ name ∷ []))

@@ -1,7 +1,6 @@
 -- Names that are mentioned one after another.
-use Rattle.std.proofs.Common.{◌≡◌, ℕ, ◌+◌, ◌<◌, List, [], ◌∷◌, ◌++◌, length, map, take, get_or, refl, sym, ap, ◌∙◌}
-use Rattle.std.proofs.lemmas.List.{map_push, take_more}
-use Rattle.kc_language.specs.Expressions.{mention, all_mentioned}
+use Rattle.std.proofs.{Common.{List, [], ap, get_or, length, map, refl, sym, take, ℕ, ◌++◌, ◌+◌, ◌<◌, ◌∙◌, ◌∷◌, ◌≡◌}, lemmas.List.{map_push, take_more}}
+use Rattle.kc_language.specs.Expressions.{all_mentioned, mention}
 
 pub all_append : (names xs ys : List (List ℕ)) → all_mentioned names (xs ++ ys) ≡ all_mentioned (all_mentioned names xs) ys
 all_append names [] ys = refl

@@ -1,16 +1,8 @@
 -- Over a folder that tells its files, what loading gives is one map.
-use Rattle.std.proofs.Common.{◌≡◌, ◌⊎◌, ℕ, ◌+◌, ◌≤◌, zero, suc, Bool, true, false, nat_le, List, [], ◌∷◌, ◌++◌, append-nil, map, length, length-append, take, drop, Option, Some, All, Contains, inl, inr, arith, refl, sym, ap, ◌∙◌, subst}
-use Rattle.std.proofs.lemmas.Bool.Decides.{nat_tests}
-use Rattle.std.proofs.lemmas.List.{length-take, take_all, take-append-le, take-append-drop, map-append}
-use Rattle.std.proofs.lemmas.List.Elements.{All-head, All-tail, Contains-append_left}
-use Rattle.std.proofs.Math.ListN.{length-map}
-use Rattle.kc_language.specs.Text.{most_lines}
-use Rattle.kc_language.specs.Outcome.{path_of}
-use Rattle.kc_load.specs.Folder.{Answer, AreAsked, files_found, line_total}
-use Rattle.kc_load.specs.Loading.{OneMap, WereWithin}
-use Rattle.kc_load.proofs.FoundLemmas.{at_name, names_of}
-use Rattle.kc_load.proofs.OneOrder.{same_front}
-use Rattle.kc_load.proofs.RequestedLemmas.{requested_in}
+use Rattle.std.proofs.{Common.{All, Bool, Contains, List, Option, Some, [], ap, append-nil, arith, drop, false, inl, inr, length, length-append, map, nat_le, refl, subst, suc, sym, take, true, zero, ℕ, ◌++◌, ◌+◌, ◌∙◌, ◌∷◌, ◌≡◌, ◌≤◌, ◌⊎◌}, Math.ListN.length-map, lemmas.{Bool.Decides.nat_tests, List.{Elements.{All-head, All-tail, Contains-append_left}, length-take, map-append, take-append-drop, take-append-le, take_all}}}
+use Rattle.kc_language.specs.{Files.path_of, Text.most_lines}
+use Rattle.kc_load.specs.{Folder.{Answer, AreAsked, files_found, line_total}, Loading.{OneMap, WereWithin}}
+use Rattle.kc_load.proofs.{FoundLemmas.{at_name, names_of}, OneOrder.same_front, RequestedLemmas.requested_in}
 
 module _ (folder_files : List ℕ → Option (List ℕ)) (dir first : List ℕ) where
   -- the answer that the folder tells

@@ -1,12 +1,8 @@
 -- The order in which names are asked for is one: over files that agree on a front of it, it goes on with the same name.
-use Rattle.std.proofs.Common.{◌≡◌, ◌⊎◌, ℕ, ◌+◌, zero, suc, List, [], ◌∷◌, ◌++◌, length, take, Option, Some, None, Contains, inl, inr, arith, refl, sym, ap, ◌∙◌, subst}
-use Rattle.std.proofs.lemmas.List.{take_all}
-use Rattle.std.proofs.lemmas.List.Elements.{Contains-append_left, Contains-append_right, Contains-append_cases}
+use Rattle.std.proofs.{Common.{Contains, List, None, Option, Some, [], ap, arith, inl, inr, length, refl, subst, suc, sym, take, zero, ℕ, ◌++◌, ◌+◌, ◌∙◌, ◌∷◌, ◌≡◌, ◌⊎◌}, lemmas.List.{Elements.{Contains-append_cases, Contains-append_left, Contains-append_right}, take_all}}
 use Rattle.kc_language.specs.Lines.{unread_lines}
 use Rattle.kc_read.proofs.SourceLines.{one_list}
-use Rattle.kc_load.specs.Asking.{FileBytes}
-use Rattle.kc_load.specs.Asking.{AreSourcesOf, AskedAlong, IsNew, ended, passed, asked}
-use Rattle.kc_load.specs.Loading.{OneOrder}
+use Rattle.kc_load.specs.{Asking.{AreSourcesOf, AskedAlong, FileBytes, IsNew, asked, ended, passed}, Loading.OneOrder}
 
 -- ---- Fronts of lists
 

@@ -1,12 +1,8 @@
 -- What holds while files are loaded.
-use Rattle.std.proofs.Common.{◌≡◌, ℕ, List, ◌++◌, reverse, min, true, All, IsUtf8}
+use Rattle.std.proofs.Common.{All, IsUtf8, List, min, reverse, true, ℕ, ◌++◌, ◌≡◌}
 use Rattle.kc_text.specs.PartsOfText.{last_count}
-use Rattle.kc_load.specs.Asking.{FileBytes}
-use Rattle.kc_load.specs.Folder.{FolderFiles, AnswersAs, Answer, files_found, line_total}
-use Rattle.kc_language.specs.Outcome.{path_of}
-use Rattle.kc_load.specs.Asking.{AskedAlong, AskedInOrder}
-use Rattle.kc_load.specs.Loading.{WereWithin}
-use Rattle.kc_load.specs.Steps.{State, was_requested}
+use Rattle.kc_load.specs.{Asking.{AskedAlong, AskedInOrder, FileBytes}, Folder.{Answer, AnswersAs, FolderFiles, files_found, line_total}, Loading.WereWithin, Steps.{State, was_requested}}
+use Rattle.kc_language.specs.Files.{path_of}
 use Rattle.kc_load.proofs.FoundLemmas.{names_of}
 
 -- each name that was asked for has the file that was found

@@ -1,12 +1,7 @@
 -- What is asked for along names: through two lists of them, and where no file is left.
-use Rattle.std.proofs.Common.{◌≡◌, ◌⊎◌, ℕ, Bool, true, false, List, [], ◌∷◌, ◌++◌, append_assoc, append-nil, None, Contains, inl, inr, refl, sym, ap, ◌∙◌, subst}
-use Rattle.std.proofs.lemmas.Bool.{both_ways}
-use Rattle.std.proofs.lemmas.List.Elements.{Contains-append_left}
-use Rattle.std.proofs.lemmas.Str.{IsUtf8-from_is_utf8, is_utf8-from_IsUtf8}
+use Rattle.std.proofs.{Common.{Bool, Contains, List, None, [], ap, append-nil, append_assoc, false, inl, inr, refl, subst, sym, true, ℕ, ◌++◌, ◌∙◌, ◌∷◌, ◌≡◌, ◌⊎◌}, lemmas.{Bool.both_ways, List.Elements.Contains-append_left, Str.{IsUtf8-from_is_utf8, is_utf8-from_IsUtf8}}}
 use Rattle.std.specs.Str.{is_utf8}
-use Rattle.kc_load.specs.Asking.{FileBytes}
-use Rattle.kc_load.specs.Asking.{AreSourcesOf, AskedAlong, IsNew, ended, passed, asked}
-use Rattle.kc_load.specs.Steps.{was_requested}
+use Rattle.kc_load.specs.{Asking.{AreSourcesOf, AskedAlong, FileBytes, IsNew, asked, ended, passed}, Steps.was_requested}
 use Rattle.kc_load.proofs.RequestedLemmas.{in_requested, not_in}
 
 -- a name is to be asked for, or it is not

@@ -1,23 +1,12 @@
 -- There is an order over the files that were found, and what is asked for is what the first name reaches, each name once.
-use Rattle.std.proofs.Common.{◌≡◌, ◌⊎◌, ℕ, ◌+◌, ◌<◌, ◌≤◌, zero, suc, Bool, true, false, cond, List, [], ◌∷◌, ◌++◌, append_assoc, Option, Some, None, Contains, IsUtf8, inl, inr, arith, refl, sym, ap, ◌∙◌, subst}
-use Rattle.std.proofs.lemmas.Bool.{both_ways}
-use Rattle.std.proofs.lemmas.List.Elements.{Contains-append_left, Contains-append_right, Contains-append_cases, Contains-push, All-contains, All-from_recursion}
+use Rattle.std.proofs.{Common.{Bool, Contains, IsUtf8, List, None, Option, Some, [], ap, append_assoc, arith, cond, false, inl, inr, refl, subst, suc, sym, true, zero, ℕ, ◌++◌, ◌+◌, ◌<◌, ◌∙◌, ◌∷◌, ◌≡◌, ◌≤◌, ◌⊎◌}, lemmas.{Bool.both_ways, List.Elements.{All-contains, All-from_recursion, Contains-append_cases, Contains-append_left, Contains-append_right, Contains-push}}}
 use Rattle.std.specs.List.{AllByRecursion, IsDistinct}
-use Rattle.kc_language.specs.Lines.{unread_lines}
+use Rattle.kc_language.specs.{Expressions.same_name, Lines.unread_lines}
 use Rattle.kc_expr.specs.Names.{AreDistinct}
-use Rattle.kc_language.specs.Expressions.{same_name}
 use Rattle.kc_expr.proofs.NamesLemmas.{same_name-refl}
-use Rattle.kc_read.proofs.FileLemmas.{same_name_eq}
-use Rattle.kc_read.proofs.OpenedFileLemmas.{has_one_list_of_names}
-use Rattle.kc_load.specs.Asking.{FileBytes}
-use Rattle.kc_load.specs.Folder.{Answer, files_found}
-use Rattle.kc_load.specs.Asking.{AreSources, AreSourcesOf, AskedAlong, IsNew, ended, passed, asked}
-use Rattle.kc_load.specs.Loading.{HasOrder, OrderIsReached, Reached, itself, sourced}
-use Rattle.kc_load.specs.Steps.{was_requested}
-use Rattle.kc_load.proofs.FoundLemmas.{found_absent, names_of}
-use Rattle.kc_load.proofs.OneOrder.{in_first, in_later, one_sources}
-use Rattle.kc_load.proofs.OrderLemmas.{new_or_not}
-use Rattle.kc_load.proofs.RequestedLemmas.{in_requested, not_in, only_element, requested_in}
+use Rattle.kc_read.proofs.{FileLemmas.same_name_eq, OpenedFileLemmas.has_one_list_of_names}
+use Rattle.kc_load.specs.{Asking.{AreSources, AreSourcesOf, AskedAlong, FileBytes, IsNew, asked, ended, passed}, Folder.{Answer, files_found}, Loading.{HasOrder, OrderIsReached, Reached, itself, sourced}, Steps.was_requested}
+use Rattle.kc_load.proofs.{FoundLemmas.{found_absent, names_of}, OneOrder.{in_first, in_later, one_sources}, OrderLemmas.new_or_not, RequestedLemmas.{in_requested, not_in, only_element, requested_in}}
 
 no_name : (x : List ℕ) → Contains {X = List ℕ} [] x → ⊥
 no_name x h = let lt = h.1 in absurd (omega arith)

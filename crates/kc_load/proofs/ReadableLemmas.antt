@@ -1,9 +1,7 @@
 -- The first name that make cannot read, one name on.
-use Rattle.std.proofs.Common.{◌≡◌, ◌+◌, ◌∙◌, ℕ, Bool, true, false, List, ◌∷◌, drop, Some, slice_get, ap, sym}
+use Rattle.std.proofs.{Common.{Bool, List, Some, ap, drop, false, slice_get, sym, true, ℕ, ◌+◌, ◌∙◌, ◌∷◌, ◌≡◌}, lemmas.{List.at_drop_more, Option.{get_or_from_slice_get, slice_get_within}}}
 use Rattle.std.specs.Prelude.{if◌then◌else◌, not}
-use Rattle.std.proofs.lemmas.List.{at_drop_more}
-use Rattle.std.proofs.lemmas.Option.{get_or_from_slice_get, slice_get_within}
-use Rattle.kc_language.specs.Outcome.{is_read_by_make}
+use Rattle.kc_language.specs.Files.{is_read_by_make}
 use Rattle.kc_load.specs.PartsOfOutcome.{first_unreadable}
 
 at_name : (names : List (List ℕ)) (i : ℕ) (name : List ℕ) → slice_get names i ≡ Some name →

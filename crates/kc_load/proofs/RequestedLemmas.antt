@@ -1,10 +1,7 @@
 -- Names that were asked for, and one more.
-use Rattle.std.proofs.Common.{◌≡◌, ◌⊎◌, ℕ, zero, suc, ◌<◌, slice_index_or, Bool, true, false, ◌||◌, cond, List, [], ◌∷◌, ◌++◌, Contains, inl, inr, arith, refl, sym, ap, ◌∙◌}
+use Rattle.std.proofs.{Common.{Bool, Contains, List, [], ap, arith, cond, false, inl, inr, refl, slice_index_or, suc, sym, true, zero, ℕ, ◌++◌, ◌<◌, ◌||◌, ◌∙◌, ◌∷◌, ◌≡◌, ◌⊎◌}, lemmas.{Bool.both_ways, List.Folds.{list_any-append, list_any_at}, Map.Views.Contains-from_any}}
 use Rattle.std.specs.List.{list_any}
-use Rattle.std.proofs.lemmas.Bool.{both_ways}
-use Rattle.std.proofs.lemmas.List.Folds.{list_any-append, list_any_at}
-use Rattle.std.proofs.lemmas.Map.Views.{Contains-from_any}
-use Rattle.kc_language.specs.Expressions.{same_name, mention}
+use Rattle.kc_language.specs.Expressions.{mention, same_name}
 use Rattle.kc_expr.proofs.NamesLemmas.{same_name-refl}
 use Rattle.kc_read.proofs.FileLemmas.{same_name_eq}
 use Rattle.kc_load.specs.Steps.{was_requested}

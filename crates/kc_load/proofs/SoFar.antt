@@ -1,17 +1,9 @@
 -- What holds while files are loaded from a folder that may stop telling.
-use Rattle.std.proofs.Common.{◌≡◌, ℕ, ◌<◌, ◌≤◌, true, false, List, [], ◌∷◌, ◌++◌, Option}
+use Rattle.std.proofs.Common.{List, Option, [], false, true, ℕ, ◌++◌, ◌<◌, ◌∷◌, ◌≡◌, ◌≤◌}
 use Rattle.kc_language.specs.Text.{most_lines}
-use Rattle.kc_load.specs.Asking.{tree_of}
-use Rattle.kc_load.specs.Loading.{Suffices, Loads}
-use Rattle.kc_load.specs.Folder.{IsLoadFault, FolderFiles, FolderState, Leads, files_told}
-use Rattle.kc_load.specs.Steps.{FailsAt, State, Visits, initial_state}
-use Rattle.kc_load.specs.declared.fault.LoadFault.{LoadFault}
+use Rattle.kc_load.specs.{Asking.tree_of, Folder.{FolderFiles, FolderState, IsLoadFault, Leads, files_told}, Loading.{Loads, Suffices}, Steps.{FailsAt, State, Visits, initial_state}, declared.fault.LoadFault.LoadFault}
 use Rattle.kc_load.proofs.EndLemmas as ends
-use Rattle.kc_load.proofs.EnoughLemmas.{enough}
-use Rattle.kc_load.proofs.FolderLemmas.{AreTold, are_told, told_before, visits_told}
-use Rattle.kc_load.proofs.Ongoing.{Ongoing}
-use Rattle.kc_load.proofs.TurnLemmas.{turn}
-use Rattle.kc_load.proofs.Walks.{IsOnWay, ended_walk, over_walk, walk_begins, walk_goes_on}
+use Rattle.kc_load.proofs.{EnoughLemmas.enough, FolderLemmas.{AreTold, are_told, told_before, visits_told}, Ongoing.Ongoing, TurnLemmas.turn, Walks.{IsOnWay, ended_walk, over_walk, walk_begins, walk_goes_on}}
 
 -- the loading is under way, over the files that are told now and over none
 abbrev pub SoFar : Option FolderState → List ℕ → List ℕ → State → Type 0

@@ -1,9 +1,8 @@
 -- A file without lines sources nothing.
-use Rattle.std.proofs.Common.{◌≡◌, List, [], ℕ}
-use Rattle.std.proofs.lemmas.List.{nil_from_length}
-use Rattle.kc_language.specs.Lines.{unread_lines, physical_lines}
+use Rattle.std.proofs.{Common.{List, [], ℕ, ◌≡◌}, lemmas.List.nil_from_length}
+use Rattle.kc_language.specs.Lines.{physical_lines, unread_lines}
 use Rattle.kc_read.proofs.SourceLines.{at_end, one_list}
-use Rattle.kc_read.specs.PartsOfExpansion.{lines_of}
+use Rattle.kc_entries.specs.PartsOfExpansion.{lines_of}
 use Rattle.kc_load.specs.Asking.{AreSources}
 
 pub no_lines_no_sources : (bytes : List ℕ) (names : List (List ℕ)) → AreSources bytes names → lines_of bytes ≡ 0 → names ≡ []

@@ -1,22 +1,10 @@
 -- The turn of one name keeps what holds while files are loaded.
-use Rattle.std.proofs.Common.{◌≡◌, ℕ, ◌+◌, ◌≤◌, suc, Bool, true, false, cond, List, [], ◌∷◌, ◌++◌, append_assoc, append-nil, reverse, length, length-append, take, min, Some, None, Option, IsUtf8, arith, refl, sym, ap, ◌∙◌, subst}
-use Rattle.std.proofs.lemmas.List.{reverse-append, reverse-reverse, take_at, take-append-le}
-use Rattle.std.proofs.lemmas.List.Elements.{All-push, Contains-append_left, Contains-push}
-use Rattle.kc_language.specs.Expressions.{same_name, mention}
+use Rattle.std.proofs.{Common.{Bool, IsUtf8, List, None, Option, Some, [], ap, append-nil, append_assoc, arith, cond, false, length, length-append, min, refl, reverse, subst, suc, sym, take, true, ℕ, ◌++◌, ◌+◌, ◌∙◌, ◌∷◌, ◌≡◌, ◌≤◌}, lemmas.List.{Elements.{All-push, Contains-append_left, Contains-push}, reverse-append, reverse-reverse, take-append-le, take_at}}
+use Rattle.kc_language.specs.{Expressions.{mention, same_name}, Files.path_of, Text.most_lines}
 use Rattle.kc_text.specs.PartsOfText.{last_count}
-use Rattle.kc_language.specs.Text.{most_lines}
 use Rattle.kc_read.proofs.FileLemmas.{same_name_eq}
-use Rattle.kc_load.specs.Asking.{FileBytes}
-use Rattle.kc_load.specs.Folder.{FolderFiles, AnswersAs, Answer, files_found, line_total}
-use Rattle.kc_language.specs.Outcome.{path_of}
-use Rattle.kc_load.specs.Asking.{AreSourcesOf, AskedAlong, AskedInOrder, IsNew, passed, asked}
-use Rattle.kc_load.specs.Loading.{WereWithin}
-use Rattle.kc_load.specs.PartsOfFolder.{lines_found}
-use Rattle.kc_load.specs.Steps.{AddsName, IsDue, State, AddsFile, Visits, no_text, not_new, no_file, file, was_requested}
-use Rattle.kc_load.proofs.FoundLemmas.{found_absent, found_itself, found_push, found_still, names_of, names_push, total_append, total_take}
-use Rattle.kc_load.proofs.Ongoing.{Agree, IsInOrder, Ongoing}
-use Rattle.kc_load.proofs.OrderLemmas.{split}
-use Rattle.kc_load.proofs.RequestedLemmas.{in_requested, mention_is, not_in, requested_in}
+use Rattle.kc_load.specs.{Asking.{AreSourcesOf, AskedAlong, AskedInOrder, FileBytes, IsNew, asked, passed}, Folder.{Answer, AnswersAs, FolderFiles, files_found, line_total}, Loading.WereWithin, PartsOfFolder.lines_found, Steps.{AddsFile, AddsName, IsDue, State, Visits, file, no_file, no_text, not_new, was_requested}}
+use Rattle.kc_load.proofs.{FoundLemmas.{found_absent, found_itself, found_push, found_still, names_of, names_push, total_append, total_take}, Ongoing.{Agree, IsInOrder, Ongoing}, OrderLemmas.split, RequestedLemmas.{in_requested, mention_is, not_in, requested_in}}
 
 -- one answer more, where the lines were within the limit
 pub within_push : (before : List Answer) (a : Answer) → line_total before ≤ most_lines → WereWithin (before ++ a ∷ [])

@@ -1,17 +1,10 @@
 -- The order in which names are asked for: depth first, each once, until the lines are over the limit.
-use Rattle.std.proofs.Common.{◌≡◌, ◌⊎◌, ℕ, ◌+◌, ◌<◌, ◌≤◌, Bool, true, false, List, [], ◌∷◌, ◌++◌, reverse, append_assoc, min, Some, None, Contains, IsUtf8, inl, inr, arith, refl, sym, ap, ◌∙◌, subst}
-use Rattle.std.proofs.lemmas.Bool.{true≢false}
-use Rattle.std.proofs.lemmas.List.{reverse-append, reverse-reverse}
-use Rattle.std.proofs.lemmas.List.Elements.{Contains-append_right, Contains-append_cases}
-use Rattle.kc_language.specs.Expressions.{mention}
-use Rattle.kc_load.specs.Folder.{FolderFiles, AnswersAs}
-use Rattle.kc_language.specs.Outcome.{path_of}
-use Rattle.kc_load.specs.Asking.{AreSources}
-use Rattle.kc_language.specs.Text.{most_lines}
+use Rattle.std.proofs.{Common.{Bool, Contains, IsUtf8, List, None, Some, [], ap, append_assoc, arith, false, inl, inr, min, refl, reverse, subst, sym, true, ℕ, ◌++◌, ◌+◌, ◌<◌, ◌∙◌, ◌∷◌, ◌≡◌, ◌≤◌, ◌⊎◌}, lemmas.{Bool.true≢false, List.{Elements.{Contains-append_cases, Contains-append_right}, reverse-append, reverse-reverse}}}
+use Rattle.kc_language.specs.{Expressions.mention, Files.path_of, Text.most_lines}
+use Rattle.kc_load.specs.{Asking.AreSources, Folder.{AnswersAs, FolderFiles}, Steps.{State, Visits, file, initial_state, no_file, no_text, not_new, was_requested}}
 use Rattle.kc_text.specs.PartsOfText.{last_count}
-use Rattle.kc_read.specs.PartsOfExpansion.{lines_of}
-use Rattle.kc_load.specs.Steps.{State, Visits, no_text, not_new, no_file, file, initial_state, was_requested}
-use Rattle.kc_load.proofs.RequestedLemmas.{requested_still, requested_itself, only_element}
+use Rattle.kc_entries.specs.PartsOfExpansion.{lines_of}
+use Rattle.kc_load.proofs.RequestedLemmas.{only_element, requested_itself, requested_still}
 
 -- the name was asked for, if it is text
 abbrev pub IsMetIn : List (List ℕ) → List ℕ → Type 0

@@ -1,9 +1,8 @@
 -- Trusted: What a folder records of its files, in which order the files of a tree are loaded, and why loading ends early (our own).
 -- A folder in memory records everything until it runs out of memory. A folder on a disk records nothing.
-use Rattle.std.specs.{Prelude.{◌≡◌, ℕ, ◌+◌, ◌≤◌, List, [], ◌∷◌, ◌++◌, length, map, All, Bool, true, ◌&&◌, Option, Some, None, MatchOption, Result, Err, IfOk, Vec, option_map, if◌then◌else◌}, Str.is_utf8, declared.alloc.Global.Global}
-use Rattle.kc_language.specs.{Text.most_lines, Expressions.same_name, Expansion.Files, Lines.physical_lines, Outcome.path_of}
-use Rattle.kc_load.specs.Asking.{AskedInOrder, FileBytes}
-use Rattle.kc_load.specs.declared.{folder.FolderFault.{FolderFault, TheVariants.Device}, fault.LoadFault.{LoadFault, TheVariants.CannotRead}}
+use Rattle.std.specs.{Prelude.{All, Bool, Err, IfOk, List, MatchOption, None, Option, Result, Some, Vec, [], if◌then◌else◌, length, map, option_map, true, ℕ, ◌&&◌, ◌++◌, ◌+◌, ◌∷◌, ◌≡◌, ◌≤◌}, Str.is_utf8, declared.alloc.Global.Global}
+use Rattle.kc_language.specs.{Expansion.Files, Expressions.same_name, Files.path_of, Lines.physical_lines, Text.most_lines}
+use Rattle.kc_load.specs.{Asking.{AskedInOrder, FileBytes}, declared.{fault.LoadFault.{LoadFault, TheVariants.CannotRead}, folder.FolderFault.{FolderFault, TheVariants.Device}}}
 
 -- ---- Reading a file
 

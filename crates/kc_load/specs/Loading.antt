@@ -1,9 +1,8 @@
 -- Trusted: What loading gives: the files that were found, read in order, and that they are enough.
-use Rattle.std.specs.{Prelude.{◌≡◌, ℕ, ◌≤◌, List, [], ◌∷◌, ◌++◌, All, Bool, true, if◌then◌else◌, Contains, Option, Some, None, Result, Ok}, Str.IsUtf8}
+use Rattle.std.specs.{Prelude.{All, Bool, Contains, List, None, Ok, Option, Result, Some, [], if◌then◌else◌, true, ℕ, ◌++◌, ◌∷◌, ◌≡◌, ◌≤◌}, Str.IsUtf8}
 use Rattle.kc_expr.specs.Names.{AreDistinct}
-use Rattle.kc_language.specs.{Text.most_lines, Expansion.{Expands, Files, ReadSoFar, Refused}, Expressions.same_name, Outcome.path_of, Statements.{Located, Named}}
-use Rattle.kc_load.specs.Asking.{AreSources, AskedInOrder, FileBytes}
-use Rattle.kc_load.specs.Folder.{Answer, AnswersAs, AreAsked, AreFilesOf, FolderFiles, files_found, line_total}
+use Rattle.kc_language.specs.{Expansion.{Expands, Files, ReadSoFar, Refused}, Expressions.same_name, Files.path_of, Statements.{Located, Named}, Text.most_lines}
+use Rattle.kc_load.specs.{Asking.{AreSources, AskedInOrder, FileBytes}, Folder.{Answer, AnswersAs, AreAsked, AreFilesOf, FolderFiles, files_found, line_total}}
 
 -- before each read, there were no more lines than the limit
 abbrev pub WereWithin : List Answer → Type 0

@@ -1,10 +1,6 @@
 -- Trusted: Names for parts of the definitions of Outcome.
-use Rattle.std.specs.List.{list_any}
-use Rattle.std.specs.Prelude.{Bool, List, Option, [], codes, find, if◌then◌else◌, map, nat_le, not, ℕ, ◌&&◌, ◌++◌, ◌==◌, ◌||◌, ◌∷◌}
-use Rattle.kc_language.specs.Expressions.{all_mentioned, same_name}
-use Rattle.kc_language.specs.Outcome.{ends_in, escaped, is_read_by_make, path_of}
-use Rattle.kc_language.specs.Text.{byte}
-use Rattle.kc_language.specs.declared.outcome.Position.TheVariants.{Prerequisite, Target}
+use Rattle.std.specs.{List.list_any, Prelude.{Bool, List, Option, [], codes, find, if◌then◌else◌, map, nat_le, not, ℕ, ◌&&◌, ◌++◌, ◌==◌, ◌||◌, ◌∷◌}}
+use Rattle.kc_language.specs.{Expressions.{all_mentioned, same_name}, Files.{ends_in, escaped, is_read_by_make, path_of}, Text.byte, declared.files.Position.TheVariants.{Prerequisite, Target}}
 
 -- a byte, after a `\` if it needs one; a `$` is doubled
 abbrev pub escaped_byte : Bool → ℕ → List ℕ

@@ -1,17 +1,9 @@
 -- For proofs: The state of loading, and one step for one name.
-use Rattle.std.specs.Prelude.{◌≡◌, ◌+◌, ℕ, List, [], ◌∷◌, ◌++◌, map, reverse, min, Bool, true, false, None, Some, if◌then◌else◌}
-use Rattle.std.specs.List.{list_any}
-use Rattle.std.specs.Str.{IsUtf8}
+use Rattle.std.specs.{List.list_any, Prelude.{Bool, List, None, Some, [], false, if◌then◌else◌, map, min, reverse, true, ℕ, ◌++◌, ◌+◌, ◌∷◌, ◌≡◌}, Str.IsUtf8}
 use Rattle.kc_text.specs.PartsOfText.{last_count}
-use Rattle.kc_language.specs.Expansion.{bytes_in}
-use Rattle.kc_language.specs.Expressions.{same_name, mention}
-use Rattle.kc_read.specs.PartsOfExpansion.{lines_of}
-use Rattle.kc_load.specs.Folder.{FolderFiles, AnswersAs}
-use Rattle.kc_language.specs.Outcome.{path_of}
-use Rattle.kc_load.specs.Asking.{AreSources, FileBytes}
-use Rattle.kc_load.specs.declared.fault.LoadFault.{LoadFault}
-use Rattle.kc_load.specs.declared.fault.LoadFault.TheVariants.{CannotRead, Memory}
-use Rattle.kc_load.specs.declared.loading.Loading.{Loading}
+use Rattle.kc_language.specs.{Expansion.bytes_in, Expressions.{mention, same_name}, Files.path_of}
+use Rattle.kc_entries.specs.PartsOfExpansion.{lines_of}
+use Rattle.kc_load.specs.{Asking.{AreSources, FileBytes}, Folder.{AnswersAs, FolderFiles}, declared.{fault.LoadFault.{LoadFault, TheVariants.{CannotRead, Memory}}, loading.Loading.Loading}}
 
 -- the loaded files, the names that were read, the names that wait (the next one last), and the number of lines
 pub record State : Type 0 where

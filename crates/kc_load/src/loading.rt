@@ -4,9 +4,9 @@ ghost use Rattle.std.specs.Prelude.{◌≡◌, ◌+◌, IfOk, IfErr, OnOk, false
 ghost use Rattle.kc_load.specs.Asking.{tree_of};
 ghost use Rattle.kc_load.specs.Loading.{Suffices, Loads, LoadsFlat};
 ghost use Rattle.kc_load.specs.Folder.{Leads, ReadsAt, files_told, IsLoadFault, failed_load};
-ghost use Rattle.kc_language.specs.Outcome.{path_of};
+ghost use Rattle.kc_language.specs.Files.{path_of};
 ghost use Rattle.kc_read.specs.Files.{files_in};
-ghost use Rattle.kc_read.specs.PartsOfExpansion.{lines_of};
+ghost use Rattle.kc_entries.specs.PartsOfExpansion.{lines_of};
 ghost use Rattle.kc_language.specs.Text.{most_lines};
 ghost use Rattle.kc_text.specs.PartsOfText.{last_count};
 ghost use Rattle.kc_load.specs.Steps.{FailsAt, PushesSources, AddsFile, Visits, initial_state, state_of, was_requested};

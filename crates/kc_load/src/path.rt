@@ -1,7 +1,7 @@
 //! The path of a file of the tree.
 
 ghost use Rattle.std.specs.Prelude.{◌≡◌, IfOk, string_bytes};
-ghost use Rattle.kc_language.specs.Outcome.{begins_with_slash, path_of};
+ghost use Rattle.kc_language.specs.Files.{begins_with_slash, path_of};
 
 use std::alloc::{AllocError, Global};
 

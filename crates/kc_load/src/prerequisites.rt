@@ -2,7 +2,7 @@
 
 ghost use Rattle.std.specs.Prelude.{◌≡◌, map, string_bytes, IfOk, OnOk};
 ghost use Rattle.kc_language.specs.Expressions.{all_mentioned};
-ghost use Rattle.kc_language.specs.Outcome.{path_of};
+ghost use Rattle.kc_language.specs.Files.{path_of};
 ghost use Rattle.kc_load.specs.PartsOfOutcome.{inputs_of, prerequisites_of};
 
 use crate::path::begins_with_slash;

@@ -3,10 +3,10 @@
 ghost use Rattle.std.specs.Prelude.{◌≡◌, false, option_map};
 ghost use Rattle.std.specs.List.{list_any};
 ghost use Rattle.kc_language.specs.Expressions.{same_name};
-ghost use Rattle.kc_language.specs.Outcome.{ends_in, is_library, is_plain, is_read_by_make, without_dots};
+ghost use Rattle.kc_language.specs.Files.{ends_in, is_library, is_plain, is_read_by_make, without_dots};
 ghost use Rattle.kc_load.specs.PartsOfOutcome.{first_unreadable};
 ghost use Rattle.kc_load.specs.PartsOfOutcome.{is_beyond_make, unreadable_of};
-ghost use Rattle.kc_language.specs.Outcome as spec;
+ghost use Rattle.kc_language.specs.Files as spec;
 
 use crate::path::begins_with_slash;
 use kc_expr::expression::SymId;

@@ -2,14 +2,14 @@
 
 ghost use Rattle.std.specs.Prelude.{◌≡◌, ◌++◌, IfOk, OnOk, flat_map};
 ghost use Rattle.kc_load.specs.PartsOfOutcome.{closed, empty_rule, prerequisite};
-ghost use Rattle.kc_language.specs.Outcome.{escaped, is_special, needs_backslash};
+ghost use Rattle.kc_language.specs.Files.{escaped, is_special, needs_backslash};
 ghost use Rattle.kc_load.specs.PartsOfOutcome.{escaped_byte};
-ghost use Rattle.kc_language.specs.Outcome as spec;
+ghost use Rattle.kc_language.specs.Files as spec;
 
 use crate::readable::ends_in;
 use kc_expr::expression::SymId;
 use kc_expr::names::Names;
-use kc_language::outcome::Position;
+use kc_language::files::Position;
 use std::alloc::{AllocError, Global};
 
 // Whether make treats this byte as more than a part of a name, unless a `\` is before it.

@@ -1,6 +1,5 @@
 -- What a read gives of a file in memory.
-use Rattle.std.proofs.Common.{◌≡◌, ℕ, ◌+◌, ◌-◌, ◌≤◌, min, Bool, true, false, List, ◌++◌, length, length-drop, length-append, take, drop, drop-drop, arith, refl, sym, ◌∙◌, ap, Option, None, Some, option_map, if◌then◌else◌}
-use Rattle.std.proofs.lemmas.List.{take-append-drop, take-append-le, take_all, length-take-le, nil_from_length}
+use Rattle.std.proofs.{Common.{Bool, List, None, Option, Some, ap, arith, drop, drop-drop, false, if◌then◌else◌, length, length-append, length-drop, min, option_map, refl, sym, take, true, ℕ, ◌++◌, ◌+◌, ◌-◌, ◌∙◌, ◌≡◌, ◌≤◌}, lemmas.List.{length-take-le, nil_from_length, take-append-drop, take-append-le, take_all}}
 use Rattle.kc_io.specs.Log.{IsAtEnd, ReadsOn}
 
 abbrev pub to_come : Bool → List ℕ → ℕ → Option (List ℕ)

@@ -1,17 +1,9 @@
 -- What records tell.
-use Rattle.std.proofs.Common.{◌≡◌, ℕ, true, false, List, [], ◌∷◌, ◌++◌, fold, Vec, refl, sym, ◌∙◌, ap, Option, None, Some, bytes_eq, is_some, string_bytes, Result, IfOk, Ok, Err}
+use Rattle.std.proofs.{Common.{Err, IfOk, List, None, Ok, Option, Result, Some, Vec, [], ap, bytes_eq, false, fold, is_some, refl, string_bytes, sym, true, ℕ, ◌++◌, ◌∙◌, ◌∷◌, ◌≡◌}, lemmas.{Grind.flat_map-append, List.append-nil}}
 use Rattle.std.specs.declared.alloc.Global.{Global}
-use Rattle.std.proofs.lemmas.List.{append-nil}
-use Rattle.std.proofs.lemmas.Grind.{flat_map-append}
-use Rattle.kc_io.specs.Log.{Event, Journal, Leads, Spot, acted, after, each_byte}
-use Rattle.kc_io.specs.declared.device.Action.{Action}
-use Rattle.kc_io.specs.declared.device.Action.TheVariants.{Open, Miss, Read, Create, Write, Close, Move, Clear, Report}
-use Rattle.kc_io.specs.declared.device.Fault.{Fault}
-use Rattle.kc_io.specs.declared.device.Site.TheVariants.{Place, Beside}
-use Rattle.kc_io.proofs.HeldLemmas.{bytes_other, bytes_own}
-use Rattle.kc_io.proofs.LogLemmas.{keeps_bytes, keeps_spot}
-use Rattle.kc_memory_device.specs.Recorded.{asked, done, events_in, events_of, told}
-use Rattle.kc_memory_device.specs.declared.record.Record.{Record}
+use Rattle.kc_io.specs.{Log.{Event, Journal, Leads, Spot, acted, after, each_byte}, declared.device.{Action.{Action, TheVariants.{Clear, Close, Create, Miss, Move, Open, Read, Report, Write}}, Fault.Fault, Site.TheVariants.{Beside, Place}}}
+use Rattle.kc_io.proofs.{HeldLemmas.{bytes_other, bytes_own}, LogLemmas.{keeps_bytes, keeps_spot}}
+use Rattle.kc_memory_device.specs.{Recorded.{asked, done, events_in, events_of, told}, declared.record.Record.Record}
 
 -- one record more
 pub events_more : (records : List Record) (r : Record) → events_of (records ++ r ∷ []) ≡ events_of records ++ events_in r

@@ -1,16 +1,8 @@
 -- What is to come of bytes, as calls go by.
-use Rattle.std.proofs.Common.{◌≡◌, ◌≢◌, ℕ, Bool, true, false, not, ◌&&◌, List, [], ◌∷◌, ◌++◌, fold, length, take, suc, ◌≤◌, arith, ◌==◌, refl, sym, ◌∙◌, ap, Option, None, Some, Bor, MatchOption, nat_eq, bytes_eq, option_map, if◌then◌else◌, inl, inr}
+use Rattle.std.proofs.{Common.{Bool, Bor, List, MatchOption, None, Option, Some, [], ap, arith, bytes_eq, false, fold, if◌then◌else◌, inl, inr, length, nat_eq, not, option_map, refl, suc, sym, take, true, ℕ, ◌&&◌, ◌++◌, ◌==◌, ◌∙◌, ◌∷◌, ◌≡◌, ◌≢◌, ◌≤◌}, lemmas.{Bool.Decides.{eqb_tells, nat_tests}, List.take_all}}
 use Rattle.std.specs.Option.{option_map_or}
-use Rattle.std.proofs.lemmas.Bool.Decides.{eqb_tells, nat_tests}
-use Rattle.kc_io.specs.Log.{Spot, acted, after}
-use Rattle.kc_io.specs.declared.device.Action.{Action}
-use Rattle.kc_io.specs.declared.device.Action.TheVariants.{Open, Miss, Read, Create, Write, Close, Move, Clear, Report}
-use Rattle.kc_io.specs.declared.device.Site.TheVariants.{Place, Beside}
-use Rattle.kc_memory_device.specs.Stripped.{stripped, stripped_of, to_come, Seen, seen_at, acted_seen}
-use Rattle.kc_memory_device.specs.Sights.{bytes_of}
-use Rattle.kc_memory_device.specs.Recorded.{events_of, first_held, held_after, is_held_after}
-use Rattle.kc_memory_device.specs.declared.record.Record.{Record}
-use Rattle.std.proofs.lemmas.List.{take_all}
+use Rattle.kc_io.specs.{Log.{Spot, acted, after}, declared.device.{Action.{Action, TheVariants.{Clear, Close, Create, Miss, Move, Open, Read, Report, Write}}, Site.TheVariants.{Beside, Place}}}
+use Rattle.kc_memory_device.specs.{Recorded.{events_of, first_held, held_after, is_held_after}, Sights.bytes_of, Stripped.{Seen, acted_seen, seen_at, stripped, stripped_of, to_come}, declared.record.Record.Record}
 
 pub stripped-append : (s p q : List ℕ) → stripped s (p ++ q) ≡ stripped_of (stripped s p) q
 stripped-append s [] q = refl

@@ -1,9 +1,7 @@
 -- What a device tells of its files.
-use Rattle.std.proofs.Common.{◌≡◌, ℕ, Bool, List, [], Vec, Global, refl, ◌∙◌, ap, Option, None, Some, Bor, Result, IfOk, Ok, Err, option_map, is_some, unwrap_or, if◌then◌else◌}
-use Rattle.kc_io.specs.Log.{Journal, Log, Tells, held, is_held}
-use Rattle.kc_io.specs.PartsOfLog.{contents}
-use Rattle.kc_memory_device.specs.Recorded.{events_of, first_held, held_after, is_held_after, told}
-use Rattle.kc_memory_device.specs.declared.record.Record.{Record}
+use Rattle.std.proofs.Common.{Bool, Bor, Err, Global, IfOk, List, None, Ok, Option, Result, Some, Vec, [], ap, if◌then◌else◌, is_some, option_map, refl, unwrap_or, ℕ, ◌∙◌, ◌≡◌}
+use Rattle.kc_io.specs.{Log.{Journal, Log, Tells, held, is_held}, PartsOfLog.contents}
+use Rattle.kc_memory_device.specs.{Recorded.{events_of, first_held, held_after, is_held_after, told}, declared.record.Record.Record}
 
 pub told_is : (files : List ℕ → Option (List ℕ)) (records : Option (Vec Record Global)) (r : Vec Record Global) (said : List ℕ) (journal : Journal) → records ≡ Some r → told files records said ≡ Some journal → record { files = files; events = events_of r.items; said = said } ≡ journal
 told_is files None r said journal was known = cc

@@ -1,13 +1,6 @@
 -- Trusted: The record of a device in memory.
-use Rattle.std.specs.Prelude.{ℕ, Bool, false, List, [], ◌∷◌, fold, Vec, Option, None, Some, option_map, Result, Ok, Err, bytes_eq, string_bytes, if◌then◌else◌}
-use Rattle.std.specs.Borrow.{Bor}
-use Rattle.std.specs.List.{flat_map}
-use Rattle.std.specs.Option.{option_map_or}
-use Rattle.std.specs.declared.alloc.Global.{Global}
-use Rattle.kc_io.specs.Log.{Event, Log, after, did, each_byte, failed}
-use Rattle.kc_io.specs.declared.device.Action.{Action}
-use Rattle.kc_io.specs.declared.device.Action.TheVariants.{Read, Write}
-use Rattle.kc_io.specs.declared.device.Fault.{Fault}
+use Rattle.std.specs.{Borrow.Bor, List.flat_map, Option.option_map_or, Prelude.{Bool, Err, List, None, Ok, Option, Result, Some, Vec, [], bytes_eq, false, fold, if◌then◌else◌, option_map, string_bytes, ℕ, ◌∷◌}, declared.alloc.Global.Global}
+use Rattle.kc_io.specs.{Log.{Event, Log, after, did, each_byte, failed}, declared.device.{Action.{Action, TheVariants.{Read, Write}}, Fault.Fault}}
 use Rattle.kc_memory_device.specs.declared.record.Record.{Record}
 
 -- the events of a call with these bytes; none at the end of a file

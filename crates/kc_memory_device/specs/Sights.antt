@@ -1,8 +1,6 @@
 -- For proofs: The remaining bytes, as the code stores them.
-use Rattle.std.specs.Prelude.{ℕ, List, Option, option_map}
-use Rattle.std.specs.Borrow.{Bor}
-use Rattle.kc_memory_device.specs.Stripped.{Seen}
-use Rattle.kc_memory_device.specs.declared.sight.Sight.{Sight}
+use Rattle.std.specs.{Borrow.Bor, Prelude.{List, Option, option_map, ℕ}}
+use Rattle.kc_memory_device.specs.{Stripped.Seen, declared.sight.Sight.Sight}
 
 abbrev pub bytes_of : Option (Bor (List ℕ)) → Option (List ℕ)
 bytes_of rest = option_map (λ r. r.now) rest

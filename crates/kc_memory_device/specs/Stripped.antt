@@ -1,9 +1,6 @@
 -- For proofs: The rest of bytes after a prefix.
-use Rattle.std.specs.Prelude.{ℕ, List, [], ◌∷◌, nat_eq, Option, None, Some, if◌then◌else◌}
-use Rattle.kc_io.specs.Log.{Spot}
-use Rattle.kc_io.specs.declared.device.Action.{Action}
-use Rattle.kc_io.specs.declared.device.Action.TheVariants.{Create, Write, Move}
-use Rattle.kc_io.specs.declared.device.Site.TheVariants.{Place, Beside}
+use Rattle.std.specs.Prelude.{List, None, Option, Some, [], if◌then◌else◌, nat_eq, ℕ, ◌∷◌}
+use Rattle.kc_io.specs.{Log.Spot, declared.device.{Action.{Action, TheVariants.{Create, Move, Write}}, Site.TheVariants.{Beside, Place}}}
 
 -- the rest of these bytes after that prefix, or nothing if they do not start with it
 abbrev pub stripped : List ℕ → List ℕ → Option (List ℕ)

@@ -1,13 +1,13 @@
 //! The options of a run, and parts of them.
 
-ghost use Rattle.std.specs.Prelude.{◌≡◌, [], not, slice_index_or};
+ghost use Rattle.std.specs.Prelude.{◌≡◌, [], not, option_map, slice_index_or};
 ghost use Rattle.std.specs.List.{flat_map};
-ghost use Rattle.kc_language.specs.Outcome.{input_files, lead, target};
+ghost use Rattle.kc_outcome.specs.Outcome.{file_for, input_files, lead, target, wants};
 ghost use Rattle.kc_options.specs.PartsOfOutcome.{holds_warnings, wants_sources};
 ghost use Rattle.kc_options.specs.Asked.{may_at};
 
-use kc_config_file::prefix::Prefix;
-use kc_language::outcome;
+use kc_input::prefix::Prefix;
+use kc_outcome::outcome::{self, Output};
 
 /// The options of a run.
 pub type Options = outcome::Options<Prefix>;
@@ -51,21 +51,35 @@ pub fn holds_warnings(options: &Options) -> bool
     options.strict || options.strict_tree
 }
 
-/// Whether the texts use the tree's sources: its lines and its files (our own).
+/// The file of the first output of this kind, if one is wanted (our own).
+pub fn file_for(options: &Options, kind: Output) -> Option<&str>
+    ensures { option_map (λ file. file.now) result ≡ file_for options.now kind }
+{
+    for wanted in &options.outputs {
+        if kind == wanted.kind {
+            return Some(wanted.file.as_str());
+        }
+    }
+    None
+}
+
+/// Whether an output of this kind is wanted (our own).
+pub fn wants(options: &Options, kind: Output) -> bool
+    ensures { result ≡ wants options.now kind }
+{
+    file_for(options, kind).is_some()
+}
+
+/// Whether a text is made of the files of the tree, beside its lines (our own).
 pub fn wants_sources(options: &Options) -> bool
     ensures { result ≡ wants_sources options.now }
 {
-    options.explanation.is_some()
-        || options.explain_lost && options.warn_lost
-        || options.with_help && options.list_new.is_some()
+    options.with_help && wants(options, Output::NewSymbols)
 }
 
 /// The target of the dependency file's rule; empty if no full `.config` is written (our own).
 pub fn target(options: &Options) -> &str
     ensures { result.now ≡ target options.now }
 {
-    match &options.out {
-        Some(name) => name.as_str(),
-        None => "",
-    }
+    file_for(options, Output::Config).unwrap_or("")
 }

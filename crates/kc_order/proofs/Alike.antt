@@ -1,20 +1,9 @@
 -- Needs that are alike, and orders of graphs.
-use Rattle.std.proofs.Common.{◌≡◌, ℕ, ◌<◌, ◌≤◌, Bool, true, false, ◌&&◌, eqb, List, length, get_or, zero, suc, sym, ◌∙◌, ap, ap₂}
-use Rattle.std.proofs.Common.{refl, inl, inr, arith, take, subst, Some, find}
-use Rattle.std.specs.List.{Contains, list_any, flat_map, slice_index}
-use Rattle.std.proofs.lemmas.Bool.{cases_lt}
-use Rattle.std.proofs.lemmas.Bool.Decides.{same_from_decides}
-use Rattle.std.proofs.lemmas.List.{get_or_default, get_or-take, length-take-le}
-use Rattle.std.proofs.lemmas.List.Elements.{Contains-get_or}
-use Rattle.std.proofs.lemmas.List.Folds.{list_any_at, Any-from_list_any}
-use Rattle.kc_order.specs.Graph.{Nodes, IsGraph, groups_of, needs_of, stands_for}
-use Rattle.kc_order.specs.PartsOfNeeds.{IsFirstUnordered, IsNext}
+use Rattle.std.proofs.{Common.{Bool, List, Some, ap, ap₂, arith, eqb, false, find, get_or, inl, inr, length, refl, subst, suc, sym, take, true, zero, ℕ, ◌&&◌, ◌<◌, ◌∙◌, ◌≡◌, ◌≤◌}, lemmas.{Bool.{Decides.same_from_decides, cases_lt}, List.{Elements.Contains-get_or, Folds.{Any-from_list_any, list_any_at}, get_or-take, get_or_default, length-take-le}}}
+use Rattle.std.specs.List.{Contains, flat_map, list_any, slice_index}
+use Rattle.kc_order.specs.{Graph.{IsGraph, Nodes, groups_of, needs_of, stands_for}, Needs.{AreAlike, AreWithin}, Order.Orders, PartsOfNeeds.{AreAccepted as IsAccepted, IsFirstUnordered, IsNext}}
 use Rattle.kc_language.specs.Needs.{IsNamedLoop, needs_in, unordered_after}
-use Rattle.kc_order.specs.PartsOfNeeds.{AreAccepted as IsAccepted}
-use Rattle.kc_order.specs.Needs.{AreAlike, AreWithin}
-use Rattle.kc_order.specs.Order.{Orders}
-use Rattle.kc_order.proofs.FirstLemmas.{same_found}
-use Rattle.kc_order.proofs.Groups.{contains_flat, group_stands, needs_count, needs_within, one_is, stands_symbol}
+use Rattle.kc_order.proofs.{FirstLemmas.same_found, Groups.{contains_flat, group_stands, needs_count, needs_within, one_is, stands_symbol}}
 
 -- a test finds something in a list where it finds it in one that holds no more
 any_in : (p q : ℕ → Bool) (xs ys : List ℕ) → ((t : ℕ) → Contains xs t → Contains ys t) → ((t : ℕ) → p t ≡ true → q t ≡ true) → list_any p xs ≡ true → list_any q ys ≡ true

@@ -1,17 +1,8 @@
 -- What an order gives: nothing is unordered, and values that are computed along it solve.
-use Rattle.std.proofs.Common.{◌≡◌, ℕ, ◌<◌, ◌≤◌, ◌+◌, ◌≢◌, false, List, length, get_or, zero, suc, sym, ◌∙◌, ap, inl, inr, arith, take, eqb, subst}
+use Rattle.std.proofs.{Common.{List, ap, arith, eqb, false, get_or, inl, inr, length, subst, suc, sym, take, zero, ℕ, ◌+◌, ◌<◌, ◌∙◌, ◌≡◌, ◌≢◌, ◌≤◌}, lemmas.{Bool.{cases_lt, eqb-false, eqb-true}, List.{Elements.Contains-get_or, Folds.{Any-from_list_any, list_any_none}, get_or-take, get_or_default, length-take-le}, Map.{Keys.apart_from_distinct, Steps.length-le_from_distinct_below}}}
 use Rattle.std.specs.List.{Contains}
-use Rattle.std.proofs.lemmas.Bool.{cases_lt, eqb-true, eqb-false}
-use Rattle.std.proofs.lemmas.List.{get_or-take, length-take-le, get_or_default}
-use Rattle.std.proofs.lemmas.List.Elements.{Contains-get_or}
-use Rattle.std.proofs.lemmas.List.Folds.{list_any_none, Any-from_list_any}
-use Rattle.std.proofs.lemmas.Map.Keys.{apart_from_distinct}
-use Rattle.std.proofs.lemmas.Map.Steps.{length-le_from_distinct_below}
-use Rattle.kc_language.specs.Needs.{unordered_after}
-use Rattle.kc_order.specs.PartsOfNeeds.{NothingUnordered}
-use Rattle.kc_order.specs.Order.{IsOrderOf}
-use Rattle.kc_language.specs.Values.{Solves}
-use Rattle.kc_order.specs.Solution.{ReadsNeeds, IsUpdate}
+use Rattle.kc_language.specs.{Needs.unordered_after, Values.Solves}
+use Rattle.kc_order.specs.{Order.IsOrderOf, PartsOfNeeds.NothingUnordered, Solution.{IsUpdate, ReadsNeeds}}
 
 -- an element of a front stands at a place before its end
 in_front : (xs : List ℕ) (k t : ℕ) → k < length xs → Contains (take k xs) t → (i : ℕ) × (i < k) × (get_or xs i 0 ≡ t)

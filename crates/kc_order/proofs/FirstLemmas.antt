@@ -1,20 +1,7 @@
 -- The first of a sequence that passes a test: it, its place, and its place among several symbols.
-use Rattle.std.proofs.Common.{◌≡◌, ℕ, ◌<◌, ◌≤◌, ◌+◌, min, Bool, true, false, not, ◌&&◌, ◌||◌, cond, ltb, eqb, refl, inl, inr, arith, Option, Some, None}
-use Rattle.std.proofs.Common.{List, [], ◌∷◌, ◌++◌, length, get_or, sym, ◌∙◌, ap, ap₂, All, take, append_assoc}
-use Rattle.std.proofs.lemmas.Bool.Decides.{nat_tests}
-use Rattle.std.proofs.Math.Bool.{and-or_distrib_left, and-true}
-use Rattle.std.specs.List.{Contains, find, flat_map, fold, list_any, position, position_or_len, slice_get}
-use Rattle.std.specs.Option.{option_or}
-use Rattle.std.proofs.Math.ListN.{set}
-use Rattle.std.proofs.lemmas.Bool.{and_right, cases_Bool, cases_eq, cases_lt, eq-eqb, false_from_ne_true, le-ltb, lt-ltb, ltb-true, ne_eqb}
-use Rattle.std.proofs.lemmas.Grind.{get_or-set_at}
-use Rattle.std.proofs.lemmas.List.{append-nil, length_push, get_or-set_other, length-set, length-take-le, take_more}
-use Rattle.std.proofs.lemmas.List.Elements.{All-tail, Contains-append_right}
-use Rattle.std.proofs.lemmas.List.Folds.{find_at, list_any-append, list_any-from_Any, position_or_len_push}
-use Rattle.std.proofs.lemmas.List.Sums.{prefix_len-le-length}
-use Rattle.std.proofs.lemmas.Option.{cond_some, none-some, same_Some, slice_get-get_or, slice_get_past}
-use Rattle.kc_order.specs.declared.search.NodeState.{NodeState}
-use Rattle.kc_order.specs.FirstUnordered.{ArePlaces, is_unordered_at, lesser_of, place_among}
+use Rattle.std.proofs.{Common.{All, Bool, List, None, Option, Some, [], ap, append_assoc, ap₂, arith, cond, eqb, false, get_or, inl, inr, length, ltb, min, not, refl, sym, take, true, ℕ, ◌&&◌, ◌++◌, ◌+◌, ◌<◌, ◌||◌, ◌∙◌, ◌∷◌, ◌≡◌, ◌≤◌}, Math.{Bool.{and-or_distrib_left, and-true}, ListN.set}, lemmas.{Bool.{Decides.nat_tests, and_right, cases_Bool, cases_eq, cases_lt, eq-eqb, false_from_ne_true, le-ltb, lt-ltb, ltb-true, ne_eqb}, Grind.get_or-set_at, List.{Elements.{All-tail, Contains-append_right}, Folds.{find_at, list_any-append, list_any-from_Any, position_or_len_push}, Sums.prefix_len-le-length, append-nil, get_or-set_other, length-set, length-take-le, length_push, take_more}, Option.{cond_some, none-some, same_Some, slice_get-get_or, slice_get_past}}}
+use Rattle.std.specs.{List.{Contains, find, flat_map, fold, list_any, position, position_or_len, slice_get}, Option.option_or}
+use Rattle.kc_order.specs.{FirstUnordered.{ArePlaces, is_unordered_at, lesser_of, place_among}, declared.search.NodeState.NodeState}
 
 -- a number, if it is below a bound
 abbrev below : ℕ → ℕ → Option ℕ

@@ -1,13 +1,8 @@
 -- What groups stand for, and which symbols are unordered through them.
-use Rattle.std.proofs.Common.{◌≡◌, ℕ, ◌<◌, ◌≤◌, ◌+◌, ◌-◌, true, false, cond, List, [], ◌∷◌, ◌++◌, length, get_or, zero, suc, sym, ◌∙◌, ap, refl, inl, inr, arith, take, drop, subst, All, length-drop}
+use Rattle.std.proofs.{Common.{All, List, [], ap, arith, cond, drop, false, get_or, inl, inr, length, length-drop, refl, subst, suc, sym, take, true, zero, ℕ, ◌++◌, ◌+◌, ◌-◌, ◌<◌, ◌∙◌, ◌∷◌, ◌≡◌, ◌≤◌}, lemmas.{Bool.{cases_Bool, cases_lt, le-ltb, lt-ltb, true≢false}, List.{Elements.{All-tail, Contains-append_cases, Contains-append_left, Contains-append_right, Contains-get_or}, Folds.list_any_at, get_or-drop, get_or-map, get_or-take, get_or_append_left, get_or_default, get_or_push, length-map, length-take-le, length_push}}}
 use Rattle.std.specs.List.{Contains, flat_map}
-use Rattle.std.proofs.lemmas.Bool.{cases_lt, cases_Bool, lt-ltb, le-ltb, true≢false}
-use Rattle.std.proofs.lemmas.List.{get_or_append_left, get_or_push, length_push, get_or_default, get_or-map, get_or-take, get_or-drop, length-take-le, length-map}
-use Rattle.std.proofs.lemmas.List.Elements.{All-tail, Contains-get_or, Contains-append_left, Contains-append_right, Contains-append_cases}
-use Rattle.std.proofs.lemmas.List.Folds.{list_any_at}
-use Rattle.kc_order.specs.Needs.{NeedsBelow}
+use Rattle.kc_order.specs.{Graph.{IsGraph, Nodes, groups_from, groups_of, needs_of, stands_for}, Needs.NeedsBelow}
 use Rattle.kc_language.specs.Needs.{needs_in, unordered_after}
-use Rattle.kc_order.specs.Graph.{Nodes, IsGraph, stands_for, groups_from, groups_of, needs_of}
 use Rattle.kc_order.proofs.Stays.{needs_unordered}
 
 -- a graph by its parts, and what its symbols need

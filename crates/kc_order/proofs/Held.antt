@@ -1,13 +1,8 @@
 -- Needs that are held in rows.
-use Rattle.std.proofs.Common.{◌≡◌, ℕ, ◌<◌, ◌≤◌, List, [], ◌∷◌, length, get_or, zero, suc, arith, All, subst, sym, inl, inr}
-use Rattle.std.proofs.lemmas.Bool.{cases_lt}
+use Rattle.std.proofs.{Common.{All, List, [], arith, get_or, inl, inr, length, subst, suc, sym, zero, ℕ, ◌<◌, ◌∷◌, ◌≡◌, ◌≤◌}, lemmas.{Bool.cases_lt, List.{Elements.{All-contains, All-tail, Contains-get_or}, get_or_default, get_or_past}}}
 use Rattle.std.specs.List.{Contains}
-use Rattle.std.proofs.lemmas.List.{get_or_default, get_or_past}
-use Rattle.std.proofs.lemmas.List.Elements.{All-contains, All-tail, Contains-get_or}
-use Rattle.kc_order.specs.Needs.{NeedsBelow, AreWithin}
+use Rattle.kc_order.specs.{Graph.{IsGraph, Nodes}, Needs.{AreWithin, NeedsBelow}, Rows.{NeedSmaller, RowsBelow}}
 use Rattle.kc_language.specs.Needs.{needs_in}
-use Rattle.kc_order.specs.Graph.{Nodes, IsGraph}
-use Rattle.kc_order.specs.Rows.{RowsBelow, NeedSmaller}
 
 -- row r holds what row r holds
 pub row_is : (rows : List (List ℕ)) (r : ℕ) (d : List ℕ) → r < length rows → needs_in rows r ≡ get_or rows r d

@@ -1,17 +1,9 @@
 -- Where some symbol is unordered a loop is named.
-use Rattle.std.proofs.Common.{◌≡◌, ℕ, ◌<◌, ◌≤◌, ◌+◌, true, false, List, [], ◌∷◌, ◌++◌, length, zero, suc, sym, ◌∙◌, inl, inr, ◌⊎◌, arith, drop, eqb}
+use Rattle.std.proofs.{Common.{List, [], arith, drop, eqb, false, inl, inr, length, suc, sym, true, zero, ℕ, ◌++◌, ◌+◌, ◌<◌, ◌∙◌, ◌∷◌, ◌≡◌, ◌≤◌, ◌⊎◌}, lemmas.{Bool.{cases_Bool, cases_lt, eqb-true}, List.{Folds.Any-from_list_any, get_or_default, length_push}}}
 use Rattle.std.specs.List.{list_any}
-use Rattle.std.proofs.lemmas.Bool.{cases_Bool, cases_lt, eqb-true}
-use Rattle.std.proofs.lemmas.List.{get_or_default, length_push}
-use Rattle.std.proofs.lemmas.List.Folds.{Any-from_list_any}
-use Rattle.kc_order.specs.Needs.{AreWithin, SomeUnordered}
-use Rattle.kc_order.specs.PartsOfNeeds.{NothingUnordered}
-use Rattle.kc_language.specs.Needs.{needs_in, unordered_after, IsNamedLoop}
-use Rattle.kc_order.specs.Loop.{HoldsNeeding}
-use Rattle.kc_order.proofs.FirstLemmas.{finds, found}
-use Rattle.kc_order.proofs.Held.{has_row}
-use Rattle.kc_order.proofs.Stays.{needs_some, needs_unordered}
-use Rattle.kc_order.proofs.Walks.{IsOnTheWay, comes_back, goes_further, has_room, next_is, next_there, not_met, sets_out}
+use Rattle.kc_order.specs.{Loop.HoldsNeeding, Needs.{AreWithin, SomeUnordered}, PartsOfNeeds.NothingUnordered}
+use Rattle.kc_language.specs.Needs.{IsNamedLoop, needs_in, unordered_after}
+use Rattle.kc_order.proofs.{FirstLemmas.{finds, found}, Held.has_row, Stays.{needs_some, needs_unordered}, Walks.{IsOnTheWay, comes_back, goes_further, has_room, next_is, next_there, not_met, sets_out}}
 
 module _ (n : ℕ) (needs : ℕ → List ℕ) where
   -- one of the symbols below k is unordered, or none

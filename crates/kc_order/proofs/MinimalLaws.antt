@@ -1,11 +1,7 @@
 -- Keeping the places of what differs restores, and none of them can go.
-use Rattle.std.proofs.Common.{ℕ, Bool, Option, None, sym, ◌∙◌, ap, inl, inr, List, cond}
-use Rattle.std.proofs.lemmas.Bool.{cases_Bool}
-use Rattle.kc_order.specs.Needs.{NeedsBelow}
-use Rattle.kc_order.specs.PartsOfNeeds.{NothingUnordered}
+use Rattle.std.proofs.{Common.{Bool, List, None, Option, ap, cond, inl, inr, sym, ℕ, ◌∙◌}, lemmas.Bool.cases_Bool}
+use Rattle.kc_order.specs.{Minimal.{KeepsWhatDiffers, NothingCanGo, Restores, equations, kept}, Needs.NeedsBelow, PartsOfNeeds.NothingUnordered, Solution.ReadsNeeds}
 use Rattle.kc_language.specs.Values.{Solves}
-use Rattle.kc_order.specs.Solution.{ReadsNeeds}
-use Rattle.kc_order.specs.Minimal.{equations, kept, Restores, NothingCanGo, KeepsWhatDiffers}
 use Rattle.kc_order.proofs.Unique.{only}
 
 module _ {A Place G : Type 0} (n : ℕ) (needs : ℕ → List ℕ) (place : ℕ → Place) (rhs : ℕ → Option G → (ℕ → A) → A) (below : NeedsBelow n needs)

@@ -1,20 +1,9 @@
 -- For each node of a graph the place of the first unordered symbol that it stands for.
-use Rattle.std.proofs.Common.{◌≡◌, ℕ, ◌<◌, ◌≤◌, ◌+◌, Bool, ◌&&◌, eqb, List, [], ◌∷◌, length, get_or, sym, ◌∙◌, ap}
-use Rattle.std.proofs.Common.{inl, inr, arith, Option, None, All, find, fold, flat_map, false}
-use Rattle.std.proofs.Math.ListN.{set}
+use Rattle.std.proofs.{Common.{All, Bool, List, None, Option, [], ap, arith, eqb, false, find, flat_map, fold, get_or, inl, inr, length, sym, ℕ, ◌&&◌, ◌+◌, ◌<◌, ◌∙◌, ◌∷◌, ◌≡◌, ◌≤◌}, Math.ListN.set, lemmas.{Bool.{both_ways, cases_eq, false_from_ne_true}, Grind.get_or-set_at, List.{get_or-set_other, length-set}}}
 use Rattle.std.specs.List.{list_any}
-use Rattle.std.proofs.lemmas.Bool.{both_ways, cases_eq, false_from_ne_true}
-use Rattle.std.proofs.lemmas.Grind.{get_or-set_at}
-use Rattle.std.proofs.lemmas.List.{get_or-set_other, length-set}
-use Rattle.kc_order.specs.declared.search.NodeState.{NodeState}
-use Rattle.kc_order.specs.FirstUnordered.{ArePlaces, AreFirsts, TellsUnordered, is_unordered_at, lesser_of, place_among}
-use Rattle.kc_order.specs.Graph.{Nodes, IsGraph, groups_of, needs_of, stands_for}
-use Rattle.kc_order.specs.Loop.{HoldsNeeding}
+use Rattle.kc_order.specs.{FirstUnordered.{AreFirsts, ArePlaces, TellsUnordered, is_unordered_at, lesser_of, place_among}, Graph.{IsGraph, Nodes, groups_of, needs_of, stands_for}, Loop.HoldsNeeding, declared.search.NodeState.NodeState}
 use Rattle.kc_language.specs.Needs.{needs_in, unordered_after}
-use Rattle.kc_order.proofs.FirstLemmas.{all_fail, row_place, same_place}
-use Rattle.kc_order.proofs.Groups.{group_stands, needs_stand, needs_within, stands_symbol, unordered_alike}
-use Rattle.kc_order.proofs.Held.{graph_down, row_nodes}
-use Rattle.kc_order.proofs.Stays.{needs_unordered}
+use Rattle.kc_order.proofs.{FirstLemmas.{all_fail, row_place, same_place}, Groups.{group_stands, needs_stand, needs_within, stands_symbol, unordered_alike}, Held.{graph_down, row_nodes}, Stays.needs_unordered}
 
 module _ (sequence : List ℕ) (g : Nodes) (is : IsGraph g) where
   abbrev unordered : ℕ → Bool

@@ -1,13 +1,8 @@
 -- One iteration over all symbols, one equation after another.
-use Rattle.std.proofs.Common.{◌≡◌, ℕ, ◌<◌, ◌+◌, false, List, zero, suc, sym, ◌∙◌, ap, inl, inr, arith, ◌≤◌, subst}
-use Rattle.std.proofs.lemmas.Bool.{true≢false, cases_Bool, both_ways, cases_eq}
-use Rattle.kc_order.specs.Needs.{NeedsBelow}
-use Rattle.kc_language.specs.Needs.{unordered_after}
-use Rattle.kc_order.specs.PartsOfNeeds.{NothingUnordered}
-use Rattle.kc_language.specs.Values.{Solves}
-use Rattle.kc_order.specs.Solution.{ReadsNeeds, IsUpdate, IsIteration}
-use Rattle.kc_order.proofs.Stays.{was_unordered}
-use Rattle.kc_order.proofs.Unique.{fails_each}
+use Rattle.std.proofs.{Common.{List, ap, arith, false, inl, inr, subst, suc, sym, zero, ℕ, ◌+◌, ◌<◌, ◌∙◌, ◌≡◌, ◌≤◌}, lemmas.Bool.{both_ways, cases_Bool, cases_eq, true≢false}}
+use Rattle.kc_order.specs.{Needs.NeedsBelow, PartsOfNeeds.NothingUnordered, Solution.{IsIteration, IsUpdate, ReadsNeeds}}
+use Rattle.kc_language.specs.{Needs.unordered_after, Values.Solves}
+use Rattle.kc_order.proofs.{Stays.was_unordered, Unique.fails_each}
 
 -- what is not unordered stays so
 pub stays_free : (needs : ℕ → List ℕ) (k s : ℕ) → unordered_after needs k s ≡ false → unordered_after needs (suc k) s ≡ false

@@ -1,9 +1,7 @@
 -- Rows that stand in one list.
-use Rattle.std.proofs.Common.{◌≡◌, ℕ, ◌<◌, ◌≤◌, ◌+◌, ◌-◌, List, [], ◌∷◌, ◌++◌, length, get_or, zero, suc, sym, ◌∙◌, ap, refl, arith, take, drop, All, subst, length-drop}
-use Rattle.std.proofs.lemmas.List.{take_all, take-append-le, drop_at, drop-append-le, take-append-drop, drop-drop, drop_all, get_or_read}
-use Rattle.std.proofs.lemmas.List.Elements.{All-nil, All-cons, All-head, All-tail, All-take, All-drop, All-append}
+use Rattle.std.proofs.{Common.{All, List, [], ap, arith, drop, get_or, length, length-drop, refl, subst, suc, sym, take, zero, ℕ, ◌++◌, ◌+◌, ◌-◌, ◌<◌, ◌∙◌, ◌∷◌, ◌≡◌, ◌≤◌}, lemmas.List.{Elements.{All-append, All-cons, All-drop, All-head, All-nil, All-tail, All-take}, drop-append-le, drop-drop, drop_all, drop_at, get_or_read, take-append-drop, take-append-le, take_all}}
 use Rattle.kc_language.specs.Needs.{needs_in}
-use Rattle.kc_order.specs.Rows.{rows_of, AreIncreasing, begin, RowsBelow}
+use Rattle.kc_order.specs.Rows.{AreIncreasing, RowsBelow, begin, rows_of}
 
 -- no end is past the last
 up_within : (from to : ℕ) (ends : List ℕ) → AreIncreasing from to ends → from ≤ to

@@ -1,14 +1,8 @@
 -- No two loops are named of the same needs.
-use Rattle.std.proofs.Common.{◌≡◌, ℕ, ◌<◌, ◌+◌, ◌++◌, ◌≢◌, List, length, get_or, zero, suc, sym, ◌∙◌, ap, inl, inr, arith, subst, take, drop, eqb}
-use Rattle.std.proofs.lemmas.Bool.{cases_lt, eqb-false}
-use Rattle.std.proofs.lemmas.Option.{same_Some}
-use Rattle.std.proofs.lemmas.List.{get_or_append_left, get_or-append-add, get_or-take, length-append, length-take-le}
-use Rattle.std.proofs.lemmas.Grind.{same_number_lists}
-use Rattle.std.proofs.Math.Seq.{drop-append_seam}
-use Rattle.std.proofs.lemmas.Map.Keys.{apart_from_distinct}
+use Rattle.std.proofs.{Common.{List, ap, arith, drop, eqb, get_or, inl, inr, length, subst, suc, sym, take, zero, ℕ, ◌++◌, ◌+◌, ◌<◌, ◌∙◌, ◌≡◌, ◌≢◌}, Math.Seq.drop-append_seam, lemmas.{Bool.{cases_lt, eqb-false}, Grind.same_number_lists, List.{get_or-append-add, get_or-take, get_or_append_left, length-append, length-take-le}, Map.Keys.apart_from_distinct, Option.same_Some}}
 use Rattle.std.specs.List.{IsDistinct}
 use Rattle.kc_order.specs.PartsOfNeeds.{IsNext}
-use Rattle.kc_language.specs.Needs.{IsUnorderedWalk, IsNamedLoop}
+use Rattle.kc_language.specs.Needs.{IsNamedLoop, IsUnorderedWalk}
 
 -- two walks go the same way as far as both go
 same_steps : (sequence : List ℕ) (n : ℕ) (needs : ℕ → List ℕ) (walk other : List ℕ) →

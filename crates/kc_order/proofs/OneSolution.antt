@@ -1,12 +1,8 @@
 -- A solution by iterations in which each equation reads the values of the iteration before.
-use Rattle.std.proofs.Common.{◌≡◌, ℕ, ◌<◌, false, List, zero, suc, sym}
-use Rattle.std.proofs.lemmas.Bool.{true≢false}
-use Rattle.kc_order.specs.Needs.{NeedsBelow}
-use Rattle.kc_language.specs.Needs.{unordered_after}
-use Rattle.kc_order.specs.PartsOfNeeds.{NothingUnordered}
-use Rattle.kc_language.specs.Values.{Solves}
-use Rattle.kc_order.specs.Solution.{ReadsNeeds, HasOneSolution}
-use Rattle.kc_order.proofs.Unique.{only, fails_each}
+use Rattle.std.proofs.{Common.{List, false, suc, sym, zero, ℕ, ◌<◌, ◌≡◌}, lemmas.Bool.true≢false}
+use Rattle.kc_order.specs.{Needs.NeedsBelow, PartsOfNeeds.NothingUnordered, Solution.{HasOneSolution, ReadsNeeds}}
+use Rattle.kc_language.specs.{Needs.unordered_after, Values.Solves}
+use Rattle.kc_order.proofs.Unique.{fails_each, only}
 
 -- the values after k iterations
 values_after : {A : Type 0} → A → (ℕ → (ℕ → A) → A) → ℕ → ℕ → A

@@ -1,17 +1,9 @@
 -- Paths along needs that come back: cycles.
-use Rattle.std.proofs.Common.{All, true, ◌≡◌, ℕ, ◌<◌, ◌+◌, ◌-◌, ◌++◌, List, length, get_or, sym, ◌∙◌, ap, inl, inr, arith, subst, take, append_assoc}
+use Rattle.std.proofs.{Common.{All, List, ap, append_assoc, arith, get_or, inl, inr, length, subst, sym, take, true, ℕ, ◌++◌, ◌+◌, ◌-◌, ◌<◌, ◌∙◌, ◌≡◌}, lemmas.{Bool.cases_lt, List.{Elements.Contains-get_or, get_or-append-add, get_or_append_left, get_or_default, length-append, length-take-le}}}
 use Rattle.std.specs.List.{Contains}
-use Rattle.std.proofs.lemmas.Bool.{cases_lt}
-use Rattle.std.proofs.lemmas.List.{get_or_default, get_or_append_left, get_or-append-add, length-append, length-take-le}
-use Rattle.std.proofs.lemmas.List.Elements.{Contains-get_or}
-use Rattle.kc_language.specs.Needs.{needs_in, unordered_after, IsNamedLoop}
-use Rattle.kc_order.specs.PartsOfNeeds.{IsNext}
-use Rattle.kc_order.specs.Needs.{SomeUnordered}
-use Rattle.kc_order.specs.Loop.{IsPath}
-use Rattle.kc_order.proofs.FirstLemmas.{found}
-use Rattle.kc_order.proofs.SearchSteps.{ring_unordered}
-use Rattle.kc_order.proofs.Held.{has_row}
-use Rattle.kc_order.proofs.Walks.{next_is}
+use Rattle.kc_language.specs.Needs.{IsNamedLoop, needs_in, unordered_after}
+use Rattle.kc_order.specs.{Loop.IsPath, Needs.SomeUnordered, PartsOfNeeds.IsNext}
+use Rattle.kc_order.proofs.{FirstLemmas.found, Held.has_row, SearchSteps.ring_unordered, Walks.next_is}
 
 pub cycle_of : (n : ℕ) (needs : ℕ → List ℕ) (way : List ℕ) → 1 < length way → IsPath needs way → get_or way (length way - 1) 0 ≡ get_or way 0 0 →
     unordered_after needs n (get_or way 0 0) ≡ true

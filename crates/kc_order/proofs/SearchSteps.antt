@@ -1,28 +1,9 @@
 -- Each step of the search keeps what the search keeps.
-use Rattle.std.proofs.Common.{◌≡◌, ℕ, ◌<◌, ◌≤◌, ◌+◌, ◌-◌, ◌≢◌, true, false, Bool, List, [], ◌∷◌, ◌++◌, length, get_or, zero, suc, sym, ◌∙◌, ap, refl, inl, inr, arith, take, drop, eqb, subst, ◌⊎◌}
-use Rattle.std.proofs.Common.{get_or-set_other, get_or-set_same}
-use Rattle.std.proofs.Math.ListN.{set}
-use Rattle.std.specs.Cmp.{nat_eq_equiv}
-use Rattle.std.specs.List.{Contains, IsDistinct, slice_index}
-use Rattle.std.proofs.lemmas.Bool.{cases_eq, cases_lt, cases_Bool, ne_eqb, eqb-false}
-use Rattle.std.proofs.lemmas.List.{get_or_append_left, get_or_push, length_push, get_or-drop, length-drop, take-append-le, take_at, get_or_default}
-use Rattle.std.proofs.lemmas.List.Elements.{Contains-push, Contains-push_cases, Contains-append_left, Contains-get_or}
-use Rattle.std.proofs.lemmas.List.Folds.{list_any_none, list_any_at, Any-from_list_any}
-use Rattle.std.proofs.lemmas.Map.Keys.{IsDistinct-push, apart_from_distinct, IsDistinct-from_apart}
-use Rattle.kc_order.specs.declared.search.NodeState.{NodeState}
-use Rattle.kc_order.specs.declared.search.NodeState.TheVariants.{New, Open, Done, Unordered}
-use Rattle.std.proofs.Common.{All, map, sum, sum_by}
-use Rattle.std.proofs.lemmas.List.{length-set}
-use Rattle.std.proofs.lemmas.List.Sums.{sum_by-set}
-use Rattle.kc_order.specs.Needs.{NeedsBelow}
+use Rattle.std.proofs.{Common.{All, Bool, List, [], ap, arith, drop, eqb, false, get_or, get_or-set_other, get_or-set_same, inl, inr, length, map, refl, subst, suc, sum, sum_by, sym, take, true, zero, ℕ, ◌++◌, ◌+◌, ◌-◌, ◌<◌, ◌∙◌, ◌∷◌, ◌≡◌, ◌≢◌, ◌≤◌, ◌⊎◌}, Math.ListN.set, lemmas.{Bool.{cases_Bool, cases_eq, cases_lt, eqb-false, ne_eqb}, List.{Elements.{Contains-append_left, Contains-get_or, Contains-push, Contains-push_cases}, Folds.{Any-from_list_any, list_any_at, list_any_none}, Sums.sum_by-set, get_or-drop, get_or_append_left, get_or_default, get_or_push, length-drop, length-set, length_push, take-append-le, take_at}, Map.Keys.{IsDistinct-from_apart, IsDistinct-push, apart_from_distinct}}}
+use Rattle.std.specs.{Cmp.nat_eq_equiv, List.{Contains, IsDistinct, slice_index}}
+use Rattle.kc_order.specs.{Needs.NeedsBelow, Order.IsOrderOf, Rows.RowsBelow, Search.{Closes, GivesUp, IsFinished, IsSearch, IsSound, KeepsVisited, Opens, is_unordered, state_of, weight, work}, Solution.IsUpdate, declared.search.{NodeState.{NodeState, TheVariants.{Done, New, Open, Unordered}}, Search.Search}}
 use Rattle.kc_language.specs.Needs.{needs_in, unordered_after}
-use Rattle.kc_order.specs.Rows.{RowsBelow}
-use Rattle.kc_order.specs.Order.{IsOrderOf}
-use Rattle.kc_order.specs.declared.search.Search.{Search}
-use Rattle.kc_order.specs.Search.{IsSearch, IsSound, IsFinished, Opens, Closes, GivesUp, KeepsVisited, weight, work, state_of, is_unordered}
-use Rattle.kc_order.proofs.Held.{needs_below}
-use Rattle.kc_order.proofs.Stays.{stays_unordered}
-use Rattle.kc_order.specs.Solution.{IsUpdate}
+use Rattle.kc_order.proofs.{Held.needs_below, Stays.stays_unordered}
 
 -- a list with no symbol twice, and one that is not on it
 pub apart_push : (xs : List ℕ) (x : ℕ) → IsDistinct eqb xs → (Contains xs x → ⊥) → IsDistinct eqb (xs ++ x ∷ [])

@@ -1,11 +1,6 @@
 -- What is unordered after as many iterations as there are symbols stays unordered.
-use Rattle.std.proofs.Common.{◌≡◌, ℕ, ◌<◌, ◌≤◌, ◌+◌, Bool, true, cond, List, [], ◌∷◌, get_or, zero, suc, sym, ◌∙◌, ap, refl, inl, inr, arith, All, ◌⊎◌, subst, zero-add}
-use Rattle.std.specs.List.{Contains, list_any, count_by, range_with_len}
-use Rattle.std.proofs.lemmas.Bool.{cases_Bool}
-use Rattle.std.proofs.lemmas.List.Elements.{All-cons, All-tail, Contains-get_or}
-use Rattle.std.proofs.lemmas.List.Folds.{list_any_at, Any-from_list_any}
-use Rattle.std.proofs.lemmas.List.FromFn.{length-range_with_len, get_or-range_with_len}
-use Rattle.std.proofs.lemmas.List.Sums.{sum_by-cons, count_by-le-length, get_or-le-sum_by, sum_by-le-sum_by}
+use Rattle.std.proofs.{Common.{All, Bool, List, [], ap, arith, cond, get_or, inl, inr, refl, subst, suc, sym, true, zero, zero-add, ℕ, ◌+◌, ◌<◌, ◌∙◌, ◌∷◌, ◌≡◌, ◌≤◌, ◌⊎◌}, lemmas.{Bool.cases_Bool, List.{Elements.{All-cons, All-tail, Contains-get_or}, Folds.{Any-from_list_any, list_any_at}, FromFn.{get_or-range_with_len, length-range_with_len}, Sums.{count_by-le-length, get_or-le-sum_by, sum_by-cons, sum_by-le-sum_by}}}}
+use Rattle.std.specs.List.{Contains, count_by, list_any, range_with_len}
 use Rattle.kc_order.specs.Needs.{NeedsBelow}
 use Rattle.kc_language.specs.Needs.{unordered_after}
 

@@ -1,13 +1,8 @@
 -- Two solutions agree at each symbol that is not unordered.
-use Rattle.std.proofs.Common.{◌≡◌, ℕ, ◌<◌, Bool, false, List, zero, suc, sym, ◌∙◌, inl, inr}
+use Rattle.std.proofs.{Common.{Bool, List, false, inl, inr, suc, sym, zero, ℕ, ◌<◌, ◌∙◌, ◌≡◌}, lemmas.{Bool.{both_ways, cases_Bool, true≢false}, List.Folds.list_any_at}}
 use Rattle.std.specs.List.{Contains, list_any}
-use Rattle.std.proofs.lemmas.Bool.{true≢false, cases_Bool, both_ways}
-use Rattle.std.proofs.lemmas.List.Folds.{list_any_at}
-use Rattle.kc_order.specs.Needs.{NeedsBelow}
-use Rattle.kc_language.specs.Needs.{unordered_after}
-use Rattle.kc_order.specs.PartsOfNeeds.{NothingUnordered}
-use Rattle.kc_language.specs.Values.{Solves, IsOnlySolution}
-use Rattle.kc_order.specs.Solution.{ReadsNeeds}
+use Rattle.kc_order.specs.{Needs.NeedsBelow, PartsOfNeeds.NothingUnordered, Solution.ReadsNeeds}
+use Rattle.kc_language.specs.{Needs.unordered_after, Values.{IsOnlySolution, Solves}}
 
 -- what no element passes, an element fails
 pub fails_each : {X : Type 0} (p : X → Bool) (xs : List X) (x : X) → list_any p xs ≡ false → Contains xs x → p x ≡ false

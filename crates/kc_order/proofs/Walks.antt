@@ -1,23 +1,9 @@
 -- The walk along unordered symbols.
-use Rattle.std.proofs.Common.{false, replicate, ◌&&◌, ◌||◌, get_or-set_same, get_or-set_other, ◌≡◌, ℕ, ◌<◌, ◌≤◌, ◌+◌, Bool, true, false, List, [], ◌∷◌}
-use Rattle.std.proofs.Common.{◌++◌, length, get_or, sym, ◌∙◌, ap, inl, inr, arith, All, take, drop, eqb, ◌≢◌, subst}
-use Rattle.std.specs.Cmp.{nat_eq_equiv}
-use Rattle.std.proofs.lemmas.Map.Keys.{IsDistinct-push}
-use Rattle.std.proofs.lemmas.Map.Views.{Contains-from_any, list_any-from_Contains}
-use Rattle.std.proofs.Math.ListN.{set}
-use Rattle.kc_order.proofs.Unique.{fails_each}
-use Rattle.std.proofs.lemmas.Map.Steps.{length-le_from_distinct_below}
-use Rattle.std.proofs.lemmas.List.Folds.{list_any_none, Any-from_list_any}
-use Rattle.std.proofs.lemmas.List.{length-replicate, get_or-replicate, length-set, get_or_append_left, get_or_push, length_push, drop_more, take-append-drop, length-drop}
-use Rattle.std.specs.List.{Contains, list_any, IsDistinct}
-use Rattle.std.proofs.lemmas.Bool.{and_from, and_parts, eqb-false, cases_eq, ne_eqb, eqb-true, cases_lt}
-use Rattle.std.proofs.lemmas.List.Elements.{Contains-get_or, All-push, Contains-push}
-use Rattle.kc_order.specs.Needs.{NeedsBelow}
-use Rattle.kc_language.specs.Needs.{unordered_after, IsUnorderedWalk, IsNamedLoop}
-use Rattle.kc_order.specs.PartsOfNeeds.{IsFirstUnordered, IsNext}
-use Rattle.kc_order.specs.Rows.{AreFlags}
-use Rattle.kc_order.proofs.FirstLemmas.{finds, found}
-use Rattle.kc_order.proofs.Stays.{needs_unordered}
+use Rattle.std.proofs.{Common.{All, Bool, List, [], ap, arith, drop, eqb, false, get_or, get_or-set_other, get_or-set_same, inl, inr, length, replicate, subst, sym, take, true, ℕ, ◌&&◌, ◌++◌, ◌+◌, ◌<◌, ◌||◌, ◌∙◌, ◌∷◌, ◌≡◌, ◌≢◌, ◌≤◌}, Math.ListN.set, lemmas.{Bool.{and_from, and_parts, cases_eq, cases_lt, eqb-false, eqb-true, ne_eqb}, List.{Elements.{All-push, Contains-get_or, Contains-push}, Folds.{Any-from_list_any, list_any_none}, drop_more, get_or-replicate, get_or_append_left, get_or_push, length-drop, length-replicate, length-set, length_push, take-append-drop}, Map.{Keys.IsDistinct-push, Steps.length-le_from_distinct_below, Views.{Contains-from_any, list_any-from_Contains}}}}
+use Rattle.std.specs.{Cmp.nat_eq_equiv, List.{Contains, IsDistinct, list_any}}
+use Rattle.kc_order.proofs.{FirstLemmas.{finds, found}, Stays.needs_unordered, Unique.fails_each}
+use Rattle.kc_order.specs.{Needs.NeedsBelow, PartsOfNeeds.{IsFirstUnordered, IsNext}, Rows.AreFlags}
+use Rattle.kc_language.specs.Needs.{IsNamedLoop, IsUnorderedWalk, unordered_after}
 
 -- what is next is a symbol of the sequence, needed and unordered
 pub next_is : (sequence : List ℕ) (n : ℕ) (needs : ℕ → List ℕ) (s t : ℕ) → IsNext sequence n needs s t →

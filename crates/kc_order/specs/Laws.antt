@@ -1,39 +1,31 @@
--- Trusted: What follows of needs, and of equations over them, whatever a value is.
-use Rattle.std.specs.Prelude.{All, ◌≡◌, ◌⊎◌, ℕ, ◌<◌, ◌+◌, ◌-◌, ◌++◌, take, List, length, slice_index, true, Option, Bool}
-use Rattle.std.specs.List.{Contains, flat_map}
-use Rattle.kc_order.specs.Graph.{Nodes, IsGraph, groups_of, needs_of, stands_for}
-use Rattle.kc_language.specs.Needs.{needs_in, unordered_after, IsNamedLoop}
-use Rattle.kc_order.specs.PartsOfNeeds.{AreAccepted as IsAccepted}
-use Rattle.kc_order.specs.Needs.{AreAlike, AreWithin, SomeUnordered}
-use Rattle.kc_order.specs.Loop.{HoldsNeeding, IsPath}
-use Rattle.kc_order.specs.Order.{Orders}
-use Rattle.kc_language.specs.Values.{Solves, IsOnlySolution}
-use Rattle.kc_order.specs.Solution.{ReadsNeeds, HasOneSolution, IsUpdate, IsIteration}
-use Rattle.kc_order.specs.Minimal.{equations, Restores, NothingCanGo, KeepsWhatDiffers}
+-- Trusted: Laws of needs and of equations over them, for any type of values.
+use Rattle.std.specs.{List.{Contains, flat_map}, Prelude.{All, Bool, List, Option, length, slice_index, take, true, ℕ, ◌++◌, ◌+◌, ◌-◌, ◌<◌, ◌≡◌, ◌⊎◌}}
+use Rattle.kc_order.specs.{Graph.{IsGraph, Nodes, groups_of, needs_of, stands_for}, Loop.{HoldsNeeding, IsPath}, Minimal.{KeepsWhatDiffers, NothingCanGo, Restores, equations}, Needs.{AreAlike, AreWithin, SomeUnordered}, Order.Orders, PartsOfNeeds.AreAccepted as IsAccepted, Solution.{HasOneSolution, IsIteration, IsUpdate, ReadsNeeds}}
+use Rattle.kc_language.specs.{Needs.{IsNamedLoop, needs_in, unordered_after}, Values.{IsOnlySolution, Solves}}
 
 -- needs that have an order are accepted
 abbrev pub OrderedAreAccepted : Type 0
 OrderedAreAccepted = (needs : List (List ℕ)) (symbols : List ℕ) → Orders needs symbols → IsAccepted needs
 
--- where a path along needs comes back to the symbol at which it began, as a cycle, that symbol is unordered
+-- if a path along needs comes back to its first symbol, that symbol is unordered
 abbrev pub CyclesAreUnordered : Type 0
 CyclesAreUnordered =
     (needs : List (List ℕ)) (way : List ℕ) → 1 < length way → IsPath (needs_in needs) way →
     slice_index way (length way - 1) ≡ slice_index way 0 → unordered_after (needs_in needs) (length needs) (slice_index way 0) ≡ true
 
--- each symbol of a loop that is named needs the next, and the last the first
+-- each symbol of the reported loop needs the next one, and the last needs the first
 abbrev pub NamedLoopIsClosed : Type 0
 NamedLoopIsClosed =
     (sequence : List ℕ) (needs : List (List ℕ)) (loop : List ℕ) → IsNamedLoop sequence (length needs) (needs_in needs) loop →
     IsPath (needs_in needs) (loop ++ take 1 loop)
 
--- and is a symbol
+-- each symbol of the reported loop is one of the symbols
 abbrev pub NamedLoopIsWithin : Type 0
 NamedLoopIsWithin =
     (sequence : List ℕ) (needs : List (List ℕ)) (loop : List ℕ) → IsNamedLoop sequence (length needs) (needs_in needs) loop →
     All (λ s. s < length needs) loop
 
--- no two loops are named of the same needs by the same sequence
+-- the reported loop is unique for given needs and a given sequence
 abbrev pub OneNamedLoop : Type 0
 OneNamedLoop =
     (sequence : List ℕ) (needs : List (List ℕ)) (loop other : List ℕ) →
@@ -43,18 +35,18 @@ OneNamedLoop =
 abbrev pub AcceptedOrUnordered : Type 0
 AcceptedOrUnordered = (needs : List (List ℕ)) → IsAccepted needs ⊎ SomeUnordered (length needs) (needs_in needs)
 
--- where some symbol is unordered, a loop is named, if each symbol that needs some symbol stands in the sequence
+-- if some symbol is unordered, a loop is reported, provided that the sequence has each symbol that needs some symbol
 abbrev pub UnorderedHaveALoop : Type 0
 UnorderedHaveALoop =
     (sequence : List ℕ) (needs : List (List ℕ)) → HoldsNeeding sequence needs → AreWithin needs → SomeUnordered (length needs) (needs_in needs) →
     (loop : List ℕ) × IsNamedLoop sequence (length needs) (needs_in needs) loop
 
--- where a loop is named, some symbol is unordered
+-- if a loop is reported, some symbol is unordered
 abbrev pub NamedAreUnordered : Type 0
 NamedAreUnordered =
     (sequence : List ℕ) (needs : List (List ℕ)) (loop : List ℕ) → IsNamedLoop sequence (length needs) (needs_in needs) loop → SomeUnordered (length needs) (needs_in needs)
 
--- what is accepted, and which loop is named by a sequence, is the same of needs that are alike
+-- acceptance, and the loop that is reported for a sequence, are the same for needs that are alike
 abbrev pub AlikeAreAccepted : Type 0
 AlikeAreAccepted = (needs other : List (List ℕ)) → AreAlike needs other → IsAccepted needs → IsAccepted other
 
@@ -63,29 +55,29 @@ AlikeHaveTheLoop =
     (sequence : List ℕ) (needs other : List (List ℕ)) (loop : List ℕ) → AreAlike needs other →
     IsNamedLoop sequence (length needs) (needs_in needs) loop → IsNamedLoop sequence (length other) (needs_in other) loop
 
--- what a graph's symbols need are symbols
+-- the symbols of a graph need only symbols
 abbrev pub GraphNeedsAreWithin : Type 0
 GraphNeedsAreWithin = (g : Nodes) → IsGraph g → AreWithin (needs_of g)
 
--- in an order of a graph's nodes each symbol that a node needs stands before it, be it through groups
+-- in an order of a graph's nodes, each symbol that a node needs comes before the node, also through groups
 abbrev pub SymbolsStandFirst : Type 0
 SymbolsStandFirst =
     (g : Nodes) (nodes : List ℕ) → IsGraph g → Orders g.rows nodes →
     (k v : ℕ) → k < length nodes → Contains (flat_map (stands_for g.symbols (groups_of g)) (needs_in g.rows (slice_index nodes k))) v → Contains (take k nodes) v
 
--- equations that read only what is needed have one solution, where no symbol is unordered
+-- equations that read only what is needed have one solution, if no symbol is unordered
 abbrev pub AcceptedHaveOneSolution : Type 0 → Type 0
 AcceptedHaveOneSolution A =
     (needs : List (List ℕ)) (rhs : ℕ → (ℕ → A) → A) → AreWithin needs → IsAccepted needs → ReadsNeeds (needs_in needs) rhs →
     A → HasOneSolution (length needs) rhs
 
--- and what solves them is that one
+-- and every solution is that one
 abbrev pub SolutionsAgree : Type 0 → Type 0
 SolutionsAgree A =
     (needs : List (List ℕ)) (rhs : ℕ → (ℕ → A) → A) → AreWithin needs → IsAccepted needs → ReadsNeeds (needs_in needs) rhs →
     (V : ℕ → A) → Solves (length needs) rhs V → IsOnlySolution (length needs) rhs V
 
--- each equation computed once, along an order, whatever the values before: the equations hold
+-- if each equation is computed once, along an order, the result solves the equations, whatever the values were before
 abbrev pub ComputingSolves : Type 0 → Type 0
 ComputingSolves A =
     (needs : List (List ℕ)) (symbols : List ℕ) (rhs : ℕ → (ℕ → A) → A) → Orders needs symbols → ReadsNeeds (needs_in needs) rhs →
@@ -93,21 +85,21 @@ ComputingSolves A =
     ((i : ℕ) → i < length symbols → IsUpdate (values i) (values (i + 1)) (slice_index symbols i) (rhs (slice_index symbols i) (values i))) →
     Solves (length needs) rhs (values (length symbols))
 
--- as many iterations as there are symbols, whatever the values before: the equations hold
+-- after as many iterations as there are symbols, the result solves the equations, whatever the values were before
 abbrev pub IterationsSolve : Type 0 → Type 0
 IterationsSolve A =
     (needs : List (List ℕ)) (rhs : ℕ → (ℕ → A) → A) → AreWithin needs → IsAccepted needs → ReadsNeeds (needs_in needs) rhs →
     (values : ℕ → ℕ → A) → ((k : ℕ) → k < length needs → IsIteration (length needs) rhs (values k) (values (k + 1))) →
     Solves (length needs) rhs (values (length needs))
 
--- the kept lines of what differs restore
+-- the lines of what differs restore the values
 abbrev pub MinimalRestores : Type 0 → Type 0 → Type 0 → Type 0
 MinimalRestores A Place G =
     (needs : List (List ℕ)) (place : ℕ → Place) (rhs : ℕ → Option G → (ℕ → A) → A) (lines : Place → Option G) (V : ℕ → A) (keep : Place → Bool) →
     AreWithin needs → IsAccepted needs → ((given : Place → Option G) → ReadsNeeds (needs_in needs) (equations place rhs given)) →
     KeepsWhatDiffers (length needs) place rhs lines V keep → Restores (length needs) place rhs lines V keep
 
--- and none of them can go
+-- and none of them can be left out
 abbrev pub MinimalHasNothingToSpare : Type 0 → Type 0 → Type 0 → Type 0
 MinimalHasNothingToSpare A Place G =
     (needs : List (List ℕ)) (place : ℕ → Place) (rhs : ℕ → Option G → (ℕ → A) → A) (lines : Place → Option G) (V : ℕ → A) (keep : Place → Bool) →

@@ -1,10 +1,9 @@
--- Trusted: The loop that is named where some symbol is unordered.
--- A sequence of symbols says which of several is the first: the one that stands first in it.
-use Rattle.std.specs.List.{Contains}
-use Rattle.std.specs.Prelude.{ℕ, ◌<◌, ◌+◌, List, length, slice_index}
+-- Trusted: The loop that is reported if some symbol is unordered.
+-- A sequence of symbols says which of several symbols is the first: the one that comes first in it.
+use Rattle.std.specs.{List.Contains, Prelude.{List, length, slice_index, ℕ, ◌+◌, ◌<◌}}
 use Rattle.kc_language.specs.Needs.{needs_in}
 
--- each symbol that needs some symbol stands in the sequence
+-- the sequence has each symbol that needs some symbol
 abbrev pub HoldsNeeding : List ℕ → List (List ℕ) → Type 0
 HoldsNeeding sequence needs = (s t : ℕ) → Contains (needs_in needs s) t → Contains sequence s
 

@@ -1,7 +1,6 @@
--- Trusted: Which symbols a symbol needs, and which are unordered: no order reaches them.
--- Symbols are numbers from 0 on.
-use Rattle.std.specs.List.{Contains}
-use Rattle.std.specs.Prelude.{◌≡◌, ℕ, ◌<◌, true, List, length}
+-- Trusted: Which symbols a symbol needs, and which symbols are unordered: no order can reach them.
+-- Symbols are numbered from 0.
+use Rattle.std.specs.{List.Contains, Prelude.{List, length, true, ℕ, ◌<◌, ◌≡◌}}
 use Rattle.kc_language.specs.Needs.{needs_in, unordered_after}
 
 -- each need of one of the first n symbols is one of them
@@ -16,7 +15,7 @@ AreWithin needs = NeedsBelow (length needs) (needs_in needs)
 abbrev pub SomeUnordered : ℕ → (ℕ → List ℕ) → Type 0
 SomeUnordered n needs = (s : ℕ) × (s < n) × (unordered_after needs n s ≡ true)
 
--- the same symbols are needed, in whatever order and however often
+-- each symbol needs the same symbols, in any order and any number of times
 pub record AreAlike (needs other : List (List ℕ)) : Type 0 where
   pub count : length needs ≡ length other
   pub onward : (s t : ℕ) → Contains (needs_in needs s) t → Contains (needs_in other s) t

@@ -1,14 +1,10 @@
--- For proofs: What a depth-first search for an order keeps.
-use Rattle.std.specs.Prelude.{◌≡◌, ◌≢◌, ℕ, ◌<◌, ◌≤◌, ◌+◌, Bool, true, false, List, length, slice_index, slice_index_or, nat_eq, drop, sum, sum_by, slice_set, ◌++◌, ◌∷◌, []}
-use Rattle.std.specs.List.{Contains, IsDistinct}
-use Rattle.kc_order.specs.declared.search.NodeState.{NodeState}
-use Rattle.kc_order.specs.declared.search.NodeState.TheVariants.{New, Open, Done, Unordered}
-use Rattle.kc_order.specs.declared.search.Search.{Search}
+-- For proofs: The invariant of a depth-first search for an order.
+use Rattle.std.specs.{List.{Contains, IsDistinct}, Prelude.{Bool, List, [], drop, false, length, nat_eq, slice_index, slice_index_or, slice_set, sum, sum_by, take, true, vec_len, ℕ, ◌++◌, ◌+◌, ◌-◌, ◌<◌, ◌∷◌, ◌≡◌, ◌≢◌, ◌≤◌}}
+use Rattle.kc_order.specs.{Order.NeedsFirst, declared.search.{NodeState.{NodeState, TheVariants.{Done, New, Open, Unordered}}, Search.Search}}
 use Rattle.kc_language.specs.Needs.{needs_in, unordered_after}
-use Rattle.kc_order.specs.Order.{NeedsFirst}
 
--- the open symbols are a path along needs, the done ones are in order, what is given up is unordered after any number of
--- iterations, and of each symbol the needs past its first `left` are done
+-- The open symbols are a path along needs. The done ones are in order. Those given up are unordered after any number of
+-- iterations. For each symbol, the needs after its first `left` are done.
 pub record IsSearch (n : ℕ) (needs : ℕ → List ℕ) (mark : ℕ → NodeState) (left : ℕ → ℕ) (path order : List ℕ) : Type 0 where
   pub path_is : (s : ℕ) → Contains path s → (s < n) × (mark s ≡ Open)
   pub open_is : (s : ℕ) → s < n → mark s ≡ Open → Contains path s
@@ -23,9 +19,13 @@ pub record IsSearch (n : ℕ) (needs : ℕ → List ℕ) (mark : ℕ → NodeSta
   pub left_le : (s : ℕ) → s < n → left s ≤ length (needs s)
   pub passed : (s t : ℕ) → s < n → Contains (drop (left s) (needs s)) t → mark t ≡ Done
 
--- how far symbol s is
+-- the state of symbol s
 abbrev pub state_of : Search → ℕ → NodeState
 state_of search s = slice_index_or search.states.items s New
+
+-- the last node of the path
+abbrev pub IsTop : ℕ → Search → ℕ → Type 0
+IsTop n search top = (top < n) × (search.path.items ≡ take (vec_len search.path - 1) search.path.items ++ top ∷ [])
 
 -- a search over rows
 pub record IsSound (rows : List (List ℕ)) (search : Search) : Type 0 where
@@ -34,14 +34,14 @@ pub record IsSound (rows : List (List ℕ)) (search : Search) : Type 0 where
   pub keeps : IsSearch (length rows) (needs_in rows) (λ s. slice_index_or search.states.items s New)
       (λ s. slice_index_or search.left.items s 0) search.path.items search.order.items
 
--- s is open now, at the end of the path
+-- s is now open, at the end of the path
 pub record Opens (before after : Search) (s : ℕ) : Type 0 where
   pub states : after.states.items ≡ slice_set before.states.items s Open
   pub left : after.left.items ≡ before.left.items
   pub path : after.path.items ≡ before.path.items ++ s ∷ []
   pub order : after.order.items ≡ before.order.items
 
--- s, which was at the end of the path, is done now, at the end of the order
+-- s, which was at the end of the path, is now done, at the end of the order
 pub record Closes (before after : Search) (s : ℕ) : Type 0 where
   pub states : after.states.items ≡ slice_set before.states.items s Done
   pub left : after.left.items ≡ before.left.items
@@ -55,14 +55,14 @@ pub record GivesUp (before after : Search) (s : ℕ) : Type 0 where
   pub path : before.path.items ≡ after.path.items ++ s ∷ []
   pub order : after.order.items ≡ before.order.items
 
--- what is still to be done for a symbol, beside its needs
+-- the steps still needed for a symbol, besides those for its needs
 abbrev pub weight : NodeState → ℕ
 weight New = 2
 weight Open = 1
 weight Done = 0
 weight Unordered = 0
 
--- the steps still to be made
+-- the steps that are still needed
 abbrev pub work : Search → ℕ
 work search = sum_by weight search.states.items + sum search.left.items
 
@@ -77,7 +77,7 @@ is_unordered Open = false
 is_unordered Done = false
 is_unordered Unordered = true
 
--- a search that has visited each symbol, and has none open
+-- a search that has visited each symbol, and has no open symbol
 pub record IsFinished (rows : List (List ℕ)) (search : Search) : Type 0 where
   pub sound : IsSound rows search
   pub idle : length search.path.items ≡ 0

@@ -1,10 +1,9 @@
 -- Trusted: Valuations that satisfy one equation for each symbol.
--- An equation gives a value of its symbol, read off the values of all symbols.
-use Rattle.std.specs.List.{Contains}
-use Rattle.std.specs.Prelude.{◌≡◌, ℕ, ◌<◌, ◌+◌, ◌≢◌, List}
-use Rattle.kc_language.specs.Values.{Solves, IsOnlySolution}
+-- An equation gives the value of its symbol from the values of all symbols.
+use Rattle.std.specs.{List.Contains, Prelude.{List, ℕ, ◌+◌, ◌<◌, ◌≡◌, ◌≢◌}}
+use Rattle.kc_language.specs.Values.{IsOnlySolution, Solves}
 
--- some valuation solves, and no other does
+-- some valuation is a solution, and no other valuation is
 abbrev pub HasOneSolution : {A : Type 0} → ℕ → (ℕ → (ℕ → A) → A) → Type 0
 HasOneSolution {A} n rhs = (V : ℕ → A) × Solves n rhs V × IsOnlySolution n rhs V
 
@@ -12,12 +11,12 @@ HasOneSolution {A} n rhs = (V : ℕ → A) × Solves n rhs V × IsOnlySolution n
 abbrev pub ReadsNeeds : {A : Type 0} → (ℕ → List ℕ) → (ℕ → (ℕ → A) → A) → Type 0
 ReadsNeeds {A} needs rhs = (s : ℕ) (V W : ℕ → A) → ((t : ℕ) → Contains (needs s) t → V t ≡ W t) → rhs s V ≡ rhs s W
 
--- W is V but for the value of s
+-- W is V, except for the value of s
 pub record IsUpdate {A : Type 0} (V W : ℕ → A) (s : ℕ) (value : A) : Type 0 where
   pub here : W s ≡ value
   pub others : (t : ℕ) → t ≢ s → W t ≡ V t
 
--- each of the first n equations computed anew, one after another, each from the values that the ones before it left
+-- each of the first n equations is computed anew, one after another, each from the values that the equations before it left
 pub record IsIteration {A : Type 0} (n : ℕ) (rhs : ℕ → (ℕ → A) → A) (before after : ℕ → A) : Type 0 where
   pub left : ℕ → ℕ → A
   pub begins : left 0 ≡ before

@@ -1,4 +1,4 @@
-//! What each symbol needs, itself or through groups.
+//! What each symbol needs, directly or through groups.
 
 ghost use Rattle.std.specs.Prelude.{◌≡◌, [], ◌∷◌, ◌++◌, ◌↔◌, length, IfOk, OnOk, OnErr, IsTrue};
 ghost use Rattle.kc_order.specs.Graph.{IsGraph};
@@ -7,9 +7,9 @@ use crate::rows::Rows;
 use std::alloc::{AllocError, Global};
 use std::marker::Model;
 
-/// What symbols need. A node is a symbol or a group, and each has a row of the nodes that it needs; nodes are numbers from 0
-/// on, in the order in which they are added, the symbols first. A group stands for what many need alike: who needs a group needs
-/// what stands in its row. So that this ends, a group needs no groups but those before it.
+/// What symbols need. A node is a symbol or a group. Each node has a row of the nodes that it needs. Nodes are numbered from 0
+/// in the order in which they are added, symbols first. A group holds what several nodes need alike: a node that needs the group
+/// needs what its row holds. A group needs only groups before it, so that this ends.
 #[derive(Drop)]
 pub struct Graph {
     pub(crate) symbols: usize,
@@ -25,8 +25,8 @@ impl Model for Graph {
 }
 
 impl Graph {
-    /// No node yet, of which the first `symbols` are to be symbols, with room for so many nodes, so that no list of them is
-    /// copied as it grows. Fails only when it is out of memory.
+    /// Returns a graph without nodes, of which the first `symbols` will be symbols. It has room for `nodes` nodes, so that no list
+    /// is copied as it grows. Fails only if memory runs out.
     pub fn with_room(alloc: Global, symbols: usize, nodes: usize) -> Result<Graph, AllocError>
         ensures { IfOk result (λ g. g ≡ record { symbols = symbols; rows = [] }) }
     {
@@ -34,21 +34,21 @@ impl Graph {
         Ok(Graph { symbols, rows })
     }
 
-    /// How many nodes there are.
+    /// The number of nodes.
     pub fn count(&self) -> usize
         ensures { result ≡ length self.now.rows }
     {
         self.rows.count()
     }
 
-    /// How many of them are symbols.
+    /// The number of nodes that are symbols.
     pub fn symbols(&self) -> usize
         ensures { result ≡ self.now.symbols }
     {
         self.symbols
     }
 
-    /// Whether each node of a row is there, the symbols are, and a group needs no groups but those before it.
+    /// Whether each node of a row exists, all symbols exist, and a group needs only groups before it.
     pub fn is_within(&self) -> bool
         ensures { IsTrue result ↔ IsGraph self.now }
     {
@@ -62,7 +62,7 @@ impl Graph {
         self.rows.go_down(self.symbols)
     }
 
-    /// The next node needs these, which may be nodes that are added later. Where it is out of memory, nothing changes.
+    /// Adds a node that needs these nodes, which may be added later. If memory runs out, nothing changes.
     pub fn add(&mut self, row: &[u32]) -> Result<(), AllocError>
         ensures added { OnOk result (self.new ≡ record self.old { rows = self.old.rows ++ row.now ∷ [] }) }
         ensures unchanged { OnErr result (self.new ≡ self.old) }

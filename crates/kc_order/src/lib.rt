@@ -1,11 +1,11 @@
 #![tactic(auto)]
-//! Which symbols need which: an order for them, the loop that is reported if there is none, and what holds of equations over
+//! Which symbols need which: an order for them, the loop that is reported if there is no order, and laws of equations over
 //! them.
 //!
-//! - [`Graph`]: what each symbol needs, itself or through groups that several symbols share.
-//! - [`order_of`] gives an [`Order`] in which each comes after what it needs, or [`NoOrder`] with the reported loop.
+//! - [`Graph`]: what each symbol needs, directly or through groups that several symbols share.
+//! - [`order_of`] gives an [`Order`] in which each symbol comes after what it needs, or [`NoOrder`] with the reported loop.
 //!
-//! The laws are about needs and equations whatever a value is: an accepted graph has one solution, the reported loop is
+//! The laws hold for any type of values: an accepted graph has one solution, the reported loop is
 //! unique and closed, and a minimal set of user values restores the solution.
 
 mod graph;

@@ -1,4 +1,4 @@
-//! The loop that is named where some symbol is unordered.
+//! The loop that is reported if some symbol is unordered.
 
 ghost use Rattle.std.specs.Prelude.{◌≡◌, ◌<◌, ◌≢◌, length, slice_index, slice_index_or, All, IfOk, MatchOption, true, fold};
 ghost use Rattle.kc_order.specs.FirstUnordered.{lesser_of, ArePlaces, AreFirsts, TellsUnordered};
@@ -11,7 +11,7 @@ use crate::rows::Rows;
 use crate::search::{NodeState, is_unordered};
 use std::alloc::{AllocError, Global};
 
-// The lesser of two places, if there are any.
+// The lesser of two positions, if there are any.
 fn lesser(a: Option<usize>, b: Option<usize>) -> Option<usize>
     ensures { result ≡ lesser_of a b }
 {
@@ -22,7 +22,7 @@ fn lesser(a: Option<usize>, b: Option<usize>) -> Option<usize>
     }
 }
 
-// The place of each unordered symbol in the sequence, the first where it stands in it twice.
+// The position of each unordered symbol in the sequence: the first one, if the symbol is in it twice.
 fn unordered_places(
     alloc: Global,
     sequence: &[u32],
@@ -40,7 +40,7 @@ fn unordered_places(
     Ok(places)
 }
 
-// The place of the first unordered symbol that the nodes of a row stand for.
+// The position of the first unordered symbol among those that the nodes of a row have.
 fn first_in_row(row: &[u32], firsts: &[Option<usize>]) -> Option<usize>
     requires { All (λ t. t < length firsts.now) row.now }
     ensures { result ≡ fold (λ first t. lesser_of first (slice_index_or firsts.now t None)) None row.now }
@@ -52,7 +52,7 @@ fn first_in_row(row: &[u32], firsts: &[Option<usize>]) -> Option<usize>
     first
 }
 
-// The place of the first unordered symbol that each node stands for: a symbol for itself, a group for what it needs.
+// For each node the position of its first unordered symbol. A symbol has itself, and a group has the symbols that it needs.
 fn find_firsts(
     alloc: Global,
     rows: &Rows,
@@ -93,14 +93,14 @@ fn next_unordered(
     }
 }
 
-// Where a symbol stands on a walk.
+// The position of a symbol on a walk.
 fn position_of(walk: &[u32], symbol: u32) -> Option<usize>
     ensures { MatchOption result (All (λ s. s ≢ symbol) walk.now) (λ i. (i < length walk.now) × (slice_index walk.now i ≡ symbol)) }
 {
     walk.iter().position(|visited| *visited == symbol)
 }
 
-/// The loop that the walk along unordered symbols comes to, which begins at a place of the sequence.
+/// Returns the loop in which the walk along unordered symbols ends. The walk begins at a position of the sequence.
 pub(crate) fn named_loop(
     alloc: Global,
     rows: &Rows,
@@ -110,10 +110,9 @@ pub(crate) fn named_loop(
     first: usize,
 ) -> Result<Vec<u32>, AllocError>
     requires graph { IsGraph (record { symbols = symbols; rows = rows.now }) }
-    requires sequence { All (λ s. s < symbols) sequence.now }
+    requires sequence { All (λ s. s < symbols) sequence.now × (first < length sequence.now) }
     requires needing { HoldsNeeding sequence.now (needs_of (record { symbols = symbols; rows = rows.now })) }
     requires states { TellsUnordered rows.now states.now }
-    requires there { first < length sequence.now }
     requires first { IsFirstUnordered sequence.now symbols (needs_in (needs_of (record { symbols = symbols; rows = rows.now }))) (slice_index sequence.now first) }
     ensures { IfOk result (λ v. IsNamedLoop sequence.now symbols (needs_in (needs_of (record { symbols = symbols; rows = rows.now }))) v.items) }
 {

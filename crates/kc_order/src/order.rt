@@ -1,4 +1,4 @@
-//! Nodes in order, what each needs before it, or the loop that is named.
+//! An order of the nodes, each after what it needs, or the reported loop.
 
 ghost use Rattle.std.specs.Prelude.{◌≡◌, ℕ, ◌<◌, ◌^◌, length, All, Contains, IfOk, IfErr, OnOk};
 ghost use Rattle.kc_order.specs.Graph.{IsGraph, needs_of};
@@ -17,9 +17,9 @@ use std::marker::Model;
 /// Why there is no order.
 #[derive(Debug, Drop)]
 pub enum NoOrder {
-    /// Some symbol is unordered. These are the symbols of the loop that is named, each needing the next and the last the first.
+    /// Some symbol is unordered. These are the symbols of the reported loop: each needs the next, and the last needs the first.
     Loop(Vec<u32>),
-    /// No memory was to be had.
+    /// Memory ran out.
     Memory,
 }
 
@@ -34,7 +34,7 @@ impl From<AllocError> for NoOrder {
     }
 }
 
-/// All nodes in an order in which what each needs stands before it, and the graph that it was made for.
+/// All nodes in an order in which each comes after what it needs, and the graph that the order belongs to.
 #[derive(Drop)]
 pub struct Order {
     graph: Graph,
@@ -53,7 +53,7 @@ impl Model for Order {
 }
 
 impl Order {
-    /// The nodes in order, what each needs before it: symbols and groups.
+    /// The nodes in order, each after what it needs: symbols and groups.
     pub fn nodes(&self) -> &[u32]
         ensures { Orders self.now.rows result.now }
     {
@@ -61,7 +61,7 @@ impl Order {
     }
 }
 
-// The nodes in order, or the loop that is named.
+// Returns the nodes in order, or the reported loop.
 fn order_or_loop(alloc: Global, graph: &Graph, sequence: &[u32]) -> Result<Vec<u32>, NoOrder>
     requires graph { IsGraph graph.now }
     requires few { length graph.now.rows < 2 ^ 32 }
@@ -80,14 +80,14 @@ fn order_or_loop(alloc: Global, graph: &Graph, sequence: &[u32]) -> Result<Vec<u
     }
 }
 
-/// An order for this graph, where no symbol is unordered. The time is linear in the rows as they are held and in the sequence,
-/// also where there is none.
+/// Returns an order for this graph, if no symbol is unordered. The time is linear in the stored rows and in the sequence,
+/// also if there is no order.
 ///
-/// Answers `Loop` exactly where some symbol is unordered, and `Memory` only when it is out of memory; then nothing is left of
-/// the graph. Which symbols are unordered, and which loop is named, is our own rule, over what symbols need, be it through
-/// groups: a walk from the first unordered symbol always on to the first unordered symbol that the last one needs, and of it
-/// the part from the symbol that it meets twice. The first of several symbols is the one that stands first in `sequence`. Each
-/// symbol whose row is not empty must stand in it.
+/// Returns `Loop` exactly if some symbol is unordered, and `Memory` only if memory runs out. After an error the graph is
+/// freed. Which symbols are unordered, and which loop is reported, is our own rule over what symbols need, also through
+/// groups: a walk goes from the first unordered symbol always to the first unordered symbol that the last one needs. The loop
+/// is the part of the walk from the symbol that it meets twice. The first of several symbols is the one that comes first in
+/// `sequence`, which must have each symbol whose row is not empty.
 pub fn order_of(alloc: Global, graph: Graph, sequence: &[u32]) -> Result<Order, NoOrder>
     requires graph { IsGraph graph }
     requires few { length graph.rows < 2 ^ 32 }

@@ -7,7 +7,7 @@ ghost use Rattle.kc_order.specs.Rows.{RowsBelow, NeedSmaller, begin};
 use std::alloc::{AllocError, Global};
 use std::marker::Model;
 
-/// Rows of numbers, one behind the other in one list, with the place where each ends.
+/// Rows of numbers, one after another in one list, with the end of each row.
 #[derive(Drop)]
 pub(crate) struct Rows {
     numbers: Vec<u32>,
@@ -25,7 +25,7 @@ impl Model for Rows {
     ghost invariant = { λ r. AreIncreasing 0 (length r.numbers.items) r.ends.items };
 }
 
-// Where a row begins: the first at 0, each further one where the one before it ends.
+// Where a row begins: the first at 0, each other one at the end of the row before it.
 fn beginning(ends: &[usize], row: usize) -> usize
     requires { row < length ends.now }
     ensures { result ≡ begin 0 ends.now row }
@@ -33,7 +33,7 @@ fn beginning(ends: &[usize], row: usize) -> usize
     if row == 0 { 0 } else { ends[row - 1] }
 }
 
-// The numbers between two places.
+// The numbers between two positions.
 fn between(numbers: &[u32], begin: usize, end: usize) -> &[u32]
     requires goes_up { begin ≤ end }
     requires within { end ≤ length numbers.now }
@@ -50,7 +50,7 @@ fn all_below(numbers: &[u32], bound: usize) -> bool
 }
 
 impl Rows {
-    /// No rows yet, with room for so many of them. Fails only when it is out of memory.
+    /// Returns an empty list of rows, with room for `count` rows. Fails only if memory runs out.
     pub(crate) fn with_room(alloc: Global, count: usize) -> Result<Rows, AllocError>
         ensures { IfOk result (λ r. r ≡ []) }
     {
@@ -61,14 +61,14 @@ impl Rows {
         })
     }
 
-    /// How many rows there are.
+    /// The number of rows.
     pub(crate) fn count(&self) -> usize
         ensures { result ≡ length self.now }
     {
         self.ends.len()
     }
 
-    /// What a row holds.
+    /// The numbers of a row.
     pub(crate) fn row(&self, row: usize) -> &[u32]
         requires { row < length self.now }
         ensures { result.now ≡ needs_in self.now row }
@@ -77,14 +77,14 @@ impl Rows {
         between(&self.numbers, begin, self.ends[row])
     }
 
-    /// Whether each row holds numbers below a bound.
+    /// Whether each number of each row is below a bound.
     pub(crate) fn are_below(&self, bound: usize) -> bool
         ensures { IsTrue result ↔ RowsBelow bound self.now }
     {
         all_below(&self.numbers, bound)
     }
 
-    /// Whether each row from one on holds numbers below its own.
+    /// Whether each number of each row from `first` on is below the number of the row.
     pub(crate) fn go_down(&self, first: usize) -> bool
         ensures { IsTrue result ↔ NeedSmaller first self.now }
     {
@@ -99,7 +99,7 @@ impl Rows {
         true
     }
 
-    /// Adds a row. Where it is out of memory, nothing changes.
+    /// Adds a row. If memory runs out, nothing changes.
     pub(crate) fn push(&mut self, row: &[u32]) -> Result<(), AllocError>
         ensures added { OnOk result (self.new ≡ self.old ++ row.now ∷ []) }
         ensures unchanged { OnErr result (self.new ≡ self.old) }

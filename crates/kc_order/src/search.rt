@@ -1,19 +1,19 @@
-//! A depth-first search for an order, with a stack of its own. It goes on past what is unordered, so that it finds all of it.
+//! A depth-first search for an order, with its own stack. It does not stop at an unordered node, so that it finds all of them.
 
 ghost use Rattle.std.specs.Prelude.{◌≡◌, ℕ, ◌<◌, ◌≤◌, ◌↔◌, length, slice_index, IfOk, IsTrue, OnOk, All, position, slice_index_or, take, vec_len, replicate, map, ◌≢◌, ◌^◌, ◌++◌, ◌∷◌, [], ◌-◌};
 ghost use Rattle.kc_order.specs.FirstUnordered.{is_unordered_at};
 ghost use Rattle.kc_order.specs.Rows.{RowsBelow};
-ghost use Rattle.kc_order.specs.Search.{IsSound, IsFinished, KeepsVisited, Opens, Closes, GivesUp, work, state_of, is_unordered};
+ghost use Rattle.kc_order.specs.Search.{IsSound, IsTop, IsFinished, KeepsVisited, Opens, Closes, GivesUp, work, state_of, is_unordered};
 
 use crate::rows::Rows;
 use std::alloc::{AllocError, Global};
 
-/// How far a node is.
+/// The state of a node.
 #[derive(Clone, Copy, Debug, Drop)]
 pub(crate) enum NodeState {
     /// Not visited yet.
     New,
-    /// Some of its needs are still to be looked at.
+    /// Some of its needs have not been examined yet.
     Open,
     /// All of its needs are done.
     Done,
@@ -24,11 +24,11 @@ pub(crate) enum NodeState {
 /// The search so far.
 #[derive(Drop)]
 pub(crate) struct Search {
-    /// How far each node is.
+    /// The state of each node.
     pub states: Vec<NodeState>,
-    // How many needs of each node are still to be looked at.
+    // How many needs of each node have not been examined yet.
     left: Vec<usize>,
-    // The open nodes, each needing the next.
+    // The open nodes. Each needs the next.
     path: Vec<u32>,
     /// The done nodes, in order.
     pub order: Vec<u32>,
@@ -63,7 +63,7 @@ fn close(search: &mut Search, node: u32) -> Result<(), AllocError>
     Ok(())
 }
 
-// Gives up the last open node, which is unordered.
+// Marks the last open node as unordered.
 fn give_up(search: &mut Search, node: u32)
     requires there { node < length search.old.states.items }
     requires last { search.old.path.items ≡ take (vec_len search.old.path - 1) search.old.path.items ++ node ∷ [] }
@@ -73,7 +73,7 @@ fn give_up(search: &mut Search, node: u32)
     search.states[node as usize] = NodeState::Unordered;
 }
 
-// How many of the first needs of a row are left, once those at their end that are done are passed.
+// How many of the first `count` needs of a row are left without those at their end that are done.
 fn pass_done(row: &[u32], states: &[NodeState], count: usize) -> usize
     requires count { count ≤ length row.now }
     requires row { All (λ t. t < length states.now) row.now }
@@ -87,13 +87,12 @@ fn pass_done(row: &[u32], states: &[NodeState], count: usize) -> usize
     left
 }
 
-// Looks at the next needs of the last open node, up to one that is not done, or closes that node. It is unordered where that need is open itself, so that the
-// path comes back to it, or unordered.
+// Examines the next needs of the last open node, up to one that is not done, or closes the node. The node is unordered if that need is unordered, or
+// is open, so that the path comes back to it.
 fn advance(rows: &Rows, search: &mut Search, top: u32) -> Result<(), AllocError>
     requires rows_below { RowsBelow (length rows.now) rows.now }
     requires sound { IsSound rows.now search.old }
-    requires below { top < length rows.now }
-    requires last { search.old.path.items ≡ take (vec_len search.old.path - 1) search.old.path.items ++ top ∷ [] }
+    requires top { IsTop (length rows.now) search.old top }
     ensures sound { OnOk result (IsSound rows.now search.new) }
     ensures less { OnOk result (work search.new < work search.old) }
     ensures visited { OnOk result (KeepsVisited search.old search.new) }
@@ -114,16 +113,14 @@ fn advance(rows: &Rows, search: &mut Search, top: u32) -> Result<(), AllocError>
     Ok(())
 }
 
-// Goes through all that a node needs, unless it was visited.
+// Visits all nodes that a node needs, and the node itself, unless it was visited.
 fn visit(rows: &Rows, search: &mut Search, root: u32) -> Result<(), AllocError>
     requires rows_below { RowsBelow (length rows.now) rows.now }
     requires sound { IsSound rows.now search.old }
     requires below { root < length rows.now }
     requires idle { length search.old.path.items ≡ 0 }
-    ensures sound { OnOk result (IsSound rows.now search.new) }
-    ensures idle { OnOk result (length search.new.path.items ≡ 0) }
-    ensures visited { OnOk result (KeepsVisited search.old search.new) }
-    ensures root_met { OnOk result (state_of search.new root ≢ NodeState.New) }
+    ensures sound { OnOk result (IsSound rows.now search.new × (length search.new.path.items ≡ 0)) }
+    ensures visited { OnOk result (KeepsVisited search.old search.new × (state_of search.new root ≢ NodeState.New)) }
 {
     match search.states[root as usize] {
         NodeState::New => {}
@@ -137,7 +134,7 @@ fn visit(rows: &Rows, search: &mut Search, root: u32) -> Result<(), AllocError>
     Ok(())
 }
 
-// A state for each node, none of them visited.
+// The states of nodes that have not been visited.
 fn new_states(alloc: Global, count: usize) -> Result<Vec<NodeState>, AllocError>
     ensures { IfOk result (λ v. v.items ≡ replicate count NodeState.New) }
 {
@@ -145,7 +142,7 @@ fn new_states(alloc: Global, count: usize) -> Result<Vec<NodeState>, AllocError>
     Ok(states)
 }
 
-// How many needs each node has.
+// The number of needs of each node.
 fn need_counts(alloc: Global, rows: &Rows) -> Result<Vec<usize>, AllocError>
     ensures { IfOk result (λ v. v.items ≡ map length rows.now) }
 {
@@ -156,7 +153,7 @@ fn need_counts(alloc: Global, rows: &Rows) -> Result<Vec<usize>, AllocError>
     Ok(counts)
 }
 
-/// A search over all nodes: which are unordered, and an order of the others.
+/// Searches all nodes: which are unordered, and an order of the others.
 pub(crate) fn search_all(alloc: Global, rows: &Rows) -> Result<Search, AllocError>
     requires rows_below { RowsBelow (length rows.now) rows.now }
     requires few { length rows.now < 2 ^ 32 }
@@ -182,7 +179,7 @@ pub(crate) fn is_unordered(mark: NodeState) -> bool
     matches!(mark, NodeState::Unordered)
 }
 
-/// The place of the first node of a sequence that is unordered.
+/// The position of the first unordered node of a sequence.
 pub(crate) fn first_unordered(states: &[NodeState], sequence: &[u32]) -> Option<usize>
     requires { All (λ s. s < length states.now) sequence.now }
     ensures { result ≡ position (is_unordered_at states.now) sequence.now }

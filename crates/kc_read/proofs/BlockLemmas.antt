@@ -1,15 +1,10 @@
 -- The blocks that are open after a list of lines, one line after another.
-use Rattle.std.proofs.Common.{◌≡◌, ℕ, zero, suc, ◌-◌, Bool, true, false, cond, ◌&&◌, nat_le, List, [], ◌∷◌, ◌++◌, map, filter, length, Option, Some, None, option_map, slice_get, is_some, refl, sym, ap, ◌∙◌, append_assoc, arith}
+use Rattle.std.proofs.{Common.{Bool, List, None, Option, Some, [], ap, append_assoc, arith, cond, false, filter, is_some, length, map, nat_le, option_map, refl, slice_get, suc, sym, true, zero, ℕ, ◌&&◌, ◌++◌, ◌-◌, ◌∙◌, ◌∷◌, ◌≡◌}, lemmas.{Bool.Decides.nat_tests, List.Elements.filter_map-append}}
 use Rattle.std.specs.List.{filter_map}
-use Rattle.std.proofs.lemmas.Bool.Decides.{nat_tests}
-use Rattle.std.proofs.lemmas.List.Elements.{filter_map-append}
-use Rattle.kc_language.specs.declared.statements.Block.{Block}
-use Rattle.kc_language.specs.Expansion.{Bracket, Opens, Closes, NoBracket, bracket, bracket_at, opened, stays_open, open_block_indices, open_blocks, last_of, numbers, IsUnclosed}
-use Rattle.kc_read.specs.PartsOfExpansion.{is_open}
-use Rattle.kc_read.specs.PartsOfExpansion.{stays_after}
-use Rattle.kc_read.specs.Progress.{Opener, open_block_of, located_blocks, open_blocks_after}
-use Rattle.kc_language.specs.Statements.{Named, Located, statements}
-use Rattle.kc_read.proofs.ListLemmas.{last_of-append, last_of-map, but_last, but_last-take, but_last-append, filter-map, filter_map-map, map-filter_map, numbers_front}
+use Rattle.kc_language.specs.{Expansion.{Bracket, Closes, IsUnclosed, NoBracket, Opens, bracket, bracket_at, last_of, numbers, open_block_indices, open_blocks, opened, stays_open}, Statements.{Located, Named, statements}, declared.statements.Block.Block}
+use Rattle.kc_entries.specs.PartsOfExpansion.{is_open, stays_after}
+use Rattle.kc_read.specs.Progress.{Opener, located_blocks, open_block_of, open_blocks_after}
+use Rattle.kc_entries.proofs.ListLemmas.{but_last, but_last-append, but_last-take, filter-map, filter_map-map, last_of-append, last_of-map, map-filter_map, numbers_front}
 
 -- how many closers close what was opened before
 abbrev unmatched_with : Bracket → ℕ → ℕ

@@ -1,13 +1,7 @@
 -- The expressions of the constants.
-use Rattle.std.proofs.Common.{◌≡◌, true, refl, ap}
-use Rattle.kc_language.specs.declared.expressions.Tri.{Tri}
-use Rattle.kc_language.specs.declared.expressions.Tri.TheVariants.{N, M, Y}
-use Rattle.kc_expr.specs.declared.expression.Operand.{Operand}
-use Rattle.kc_expr.specs.declared.expression.Operand.TheVariants.{Const, TristateConstant, Sym}
-use Rattle.kc_expr.specs.declared.expression.Expr.{Expr}
-use Rattle.kc_expr.specs.declared.expression.Expr.TheVariants.{One, Rel, NotOne, Not', Module, All', Any'}
-use Rattle.kc_expr.specs.Form.{form_of, leaf_of}
-use Rattle.kc_language.specs.Expressions.{tri_text, Single, Text}
+use Rattle.std.proofs.Common.{ap, refl, true, ◌≡◌}
+use Rattle.kc_language.specs.{Expressions.{Single, Text, tri_text}, declared.expressions.Tri.{TheVariants.{M, N, Y}, Tri}}
+use Rattle.kc_expr.specs.{Form.{form_of, leaf_of}, declared.expression.{Expr.{Expr, TheVariants.{All', Any', Module, Not', NotOne, One, Rel}}, Operand.{Operand, TheVariants.{Const, Sym, TristateConstant}}}}
 use Rattle.kc_read.specs.Constants.{is_constant, is_tri}
 
 leaf-tri : (t : Tri) (o : Operand) → is_tri t o ≡ true → leaf_of o ≡ Text (tri_text t)

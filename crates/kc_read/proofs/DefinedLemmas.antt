@@ -1,32 +1,15 @@
 -- The names that an expanded list defines: which they may be, and how many; and that no line of it gives the type that stands
 -- for none.
-use Rattle.std.proofs.Common.{◌≡◌, ℕ, zero, suc, ◌≤◌, nat_lt, Bool, true, false, if◌then◌else◌, List, [], ◌∷◌, ◌++◌, length, drop, map, Option, Some, None, Result, Ok, Err, MatchOption, refl, ap, sym, ◌∙◌, subst, arith, inl, inr, codes}
-use Rattle.std.specs.Prelude.{All}
-use Rattle.std.specs.List.{list_all, list_any, slice_get}
-use Rattle.std.proofs.lemmas.Bool.Decides.{nat_tests}
-use Rattle.std.proofs.lemmas.List.{map-append}
-use Rattle.std.proofs.lemmas.List.Elements.{All-nil, All-push}
-use Rattle.kc_read.proofs.KeywordLemmas.{both}
-use Rattle.kc_language.specs.Tokens.{Lexeme}
-use Rattle.kc_language.specs.Lines.{UnreadLines, unread_lines}
-use Rattle.kc_language.specs.Expressions.{mention, same_name, Disjunction, if_word}
-use Rattle.kc_language.specs.declared.expressions.SymbolType.{SymbolType}
+use Rattle.std.proofs.{Common.{Bool, Err, List, MatchOption, None, Ok, Option, Result, Some, [], ap, arith, codes, drop, false, if◌then◌else◌, inl, inr, length, map, nat_lt, refl, subst, suc, sym, true, zero, ℕ, ◌++◌, ◌∙◌, ◌∷◌, ◌≡◌, ◌≤◌}, lemmas.{Bool.Decides.nat_tests, List.{Elements.{All-nil, All-push}, map-append}}}
+use Rattle.std.specs.{List.{list_all, list_any, slice_get}, Prelude.All}
+use Rattle.kc_read.proofs.{KeywordLemmas.both, StateLemmas.defined_push}
+use Rattle.kc_language.specs.{Expansion.{Expands, FileContext, Files, ReadSoFar, Reading, Refused, Rest, at_end, at_root, blank, bytes_cause, context_of, defined_name, goes_on, limit_cause, moved, refusal_at, refused, refused_inside, renumbered, source, statement, unclosed, with_line}, Expressions.{Disjunction, if_word, mention, same_name}, Lines.{UnreadLines, unread_lines}, Statements.{After, Cause, ChoiceLine, CommentLine, ConfigLine, DefLine, DefaultLine, DependsLine, EndChoiceLine, EndIfLine, EndMenuLine, HelpLine, IfLine, IgnoredLine, ImplyLine, InputPrompt, LineContext, Located, MainMenuLine, MenuLine, ModulesLine, Named, PromptLine, RangeLine, ReadsCondition, ReadsLine, ReadsPrompt, ReadsRest, ReadsValue, ReadsWhole, SelectLine, SourceLine, TypeLine, VisibleLine, begins_with, finish, in_place, is_good_name, keyword_of, keyword_or_refusal, keyword_words, named_target, numbered, operand_of, option_line, placement_cause, plain_text, statements, text_of, word_of}, Symbols.stated_type, Tokens.Lexeme, declared.{expressions.SymbolType.SymbolType, statements.Keyword.Keyword}}
 use Rattle.kc_language.specs.declared.expressions.SymbolType.TheVariants as symbol_type
 use Rattle.kc_language.specs.declared.diagnostics.Cause.TheVariants as cause
-use Rattle.kc_language.specs.declared.statements.Keyword.{Keyword}
 use Rattle.kc_language.specs.declared.statements.Keyword.TheVariants as key
-use Rattle.kc_language.specs.Expansion.{defined_name, FileContext, ReadSoFar, Refused, Rest, Expands, bytes_cause, context_of, limit_cause, first_log, refusal_at, with_line, at_end, unclosed, too_long, no_tokens, blank, renumbered, moved, bad_line, over_limit, statement, bad_source, refused_inside, source, Files}
-use Rattle.kc_read.specs.PartsOfExpansion.{root_context}
-use Rattle.kc_read.specs.PartsOfExpansion.{symbol_cause, defined, located_numbered}
-use Rattle.kc_language.specs.Statements.{Cause, LineContext, After, begins_with, ReadsLine, ReadsRest, ReadsWhole, ReadsCondition, ReadsValue, ReadsPrompt, finish, is_good_name, keyword_of, keyword_words, operand_of, option_line, placement_cause, plain_text, named_target, text_of, word_of, InputPrompt, Named, Located, numbered, ConfigLine, IfLine, EndIfLine, CommentLine, SourceLine, MenuLine, EndMenuLine, ChoiceLine, EndChoiceLine, MainMenuLine, TypeLine, PromptLine, DefaultLine, DefLine, DependsLine, VisibleLine, SelectLine, ImplyLine, RangeLine, HelpLine, ModulesLine, IgnoredLine, statements}
-use Rattle.kc_read.specs.PartsOfStatements.{ReadsTarget, ReadsType, choice_line, expected}
-use Rattle.kc_language.specs.Statements.{in_place, keyword_or_refusal}
-use Rattle.kc_read.specs.PartsOfStatements.{ReadsPlaced, good_name, keyword_in}
+use Rattle.kc_entries.specs.{ListFacts.AreTypesDefined, PartsOfExpansion.{defined, located_numbered, symbol_cause}, PartsOfStatements.{ReadsPlaced, ReadsTarget, ReadsType, choice_line, expected, good_name, keyword_in}}
 use Rattle.kc_read.specs.Progress.{defined_after, naming_cause}
-use Rattle.kc_language.specs.Symbols.{stated_type}
-use Rattle.kc_read.specs.ListFacts.{AreTypesDefined}
-use Rattle.kc_read.proofs.ElementLemmas.{get_snoc}
-use Rattle.kc_read.proofs.StateLemmas.{defined_push}
+use Rattle.kc_entries.proofs.ElementLemmas.{get_snoc}
 
 -- a statement defines no name that no symbol may have
 abbrev Allows : Option (List ℕ) → Type 0
@@ -227,25 +210,22 @@ module _ (files : Files) where
   Outcome (Ok log) = Known log.lines
   Outcome (Err r) = Unit {0}
 
-  rest_known : {a : FileContext} {l : UnreadLines} {own : List (Located Named)} {log : ReadSoFar} {r : Result ReadSoFar Refused} → Rest files a l own log r → Known log.lines → Outcome r
-  rest_known (at_end a l own log e o) k = k
-  rest_known (unclosed a l own log line e u) k = tt
-  rest_known (too_long a l own log t) k = tt
-  rest_known (no_tokens a l m own log ts why n) k = tt
-  rest_known (blank a l m own log r n rest) k = rest_known rest k
-  rest_known (renumbered a l m own log n r marks rest) k = rest_known rest k
-  rest_known (moved a l m own log n name r marks differs rest) k = rest_known rest k
-  rest_known (bad_line a l m own log c n) k = tt
-  rest_known (over_limit a l m own log s c n e) k = tt
-  rest_known (statement a l m own log s r n modeless effect rest) k =
-      rest_known rest (known_next a a own log.lines log l.number s refl (line_of (context_of a own log) n.tokens s n.reads) effect k)
-  rest_known (bad_source a l m own log name c n e) k = tt
-  rest_known (refused_inside a l m own log name bytes e n allowed found inner) k = tt
-  rest_known (source a l m own log more name bytes r n allowed found inner rest) k = rest_known rest (rest_known inner k)
+  rest_known : {at : Reading} {r : Result ReadSoFar Refused} → Rest files at r → Known at.log.lines → Outcome r
+  rest_known (at_end at e o) k = k
+  rest_known (unclosed at line e u) k = tt
+  rest_known (refused at c here) k = tt
+  rest_known (goes_on at next r (blank m n) rest) k = rest_known rest k
+  rest_known (goes_on at next r (renumbered m n marks) rest) k = rest_known rest k
+  rest_known (goes_on at next r (moved m n name marks differs) rest) k = rest_known rest k
+  rest_known (goes_on at next r (statement m s n modeless effect) rest) k =
+      rest_known rest (known_next at.context at.context at.own at.log.lines at.log at.unread.number s refl
+      (line_of (context_of at.context at.own at.log) n.tokens s n.reads) effect k)
+  rest_known (refused_inside at f e inner) k = tt
+  rest_known (source at f more r inner rest) k = rest_known rest (rest_known inner k)
 
   by_bytes : (root : List ℕ) (log : ReadSoFar) (o : Option Cause) →
       MatchOption o ((bytes : List ℕ) × (files.bytes root ≡ Some bytes)
-      × Rest files (root_context root) (unread_lines bytes 1) [] (first_log files root bytes) (Ok log)) (λ c. Ok log ≡ Err (refusal_at c root 0)) →
+      × Rest files (at_root files root bytes) (Ok log)) (λ c. Ok log ≡ Err (refusal_at c root 0)) →
       Known log.lines
   by_bytes root log None h = rest_known h.2 (record { good = All-nil (λ m. is_good_name m ≡ true); few = omega arith })
   by_bytes root log (Some c) h = absurd (let e : ◌≡◌ {A = Result ReadSoFar Refused} (Ok log) (Err (refusal_at c root 0)) = h in cc)
@@ -268,25 +248,22 @@ module _ (files : Files) where
   AllowedOutcome (Ok log) = AreAllowed log.lines
   AllowedOutcome (Err r) = Unit {0}
 
-  rest_allowed : {a : FileContext} {l : UnreadLines} {own : List (Located Named)} {log : ReadSoFar} {r : Result ReadSoFar Refused} → Rest files a l own log r → AreAllowed log.lines → AllowedOutcome r
-  rest_allowed (at_end a l own log e o) k = k
-  rest_allowed (unclosed a l own log line e u) k = tt
-  rest_allowed (too_long a l own log t) k = tt
-  rest_allowed (no_tokens a l m own log ts why n) k = tt
-  rest_allowed (blank a l m own log r n rest) k = rest_allowed rest k
-  rest_allowed (renumbered a l m own log n r marks rest) k = rest_allowed rest k
-  rest_allowed (moved a l m own log n name r marks differs rest) k = rest_allowed rest k
-  rest_allowed (bad_line a l m own log c n) k = tt
-  rest_allowed (over_limit a l m own log s c n e) k = tt
-  rest_allowed (statement a l m own log s r n modeless effect rest) k =
-      rest_allowed rest (allowed_next log.lines (record { file = a.file; line = l.number; statement = s }) (line_of (context_of a own log) n.tokens s n.reads) k)
-  rest_allowed (bad_source a l m own log name c n e) k = tt
-  rest_allowed (refused_inside a l m own log name bytes e n allowed found inner) k = tt
-  rest_allowed (source a l m own log more name bytes r n allowed found inner rest) k = rest_allowed rest (rest_allowed inner k)
+  rest_allowed : {at : Reading} {r : Result ReadSoFar Refused} → Rest files at r → AreAllowed at.log.lines → AllowedOutcome r
+  rest_allowed (at_end at e o) k = k
+  rest_allowed (unclosed at line e u) k = tt
+  rest_allowed (refused at c here) k = tt
+  rest_allowed (goes_on at next r (blank m n) rest) k = rest_allowed rest k
+  rest_allowed (goes_on at next r (renumbered m n marks) rest) k = rest_allowed rest k
+  rest_allowed (goes_on at next r (moved m n name marks differs) rest) k = rest_allowed rest k
+  rest_allowed (goes_on at next r (statement m s n modeless effect) rest) k =
+      rest_allowed rest (allowed_next at.log.lines (record { file = at.context.file; line = at.unread.number; statement = s })
+      (line_of (context_of at.context at.own at.log) n.tokens s n.reads) k)
+  rest_allowed (refused_inside at f e inner) k = tt
+  rest_allowed (source at f more r inner rest) k = rest_allowed rest (rest_allowed inner k)
 
   allowed_by : (root : List ℕ) (log : ReadSoFar) (o : Option Cause) →
       MatchOption o ((bytes : List ℕ) × (files.bytes root ≡ Some bytes)
-      × Rest files (root_context root) (unread_lines bytes 1) [] (first_log files root bytes) (Ok log)) (λ c. Ok log ≡ Err (refusal_at c root 0)) →
+      × Rest files (at_root files root bytes) (Ok log)) (λ c. Ok log ≡ Err (refusal_at c root 0)) →
       AreAllowed log.lines
   allowed_by root log None h = rest_allowed h.2 (λ i l e. absurd cc)
   allowed_by root log (Some c) h = absurd (let e : ◌≡◌ {A = Result ReadSoFar Refused} (Ok log) (Err (refusal_at c root 0)) = h in cc)

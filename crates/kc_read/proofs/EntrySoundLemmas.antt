@@ -1,15 +1,9 @@
 -- The entries of a tree name what there is, but for the ends of menus.
-use Rattle.std.proofs.Common.{◌≡◌, ℕ, ◌<◌, Bool, true, false, if◌then◌else◌, List, length, Option, Some, None, refl, ap, subst}
-use Rattle.std.specs.List.{slice_get, Contains}
-use Rattle.std.specs.Prelude.{option_map}
-use Rattle.kc_language.specs.declared.expressions.SymId.{SymId}
-use Rattle.kc_language.specs.Statements.{Numbered, Located, ConfigLine, MenuLine, EndMenuLine, CommentLine}
-use Rattle.kc_language.specs.Symbols.{Condition, Shown, SymbolShown, MenuShown, EndShown, CommentShown, TreeFacts, dependency, shown_at, is_first_definition, indices, symbol_at}
-use Rattle.kc_read.specs.PartsOfSymbols.{shown_number}
-use Rattle.kc_read.specs.PartsOfSymbols.{enclosing_block, shown_when, symbol_of}
-use Rattle.kc_tree.specs.TreeFacts.{IsModeBelow, IsEntrySound}
-use Rattle.kc_read.proofs.ElementLemmas.{filter_map-from}
-use Rattle.kc_read.proofs.SymbolListLemmas.{line_defined}
+use Rattle.std.proofs.Common.{Bool, List, None, Option, Some, ap, false, if◌then◌else◌, length, refl, subst, true, ℕ, ◌<◌, ◌≡◌}
+use Rattle.std.specs.{List.{Contains, slice_get}, Prelude.option_map}
+use Rattle.kc_language.specs.{Statements.{CommentLine, ConfigLine, EndMenuLine, Located, MenuLine, Numbered}, Symbols.{CommentShown, Condition, EndShown, MenuShown, Shown, SymbolShown, TreeFacts, dependency, indices, is_first_definition, shown_at, symbol_at}, declared.expressions.SymId.SymId}
+use Rattle.kc_entries.specs.{PartsOfSymbols.{enclosing_block, shown_number, shown_when, symbol_of}, WellFormed.{IsEntrySound, IsModeBelow}}
+use Rattle.kc_entries.proofs.{ElementLemmas.filter_map-from, SymbolListLemmas.line_defined}
 use Rattle.kc_read.proofs.FormedLemmas.{line_statements, sound_at, tree}
 
 module _ (names : List (List ℕ)) (ls : List (Located Numbered)) where

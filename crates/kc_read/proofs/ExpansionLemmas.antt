@@ -1,19 +1,13 @@
 -- How the blocks of an expanded list lie in one another: no choice stands in a choice, each closer closes a block of its
 -- own kind, and none is open at the end.
-use Rattle.std.proofs.Common.{◌≡◌, ℕ, zero, suc, false, ◌||◌, List, [], ◌∷◌, ◌++◌, map, take, Option, Some, None, Result, Ok, Err, MatchOption, refl, ap, sym, ◌∙◌, subst, append-nil, append_assoc, inl, inr}
-use Rattle.std.specs.Prelude.{◌⊎◌}
-use Rattle.std.specs.List.{slice_get, list_any}
-use Rattle.std.proofs.lemmas.List.Folds.{list_any-append}
-use Rattle.kc_language.specs.Lines.{UnreadLines, unread_lines}
-use Rattle.kc_language.specs.declared.statements.Block.{Block}
+use Rattle.std.proofs.{Common.{Err, List, MatchOption, None, Ok, Option, Result, Some, [], ap, append-nil, append_assoc, false, inl, inr, map, refl, subst, suc, sym, take, zero, ℕ, ◌++◌, ◌||◌, ◌∙◌, ◌∷◌, ◌≡◌}, lemmas.List.Folds.list_any-append}
+use Rattle.std.specs.{List.{list_any, slice_get}, Prelude.◌⊎◌}
+use Rattle.kc_language.specs.{Expansion.{Bracket, Closes, Expands, FileContext, Files, NoBracket, Opens, ReadSoFar, Reading, Refused, Rest, at_end, at_root, blank, bracket, bytes_cause, context_of, goes_on, inside, is_choice_block, last_of, moved, open_blocks, refusal_at, refused, refused_inside, renumbered, source, statement, unclosed, with_file, with_line}, Lines.{UnreadLines, unread_lines}, Statements.{Cause, ChoiceLine, EndChoiceLine, EndIfLine, EndMenuLine, IfLine, LineContext, Located, MenuLine, Named, SourceLine, Statement, statements}, declared.statements.Block.Block}
 use Rattle.kc_language.specs.declared.statements.Block.TheVariants as block
-use Rattle.kc_language.specs.Expansion.{Files, Bracket, Opens, Closes, NoBracket, bracket, last_of, open_blocks, FileContext, ReadSoFar, Refused, Rest, Expands, bytes_cause, first_log, inside, with_file, refusal_at, is_choice_block, context_of, with_line, at_end, unclosed, too_long, no_tokens, blank, renumbered, moved, bad_line, over_limit, statement, bad_source, refused_inside, source}
-use Rattle.kc_read.specs.PartsOfExpansion.{root_context, logged}
-use Rattle.kc_language.specs.Statements.{Statement, Named, Located, IfLine, EndIfLine, SourceLine, MenuLine, EndMenuLine, ChoiceLine, EndChoiceLine, statements, Cause, LineContext}
+use Rattle.kc_entries.specs.PartsOfExpansion.{logged}
 use Rattle.kc_read.specs.Progress.{Opener, located_blocks, open_blocks_after}
-use Rattle.kc_read.proofs.BlockLemmas.{blocks_of_located, located_blocks_push}
-use Rattle.kc_read.proofs.TurnLemmas.{Turn, Chooses, Leaves, Enables, Adds, Stays, turn, SuitsHere, read_suits}
-use Rattle.kc_read.proofs.ListLemmas.{last_of-append, but_last, but_last-take, but_last-append, map-push}
+use Rattle.kc_read.proofs.{BlockLemmas.{blocks_of_located, located_blocks_push}, TurnLemmas.{Adds, Chooses, Enables, Leaves, Stays, SuitsHere, Turn, read_suits, turn}}
+use Rattle.kc_entries.proofs.ListLemmas.{but_last, but_last-append, but_last-take, last_of-append, map-push}
 
 -- these open blocks are as a line asks
 abbrev pub Suits : List Block → Turn → Type 0
@@ -144,34 +138,32 @@ sourced_stands a own more name n h =
     let opener : Located Named = record { file = a.file; line = n; statement = SourceLine name } in
     record { nested = h.nested; blocks = h.blocks ∙ ap (λ bs. a.blocks ++ bs) (sym (blocks_push own opener)) }
 
-rest_leaves : {files : Files} {a : FileContext} {l : UnreadLines} {own : List (Located Named)} {log : ReadSoFar} {r : Result ReadSoFar Refused} → Rest files a l own log r → Stands a own log → Leaving a.blocks r
-rest_leaves (at_end a l own log e none) i = record { nested = i.nested; blocks = i.blocks ∙ ap (λ bs. a.blocks ++ bs) none ∙ append-nil a.blocks }
-rest_leaves (unclosed a l own log line e u) i = tt
-rest_leaves (too_long a l own log t) i = tt
-rest_leaves (no_tokens a l m own log ts why n) i = tt
-rest_leaves (blank a l m own log r n rest) i = rest_leaves rest i
-rest_leaves (renumbered a l m own log n r marks rest) i = rest_leaves rest i
-rest_leaves (moved a l m own log n name r marks differs rest) i =
-    let opener : Located Named = record { file = a.file; line = l.number; statement = SourceLine name } in
-    rest_leaves rest (record { nested = i.nested; blocks = i.blocks ∙ ap (λ bs. a.blocks ++ bs) (sym (blocks_push own opener)) })
-rest_leaves (bad_line a l m own log c n) i = tt
-rest_leaves (over_limit a l m own log s c n e) i = tt
-rest_leaves (statement a l m own log s r n e f rest) i = rest_leaves rest (line_stands a own log s l.number i (read_suits (context_of a own log) n.tokens s n.reads))
-rest_leaves (bad_source a l m own log name c n e) i = tt
-rest_leaves (refused_inside a l m own log name bytes e n f g inner) i = tt
-rest_leaves (source a l m own log more name bytes r n e f inner rest) i =
-    let stands : Stands (inside a own name) [] (with_file log name bytes) = record {
+rest_leaves : {files : Files} {at : Reading} {r : Result ReadSoFar Refused} → Rest files at r → Stands at.context at.own at.log → Leaving at.context.blocks r
+rest_leaves (at_end at e none) i =
+    record { nested = i.nested; blocks = i.blocks ∙ ap (λ bs. at.context.blocks ++ bs) none ∙ append-nil at.context.blocks }
+rest_leaves (unclosed at line e u) i = tt
+rest_leaves (refused at c here) i = tt
+rest_leaves (goes_on at next r (blank m n) rest) i = rest_leaves rest i
+rest_leaves (goes_on at next r (renumbered m n marks) rest) i = rest_leaves rest i
+rest_leaves (goes_on at next r (moved m n name marks differs) rest) i =
+    let opener : Located Named = record { file = at.context.file; line = at.unread.number; statement = SourceLine name } in
+    rest_leaves rest (record { nested = i.nested; blocks = i.blocks ∙ ap (λ bs. at.context.blocks ++ bs) (sym (blocks_push at.own opener)) })
+rest_leaves (goes_on at next r (statement m s n e f) rest) i =
+    rest_leaves rest (line_stands at.context at.own at.log s at.unread.number i (read_suits (context_of at.context at.own at.log) n.tokens s n.reads))
+rest_leaves (refused_inside at f e inner) i = tt
+rest_leaves (source at f more r inner rest) i =
+    let stands : Stands (inside at.context at.own f.name) [] (with_file at.log f.name f.bytes) = record {
       nested = i.nested;
-      blocks = i.blocks ∙ sym (append-nil (a.blocks ++ open_blocks (statements own)));
+      blocks = i.blocks ∙ sym (append-nil (at.context.blocks ++ open_blocks (statements at.own)));
     } in
-    rest_leaves rest (sourced_stands a own more name l.number (rest_leaves inner stands))
+    rest_leaves rest (sourced_stands at.context at.own more f.name at.unread.number (rest_leaves inner stands))
 
 -- In the expanded list each line suits its enclosing blocks, and no block is open at the end.
 pub expansion_is_nested : (files : Files) (root : List ℕ) (log : ReadSoFar) → Expands files root (Ok log) → IsNested [] (statements log.lines)
 expansion_is_nested files root log x = by (bytes_cause root 0 (files.bytes root)) x
   where
     by : (o : Option Cause) → MatchOption o ((bytes : List ℕ) × (files.bytes root ≡ Some bytes)
-        × Rest files (root_context root) (unread_lines bytes 1) [] (first_log files root bytes) (Ok log)) (λ c. Ok log ≡ Err (refusal_at c root 0)) →
+        × Rest files (at_root files root bytes) (Ok log)) (λ c. Ok log ≡ Err (refusal_at c root 0)) →
         IsNested [] (statements log.lines)
     by None e = rest_leaves e.2 (record { nested = λ i s f. absurd cc; blocks = refl })
     by (Some c) e = absurd cc

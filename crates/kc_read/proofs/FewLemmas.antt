@@ -1,15 +1,10 @@
 -- An expanded list has no more lines than there may be physical lines: each statement takes one at least.
-use Rattle.std.proofs.Common.{◌≡◌, ℕ, ◌+◌, ◌<◌, ◌≤◌, nat_lt, nat_le, Bool, true, false, cond, List, [], ◌∷◌, ◌++◌, length, Option, Some, None, Result, Ok, Err, MatchOption, refl, ap, sym, ◌∙◌, arith, length-append}
+use Rattle.std.proofs.{Common.{Bool, Err, List, MatchOption, None, Ok, Option, Result, Some, [], ap, arith, cond, false, length, length-append, nat_le, nat_lt, refl, sym, true, ℕ, ◌++◌, ◌+◌, ◌<◌, ◌∙◌, ◌∷◌, ◌≡◌, ◌≤◌}, lemmas.Bool.Decides.nat_tests}
 use Rattle.std.specs.List.{list_any}
-use Rattle.std.proofs.lemmas.Bool.Decides.{nat_tests}
-use Rattle.kc_language.specs.Expressions.{mention, same_name}
-use Rattle.kc_language.specs.Lines.{UnreadLines, unread_lines}
+use Rattle.kc_language.specs.{Expansion.{Expands, Files, ReadSoFar, Reading, Refused, Rest, at_end, at_root, blank, bytes_cause, goes_on, moved, refusal_at, refused, refused_inside, renumbered, source, sourced, sourcing_cause, statement, unclosed}, Expressions.{mention, same_name}, Lines.{UnreadLines, unread_lines}, Statements.{Cause, Located, Named}, Text.most_lines}
 use Rattle.kc_language.specs.declared.diagnostics.Cause.TheVariants as cause
-use Rattle.kc_language.specs.Expansion.{FileContext, Expands, ReadSoFar, Refused, Rest, bytes_cause, first_log, refusal_at, sourced, sourcing_cause, at_end, unclosed, too_long, no_tokens, blank, renumbered, moved, bad_line, over_limit, statement, bad_source, refused_inside, source, Files}
-use Rattle.kc_read.specs.PartsOfExpansion.{lines_of, root_context}
-use Rattle.kc_language.specs.Text.{most_lines}
+use Rattle.kc_entries.specs.PartsOfExpansion.{lines_of}
 use Rattle.kc_text.specs.PartsOfText.{most_files}
-use Rattle.kc_language.specs.Statements.{Cause, Located, Named}
 use Rattle.kc_read.proofs.RestLemmas.{next_less}
 
 -- a file that may be opened adds no more lines than there may be
@@ -43,34 +38,31 @@ behind : (m l opened n : ℕ) (log more : ReadSoFar) (names : List (List ℕ)) (
 behind m l opened n log more names (Ok last) less size few h g = (omega (arith, h.0, g.0), λ _. g.1 (h.1 few))
 behind m l opened n log more names (Err r) less size few h g = tt
 
-rest_adds : {files : Files} {a : FileContext} {l : UnreadLines} {own : List (Located Named)} {log : ReadSoFar} {r : Result ReadSoFar Refused} → Rest files a l own log r → Adds (length l.lines) log r
-rest_adds (at_end a l own log e none) = (omega arith, λ few. few)
-rest_adds (unclosed a l own log line e u) = tt
-rest_adds (too_long a l own log t) = tt
-rest_adds (no_tokens a l m own log ts why n) = tt
-rest_adds (blank a l m own log r n rest) =
-    later (length m.lines) (length l.lines) log log r (next_less l m [] None n.0) (omega arith) refl (rest_adds rest)
-rest_adds (renumbered a l m own log n r marks rest) =
-    later (length m.lines) (length l.lines) log log r (next_less l m [] None marks.0) (omega arith) refl (rest_adds rest)
-rest_adds (moved a l m own log n name r marks differs rest) =
-    later (length m.lines) (length l.lines) log (record log { opened = mention log.opened name }) r (next_less l m [] None marks.0) (omega arith) refl (rest_adds rest)
-rest_adds (bad_line a l m own log c n) = tt
-rest_adds (over_limit a l m own log s c n e) = tt
-rest_adds (statement a l m own log s r n e f rest) =
-    let added : Located Named = record { file = a.file; line = l.number; statement = s } in
-    later (length m.lines) (length l.lines) log (record { lines = log.lines ++ added ∷ []; total_lines = log.total_lines; opened = log.opened }) r (next_less l m n.tokens None n.next)
-    (omega (arith, length-append log.lines (added ∷ []))) refl (rest_adds rest)
-rest_adds (bad_source a l m own log name c n e) = tt
-rest_adds (refused_inside a l m own log name bytes e n f g inner) = tt
-rest_adds {files} (source a l m own log more name bytes r n e f inner rest) =
-    behind (length m.lines) (length l.lines) (lines_of bytes) (lines_of bytes) log more (mention log.opened name) r (next_less l m n.tokens None n.next) refl
-    (few_sourced files a.open_files log.total_lines name bytes e f) (rest_adds inner) (rest_adds rest)
+rest_adds : {files : Files} {at : Reading} {r : Result ReadSoFar Refused} → Rest files at r → Adds (length at.unread.lines) at.log r
+rest_adds (at_end at e none) = (omega arith, λ few. few)
+rest_adds (unclosed at line e u) = tt
+rest_adds (refused at c here) = tt
+rest_adds (goes_on at next r (blank m n) rest) =
+    later (length m.lines) (length at.unread.lines) at.log at.log r (next_less at.unread m [] None n.0) (omega arith) refl (rest_adds rest)
+rest_adds (goes_on at next r (renumbered m n marks) rest) =
+    later (length m.lines) (length at.unread.lines) at.log at.log r (next_less at.unread m [] None marks.0) (omega arith) refl (rest_adds rest)
+rest_adds (goes_on at next r (moved m n name marks differs) rest) =
+    later (length m.lines) (length at.unread.lines) at.log next.log r (next_less at.unread m [] None marks.0) (omega arith) refl (rest_adds rest)
+rest_adds (goes_on at next r (statement m s n e f) rest) =
+    let added : Located Named = record { file = at.context.file; line = at.unread.number; statement = s } in
+    later (length m.lines) (length at.unread.lines) at.log next.log r (next_less at.unread m n.tokens None n.next)
+    (omega (arith, length-append at.log.lines (added ∷ []))) refl (rest_adds rest)
+rest_adds (refused_inside at f e inner) = tt
+rest_adds {files} (source at f more r inner rest) =
+    behind (length f.after.lines) (length at.unread.lines) (lines_of f.bytes) (lines_of f.bytes) at.log more (mention at.log.opened f.name) r
+    (next_less at.unread f.after f.next.tokens None f.next.next) refl
+    (few_sourced files at.context.open_files at.log.total_lines f.name f.bytes f.allowed f.found) (rest_adds inner) (rest_adds rest)
 
 pub expansion_few : (files : Files) (root : List ℕ) (log : ReadSoFar) → Expands files root (Ok log) → length log.lines ≤ most_lines
 expansion_few files root log x = by (bytes_cause root 0 (files.bytes root)) refl x
   where
     by : (o : Option Cause) → bytes_cause root 0 (files.bytes root) ≡ o →
-        MatchOption o ((bytes : List ℕ) × (files.bytes root ≡ Some bytes) × Rest files (root_context root) (unread_lines bytes 1) [] (first_log files root bytes) (Ok log))
+        MatchOption o ((bytes : List ℕ) × (files.bytes root ≡ Some bytes) × Rest files (at_root files root bytes) (Ok log))
         (λ c. Ok log ≡ Err (refusal_at c root 0)) → length log.lines ≤ most_lines
     by None none e =
         let few : lines_of e.0 ≤ most_lines = omega (arith, few_opened root 0 e.0 (ap (bytes_cause root 0) (sym e.1) ∙ none)) in

@@ -1,13 +1,9 @@
 -- Files by their names.
-use Rattle.std.proofs.Common.{◌≡◌, ℕ, Bool, true, false, cond, List, [], ◌∷◌, map, Some, inl, inr, refl, sym, ap, ◌∙◌}
-use Rattle.std.specs.Map.{lookup}
-use Rattle.std.specs.declared.vec.Vec.{Vec}
-use Rattle.std.specs.declared.alloc.Global.{Global}
-use Rattle.std.proofs.lemmas.Bool.{cases_eq, eq-eqb, ne_eqb}
+use Rattle.std.proofs.{Common.{Bool, List, Some, [], ap, cond, false, inl, inr, map, refl, sym, true, ℕ, ◌∙◌, ◌∷◌, ◌≡◌}, lemmas.Bool.{cases_eq, eq-eqb, ne_eqb}}
+use Rattle.std.specs.{Map.lookup, declared.{alloc.Global.Global, vec.Vec.Vec}}
 use Rattle.indexmap.specs.IndexMap.{insert_entry}
-use Rattle.kc_language.specs.Expressions.{same_name}
+use Rattle.kc_language.specs.{Expansion.bytes_in, Expressions.same_name}
 use Rattle.kc_expr.proofs.NamesLemmas.{same_name-refl}
-use Rattle.kc_language.specs.Expansion.{bytes_in}
 
 abbrev pub files_of : List (Vec ℕ Global × List ℕ) → List (List ℕ × List ℕ)
 files_of es = map (λ e. (e.0.items, e.1)) es

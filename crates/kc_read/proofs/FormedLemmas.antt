@@ -1,19 +1,9 @@
 -- What holds of the facts that numbered lines give, where none of them is refused.
-use Rattle.std.proofs.Common.{◌≡◌, ℕ, ◌<◌, ◌≤◌, if◌then◌else◌, List, [], length, take, map, Option, Some, None, refl, ap, sym, ◌∙◌, arith, length-take}
-use Rattle.std.specs.Prelude.{All, option_map}
-use Rattle.std.specs.List.{slice_get, filter_map, flat_map}
-use Rattle.std.proofs.lemmas.List.Elements.{All-nil, All-append}
-use Rattle.kc_language.specs.declared.expressions.SymId.{SymId}
-use Rattle.kc_language.specs.Expressions.{Form, symbol}
-use Rattle.kc_language.specs.Expansion.{numbers, attributes, last_of}
-use Rattle.kc_language.specs.Statements.{InputPrompt, Numbered, Located, RangeLine}
-use Rattle.kc_language.specs.Symbols.{Condition, Guarded, Bounds, TreeFacts, listed, prompt_of, can_be_target, enclosing_choice, definitions_of, dependency, naming_at, indices, prompt_at, stated_default, symbol_at, symbol_facts, facts_with}
-use Rattle.kc_read.specs.PartsOfSymbols.{choices}
-use Rattle.kc_read.specs.PartsOfSymbols.{prompt_condition, defaults_at, guarded_default, imply_of, guarded_symbol, guarded_range, select_of}
-use Rattle.kc_tree.specs.TreeFacts.{AreLinesSound, IsModeBelow, IsMentioned}
-use Rattle.kc_read.specs.ListFacts.{AreBelow}
-use Rattle.kc_read.proofs.ElementLemmas.{All-if, All-filter_map, All-flat_map, All-map_each}
-use Rattle.kc_read.proofs.PlaceLemmas.{get-map_numbers, length-map_numbers}
+use Rattle.std.proofs.{Common.{List, None, Option, Some, [], ap, arith, if◌then◌else◌, length, length-take, map, refl, sym, take, ℕ, ◌<◌, ◌∙◌, ◌≡◌, ◌≤◌}, lemmas.List.Elements.{All-append, All-nil}}
+use Rattle.std.specs.{List.{filter_map, flat_map, slice_get}, Prelude.{All, option_map}}
+use Rattle.kc_language.specs.{Expansion.{attributes, last_of, numbers}, Expressions.{Form, symbol}, Statements.{InputPrompt, Located, Numbered, RangeLine}, Symbols.{Bounds, Condition, Guarded, TreeFacts, can_be_target, definitions_of, dependency, enclosing_choice, facts_with, indices, listed, naming_at, prompt_at, prompt_of, stated_default, symbol_at, symbol_facts}, declared.expressions.SymId.SymId}
+use Rattle.kc_entries.specs.{ListFacts.AreBelow, PartsOfSymbols.{choices, defaults_at, guarded_default, guarded_range, guarded_symbol, imply_of, prompt_condition, select_of}, WellFormed.{AreLinesSound, IsMentioned, IsModeBelow}}
+use Rattle.kc_entries.proofs.{ElementLemmas.{All-filter_map, All-flat_map, All-if, All-map_each}, PlaceLemmas.{get-map_numbers, length-map_numbers}}
 use Rattle.kc_read.proofs.SoundLemmas.{mode_below}
 
 -- Conditions: the choice whose mode they name is there.

@@ -1,17 +1,11 @@
 -- An expression at the front of a line's tokens.
-use Rattle.std.proofs.Common.{◌≡◌, ℕ, zero, suc, ◌+◌, ◌-◌, ◌≤◌, List, [], ◌∷◌, map, drop, refl, sym, ap, ◌∙◌, subst, arith, inl, inr, Bool}
-use Rattle.std.proofs.lemmas.List.{drop-map}
-use Rattle.kc_text.specs.Lexemes.{lexeme, lexemes}
-use Rattle.kc_text.specs.declared.tokens.Token.{Token}
-use Rattle.kc_expr.specs.declared.parse.ExprFault.{ExprFault}
+use Rattle.std.proofs.{Common.{Bool, List, [], ap, arith, drop, inl, inr, map, refl, subst, suc, sym, zero, ℕ, ◌+◌, ◌-◌, ◌∙◌, ◌∷◌, ◌≡◌, ◌≤◌}, lemmas.List.drop-map}
+use Rattle.kc_text.specs.{Lexemes.{lexeme, lexemes}, declared.tokens.Token.Token}
+use Rattle.kc_expr.specs.{Grammar.terminals_from, Parsing.{IsParsed, IsRefused}, PartsOfExpressions.terminals, declared.parse.ExprFault.ExprFault}
 use Rattle.kc_expr.specs.declared.parse.ExprFault.TheVariants as expr
-use Rattle.kc_language.specs.Expressions.{Form, LongestFront, terminal_of}
-use Rattle.kc_expr.specs.PartsOfExpressions.{terminals}
-use Rattle.kc_expr.specs.Grammar.{terminals_from}
-use Rattle.kc_expr.specs.Parsing.{IsParsed, IsRefused}
+use Rattle.kc_language.specs.{Expressions.{Form, LongestFront, terminal_of}, Statements.ExpressionFault}
 use Rattle.kc_diagnostics.proofs.CauseLemmas.{no_other_memory}
-use Rattle.kc_language.specs.Statements.{ExpressionFault}
-use Rattle.kc_read.specs.LineReads.{LineFault, IsFront, IsFault, cause_of, lexemes_from, expression_cause}
+use Rattle.kc_read.specs.LineReads.{IsFault, IsFront, LineFault, cause_of, expression_cause, lexemes_from}
 
 terminals-map : (ts : List Token) → map terminal_of (lexemes ts) ≡ map (λ t. terminal_of (lexeme t)) ts
 terminals-map [] = refl

@@ -1,19 +1,11 @@
 -- What the lines that begin entries have in common, and what attributes have.
-use Rattle.std.proofs.Common.{◌≡◌, ◌+◌, length, Bool, true, false, Option, None, refl, ap}
+use Rattle.std.proofs.Common.{Bool, None, Option, ap, false, length, refl, true, ◌+◌, ◌≡◌}
 use Rattle.std.specs.Option.{option_or}
-use Rattle.kc_language.specs.declared.expressions.SymId.{SymId}
-use Rattle.kc_read.specs.declared.frame.Frame.{Frame}
-use Rattle.kc_read.specs.declared.progress.Progress.{Progress}
-use Rattle.kc_read.specs.declared.statement.Attribute.{Attribute}
-use Rattle.kc_read.specs.declared.statement.Attribute.TheVariants as attribute
-use Rattle.kc_read.specs.declared.statement.Head.{Head}
-use Rattle.kc_read.specs.declared.statement.Head.TheVariants as head
-use Rattle.kc_language.specs.Expansion.{Bracket, NoBracket, bracket, defined_name, is_attribute}
-use Rattle.kc_read.specs.PartsOfExpansion.{is_source}
-use Rattle.kc_read.specs.PartsOfExpansion.{nesting_cause}
-use Rattle.kc_read.specs.Progress.{defining_cause, limit_view}
-use Rattle.kc_language.specs.Statements.{Numbered}
-use Rattle.kc_read.specs.StatementViews.{attribute_view, head_view}
+use Rattle.kc_language.specs.{Expansion.{Bracket, NoBracket, bracket, defined_name, is_attribute}, Statements.Numbered, declared.expressions.SymId.SymId}
+use Rattle.kc_read.specs.{Progress.{defining_cause, limit_view}, declared.{frame.Frame.Frame, progress.Progress.Progress}}
+use Rattle.kc_entries.specs.{PartsOfExpansion.{is_source, nesting_cause}, StatementViews.{attribute_view, head_view}, declared.statement.{Attribute.Attribute, Head.Head}}
+use Rattle.kc_entries.specs.declared.statement.Attribute.TheVariants as attribute
+use Rattle.kc_entries.specs.declared.statement.Head.TheVariants as head
 
 pub no_attribute : (h : Head) → is_attribute (head_view h) ≡ false
 no_attribute (head.Config s) = refl

@@ -1,9 +1,7 @@
 -- The keyword of a word, by its length.
-use Rattle.std.proofs.Common.{◌≡◌, ◌∙◌, ◌&&◌, sym, ap, refl, ℕ, Bool, true, false, List, length}
-use Rattle.std.proofs.lemmas.Map.Entries.{lookup-filter-keys}
-use Rattle.kc_language.specs.Expressions.{same_name}
-use Rattle.kc_language.specs.Statements.{keyword_of, keyword_words}
-use Rattle.kc_read.specs.PartsOfStatements.{keyword_in, words_of_length}
+use Rattle.std.proofs.{Common.{Bool, List, ap, false, length, refl, sym, true, ℕ, ◌&&◌, ◌∙◌, ◌≡◌}, lemmas.Map.Entries.lookup-filter-keys}
+use Rattle.kc_language.specs.{Expressions.same_name, Statements.{keyword_of, keyword_words}}
+use Rattle.kc_entries.specs.PartsOfStatements.{keyword_in, words_of_length}
 use Rattle.kc_read.proofs.FileLemmas.{same_name_eq}
 
 -- a table by length has each of its words

@@ -1,21 +1,11 @@
 -- What stands in a line of a Kconfig file: each text of its tokens is one line of at most 8,191 bytes.
-use Rattle.std.proofs.Common.{◌≡◌, ℕ, ◌-◌, ◌≤◌, Bool, true, false, ◌==◌, if◌then◌else◌, List, [], ◌∷◌, ◌++◌, length, take, drop, Option, Some, None, refl, sym, subst, arith, length-take, length-drop, length-append}
-use Rattle.std.specs.Prelude.{All}
-use Rattle.std.specs.List.{slice_split, onto_first, slice_index}
-use Rattle.std.specs.Str.Lines.{strip_carriage_return}
-use Rattle.std.proofs.lemmas.List.Elements.{All-nil, All-cons, All-head, All-tail, All-append, All-take, All-drop}
-use Rattle.std.proofs.lemmas.List.Splits.{slice_split-cons_yes, slice_split-cons_no}
-use Rattle.kc_language.specs.declared.tokens.TextFault.{TextFault}
-use Rattle.kc_language.specs.declared.tokens.Op.{Op}
+use Rattle.std.proofs.{Common.{Bool, List, None, Option, Some, [], arith, drop, false, if◌then◌else◌, length, length-append, length-drop, length-take, refl, subst, sym, take, true, ℕ, ◌++◌, ◌-◌, ◌==◌, ◌∷◌, ◌≡◌, ◌≤◌}, lemmas.List.{Elements.{All-append, All-cons, All-drop, All-head, All-nil, All-tail, All-take}, Splits.{slice_split-cons_no, slice_split-cons_yes}}}
+use Rattle.std.specs.{List.{onto_first, slice_index, slice_split}, Prelude.All, Str.Lines.strip_carriage_return}
+use Rattle.kc_language.specs.{Expressions.{Atom, Bang, Chain, Close, Compares, Joins, Keyword, Negation, Open, OperandToken, Part, QuotedAtom, Terminal, WordAtom, bang, compare, conjunction, group, if_word, joined, leaf, lone, meaning, meaning_not, meaning_part, names_in_atom, negation, only, same_name, spell, spell_not, spell_part, terminal_of}, Lines.{Physical, TakesLine, UnreadLines, after_help, after_text, column, continues, from_other, is_help_line, joined_text, lines_of_parts, physical_lines}, Text.unescape, Tokens.{AQuoted, AWord, AnOp, IsCut, Lexeme, Spells, ended, skipped, stuck, taken}, declared.tokens.{Op.Op, TextFault.TextFault}}
 use Rattle.kc_language.specs.declared.tokens.Op.TheVariants as op
-use Rattle.kc_language.specs.Text.{unescape}
-use Rattle.kc_language.specs.Lines.{after_help, after_text, column, from_other, is_help_line, Physical, UnreadLines, TakesLine, continues, joined_text, lines_of_parts, physical_lines}
 use Rattle.kc_text.specs.PartsOfLines.{without_continuation}
-use Rattle.kc_language.specs.Tokens.{Lexeme, AWord, AQuoted, AnOp, Spells, IsCut, ended, stuck, skipped, taken}
-use Rattle.kc_language.specs.Expressions.{Atom, WordAtom, QuotedAtom, Terminal, OperandToken, Compares, Bang, Joins, Open, Close, Keyword, Chain, Part, Negation, only, joined, negation, conjunction, bang, group, lone, compare, names_in_atom, if_word, leaf, meaning, meaning_not, meaning_part, spell, spell_not, spell_part, terminal_of, same_name}
-use Rattle.kc_expr.specs.PartsOfExpressions.{is_tristate_constant, lone_form, terminals}
-use Rattle.kc_expr.specs.PartsOfExpressions.{op_terminal, names_in_terminal, names_in_terminals}
-use Rattle.kc_tree.specs.TreeFacts.{IsLineText, IsLineForm}
+use Rattle.kc_expr.specs.PartsOfExpressions.{is_tristate_constant, lone_form, names_in_terminal, names_in_terminals, op_terminal, terminals}
+use Rattle.kc_entries.specs.WellFormed.{IsLineForm, IsLineText}
 
 -- The parts of what holds of each element.
 module _ {X : Type 0} (P : X → Type 0) where

@@ -1,19 +1,11 @@
 -- Each line is a statement, or is refused for a cause.
-use Rattle.std.proofs.Common.{◌≡◌, ℕ, ◌⊎◌, Bool, true, false, List, [], ◌∷◌, ◌++◌, length, drop, codes, Option, Some, None, Result, Ok, Err, inl, inr, refl, sym, subst}
-use Rattle.kc_language.specs.declared.expressions.SymbolType.{SymbolType}
-use Rattle.kc_language.specs.Expressions.{Terminal, Disjunction, LongestFront, if_word}
-use Rattle.kc_expr.specs.PartsOfExpressions.{terminals}
-use Rattle.kc_expr.specs.PartsOfExpressions.{spell_or}
-use Rattle.kc_expr.specs.Parsing.{Answer, Derived, NoExpression, TooManyLevels, Answers}
+use Rattle.std.proofs.Common.{Bool, Err, List, None, Ok, Option, Result, Some, [], codes, drop, false, inl, inr, length, refl, subst, sym, true, ℕ, ◌++◌, ◌∷◌, ◌≡◌, ◌⊎◌}
+use Rattle.kc_language.specs.{Expressions.{Disjunction, LongestFront, Terminal, if_word}, Statements.{After, Cause, CommentLine, ConditionFault, DefLine, DefaultLine, DependsLine, EndChoiceLine, EndIfLine, EndMenuLine, ExpressionFault, HelpLine, IfLine, ImplyLine, InputPrompt, IsCondition, LineContext, MainMenuLine, MenuLine, ModulesLine, Named, PromptLine, RangeLine, ReadsCondition, ReadsLine, ReadsPrompt, ReadsRest, ReadsSource, ReadsTextLine, ReadsValue, ReadsWhole, SelectLine, SourceLine, StartsExpression, TypeLine, VisibleLine, WholeFault, begins_with, finish, in_place, keyword_of, keyword_or_refusal, named_target, operand_of, option_line, placement_cause, plain_text, text_of, word_of}, Tokens.Lexeme, declared.{expressions.SymbolType.SymbolType, statements.Keyword.Keyword}}
+use Rattle.kc_expr.specs.{Parsing.{Answer, Answers, Derived, NoExpression, TooManyLevels}, PartsOfExpressions.{spell_or, terminals}}
 use Rattle.kc_expr.proofs.OneAnswer.{one_answer_law}
-use Rattle.kc_language.specs.Tokens.{Lexeme}
 use Rattle.kc_language.specs.declared.diagnostics.Cause.TheVariants as cause
-use Rattle.kc_language.specs.declared.statements.Keyword.{Keyword}
 use Rattle.kc_language.specs.declared.statements.Keyword.TheVariants as key
-use Rattle.kc_language.specs.Statements.{Named, InputPrompt, IfLine, EndIfLine, CommentLine, SourceLine, MenuLine, EndMenuLine, EndChoiceLine, MainMenuLine, TypeLine, PromptLine, DefaultLine, DefLine, DependsLine, VisibleLine, SelectLine, ImplyLine, RangeLine, HelpLine, ModulesLine, Cause, LineContext, StartsExpression, ExpressionFault, WholeFault, ReadsWhole, begins_with, IsCondition, ConditionFault, ReadsCondition, After, text_of, word_of, named_target, operand_of, finish, ReadsTextLine, plain_text, ReadsSource, ReadsPrompt, ReadsValue, option_line, ReadsRest, placement_cause, keyword_of, ReadsLine}
-use Rattle.kc_read.specs.PartsOfStatements.{IsWhole, ReadsConfig, choice_line, ReadsType, expected, ReadsTarget}
-use Rattle.kc_language.specs.Statements.{in_place, keyword_or_refusal}
-use Rattle.kc_read.specs.PartsOfStatements.{front, good_name, ReadsRange, ReadsPlaced}
+use Rattle.kc_entries.specs.PartsOfStatements.{IsWhole, ReadsConfig, ReadsPlaced, ReadsRange, ReadsTarget, ReadsType, choice_line, expected, front, good_name}
 use Rattle.kc_read.specs.Lines.{OneStatement}
 use Rattle.kc_read.proofs.OneLine.{one_line}
 

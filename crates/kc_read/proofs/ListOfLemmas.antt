@@ -1,14 +1,9 @@
 -- A file has at most one list.
-use Rattle.std.proofs.Common.{◌≡◌, ◌≢◌, ◌⊎◌, inl, inr, ℕ, Bool, false, List, [], ◌∷◌, ◌++◌, Some, None, Ok, refl, sym, ap, subst, ◌∙◌}
-use Rattle.std.proofs.lemmas.Bool.{both_ways}
-use Rattle.kc_language.specs.Lines.{UnreadLines, unread_lines}
-use Rattle.kc_language.specs.Tokens.{Lexeme}
-use Rattle.kc_language.specs.Expansion.{NextLine, NextStatement, Files, sourced}
-use Rattle.kc_read.specs.PartsOfExpansion.{is_source}
-use Rattle.kc_language.specs.Statements.{LineContext, ReadsLine, Located, Named, SourceLine}
-use Rattle.kc_read.specs.Replaced.{Owns, Replaces, OneListOf, located, no_line, no_tokens, same_file, other_file, one_more, nothing, kept, replaced}
-use Rattle.kc_read.proofs.OneExpansion.{IsMark, Mark, NoMark, Number, Place, Turn, Ends, Long, Line, IsTurn, one_mark, one_turn, one_some, same_source}
-use Rattle.kc_read.proofs.OneLine.{same_statement}
+use Rattle.std.proofs.{Common.{Bool, List, None, Ok, Some, [], ap, false, inl, inr, refl, subst, sym, ℕ, ◌++◌, ◌∙◌, ◌∷◌, ◌≡◌, ◌≢◌, ◌⊎◌}, lemmas.Bool.both_ways}
+use Rattle.kc_language.specs.{Expansion.{Files, NextLine, NextStatement, sourced}, Lines.{UnreadLines, unread_lines}, Statements.{LineContext, Located, Named, ReadsLine, SourceLine}, Tokens.Lexeme}
+use Rattle.kc_entries.specs.PartsOfExpansion.{is_source}
+use Rattle.kc_read.specs.Replaced.{OneListOf, Owns, Replaces, kept, located, no_line, no_tokens, nothing, one_more, other_file, replaced, same_file}
+use Rattle.kc_read.proofs.{OneExpansion.{Ends, IsMark, IsTurn, Line, Long, Mark, NoMark, Number, Place, Turn, one_mark, one_some, one_turn, same_source}, OneLine.same_statement}
 
 -- ---- The statements of a file, by its next line
 

@@ -1,15 +1,10 @@
 -- What the shape of an expanded list gives a tree.
-use Rattle.std.proofs.Common.{◌≡◌, ℕ, ◌<◌, true, List, map, Some, None, Ok}
+use Rattle.std.proofs.Common.{List, None, Ok, Some, map, true, ℕ, ◌<◌, ◌≡◌}
 use Rattle.std.specs.List.{slice_get}
-use Rattle.kc_language.specs.Expressions.{number_of}
+use Rattle.kc_language.specs.{Expansion.{Expands, Files, ReadSoFar, mentioned_names, numbered_lines}, Expressions.number_of, Statements.{Numbered, statements}, Symbols.{Condition, EndShown, MenuShown, enclosing_choice, of_block}}
 use Rattle.kc_language.specs.declared.statements.Block.TheVariants as block
-use Rattle.kc_language.specs.Expansion.{Files, ReadSoFar, Expands, mentioned_names, numbered_lines}
-use Rattle.kc_language.specs.Statements.{Numbered, statements}
-use Rattle.kc_language.specs.Symbols.{Condition, MenuShown, EndShown, enclosing_choice, of_block}
-use Rattle.kc_read.specs.PartsOfSymbols.{entries}
-use Rattle.kc_read.proofs.ExpansionLemmas.{AreNested}
-use Rattle.kc_read.proofs.MenuEndLemmas.{end_names_menu}
-use Rattle.kc_read.proofs.NestLemmas.{expanded_nested, opener_alone}
+use Rattle.kc_entries.specs.PartsOfSymbols.{entries}
+use Rattle.kc_read.proofs.{ExpansionLemmas.AreNested, MenuEndLemmas.end_names_menu, NestLemmas.{expanded_nested, opener_alone}}
 
 module _ (files : Files) (root : List ℕ) (log : ReadSoFar) (expands : Expands files root (Ok log)) where
   abbrev numbered : List Numbered

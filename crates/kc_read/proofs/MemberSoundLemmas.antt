@@ -1,28 +1,12 @@
 -- The choices and their members, where no line is refused.
-use Rattle.std.proofs.Common.{◌≡◌, ℕ, zero, suc, ◌<◌, ◌≤◌, Bool, true, false, not, ◌&&◌, ◌||◌, ◌==◌, if◌then◌else◌, List, [], ◌∷◌, length, map, Option, Some, None, refl, ap, sym, ◌∙◌, subst, arith, inl, inr, get_or}
-use Rattle.std.specs.Prelude.{◌⊎◌, All, Contains, option_map}
-use Rattle.std.specs.List.{slice_get, list_any, filter_map}
-use Rattle.std.specs.Option.{option_and_then, is_some}
-use Rattle.std.proofs.lemmas.Bool.{eq-eqb, eqb-true}
-use Rattle.std.proofs.lemmas.List.Folds.{list_any-append}
-use Rattle.std.proofs.lemmas.Option.{slice_get_within, slice_get-map, slice_get-get_or}
-use Rattle.kc_language.specs.declared.expressions.SymId.{SymId}
-use Rattle.kc_language.specs.declared.expressions.SymbolType.{SymbolType}
+use Rattle.std.proofs.{Common.{Bool, List, None, Option, Some, [], ap, arith, false, get_or, if◌then◌else◌, inl, inr, length, map, not, refl, subst, suc, sym, true, zero, ℕ, ◌&&◌, ◌<◌, ◌==◌, ◌||◌, ◌∙◌, ◌∷◌, ◌≡◌, ◌≤◌}, lemmas.{Bool.{eq-eqb, eqb-true}, List.Folds.list_any-append, Option.{slice_get-get_or, slice_get-map, slice_get_within}}}
+use Rattle.std.specs.{List.{filter_map, list_any, slice_get}, Option.{is_some, option_and_then}, Prelude.{All, Contains, option_map, ◌⊎◌}}
+use Rattle.kc_language.specs.{Expansion.{attributes, numbers}, Expressions.{Form, same_symbol, symbol}, Statements.{Located, Numbered}, Symbols.{ChoiceFacts, Guarded, StatedDefault, SymbolFacts, TreeFacts, bad_members, choice_facts, choice_number, choice_of, definitions_of, enclosing_choice, indices, is_first_definition_at, listed, members_of, of_block, same_type, single_symbol, stated_default, symbol_at, symbol_facts, type_of}, declared.expressions.{SymId.SymId, SymbolType.SymbolType}}
 use Rattle.kc_language.specs.declared.expressions.SymbolType.TheVariants as symbol_type
-use Rattle.kc_language.specs.Expressions.{Form, symbol, same_symbol}
 use Rattle.kc_language.specs.declared.statements.Block.TheVariants as block
-use Rattle.kc_language.specs.Expansion.{numbers, attributes}
-use Rattle.kc_language.specs.Statements.{Numbered, Located}
-use Rattle.kc_language.specs.Symbols.{Guarded, SymbolFacts, ChoiceFacts, TreeFacts, listed, StatedDefault, choice_facts, choice_number, choice_of, enclosing_choice, definitions_of, stated_default, type_of, members_of, of_block, indices, same_type, single_symbol, symbol_at, symbol_facts, is_first_definition_at, bad_members}
-use Rattle.kc_read.specs.PartsOfSymbols.{choices, is_member}
-use Rattle.kc_read.specs.PartsOfSymbols.{choice_lines, first_of, is_member_index, member_default, guarded_symbol, symbol_of, is_bad_member}
-use Rattle.kc_tree.specs.TreeFacts.{IsMemberOf, IsChoiceSound, IsListed}
-use Rattle.kc_read.specs.ListFacts.{AreBelow}
-use Rattle.kc_read.proofs.ElementLemmas.{All-filter_map, All-kept, IsKept, kept_at, filter_map-from, found_is}
-use Rattle.kc_read.proofs.FormedLemmas.{facts_at, few_taken, prompt_mode, tree}
-use Rattle.kc_read.proofs.MemberLemmas.{any_kept, bad_at, below_or_past, member_is}
-use Rattle.kc_read.proofs.PlaceLemmas.{length-map_numbers}
-use Rattle.kc_read.proofs.SoundLemmas.{mode_below}
+use Rattle.kc_entries.specs.{ListFacts.AreBelow, PartsOfSymbols.{choice_lines, choices, first_of, guarded_symbol, is_bad_member, is_member, is_member_index, member_default, symbol_of}, WellFormed.{IsChoiceSound, IsListed, IsMemberOf}}
+use Rattle.kc_entries.proofs.{ElementLemmas.{All-filter_map, All-kept, IsKept, filter_map-from, found_is, kept_at}, MemberLemmas.{any_kept, bad_at, below_or_past, member_is}, PlaceLemmas.length-map_numbers}
+use Rattle.kc_read.proofs.{FormedLemmas.{facts_at, few_taken, prompt_mode, tree}, SoundLemmas.mode_below}
 
 -- a number below another one that passes a test is found
 or_true : (a : Bool) → (a || (true || false)) ≡ true

@@ -1,20 +1,10 @@
 -- The entries of a list whose blocks are well nested: the end of a menu names that menu.
-use Rattle.std.proofs.Common.{◌≡◌, ℕ, zero, suc, ◌+◌, ◌<◌, ◌≤◌, Bool, true, false, cond, if◌then◌else◌, List, [], ◌∷◌, ◌++◌, length, Option, Some, None, is_some, refl, ap, sym, ◌∙◌, subst, arith, length-append, inl, inr}
-use Rattle.std.specs.Prelude.{◌⊎◌}
-use Rattle.std.specs.List.{slice_get, filter_map, cons_option, count_by}
-use Rattle.std.proofs.lemmas.List.Elements.{filter_map-append}
-use Rattle.kc_language.specs.declared.expressions.SymId.{SymId}
-use Rattle.kc_language.specs.Statements.{Numbered, ConfigLine, MenuLine, EndMenuLine}
-use Rattle.kc_language.specs.Expansion.{numbers}
-use Rattle.kc_language.specs.Symbols.{Condition, Shown, SymbolShown, MenuShown, EndShown, is_first_definition, shows_entry, shown_at}
-use Rattle.kc_read.specs.PartsOfSymbols.{shown_number, entries}
-use Rattle.kc_read.specs.PartsOfSymbols.{enclosing_block, shown_when}
-use Rattle.kc_read.proofs.EnclosingLemmas.{there, last_is_nested}
-use Rattle.kc_read.proofs.ChoiceLemmas.{fewer_before}
-use Rattle.kc_read.proofs.ExpansionLemmas.{AreNested}
-use Rattle.kc_read.proofs.PlaceLemmas.{count_next, end_get, front_get}
-use Rattle.kc_read.proofs.MemberLemmas.{below_or_past}
-use Rattle.kc_read.proofs.NestLemmas.{menu_closed}
+use Rattle.std.proofs.{Common.{Bool, List, None, Option, Some, [], ap, arith, cond, false, if◌then◌else◌, inl, inr, is_some, length, length-append, refl, subst, suc, sym, true, zero, ℕ, ◌++◌, ◌+◌, ◌<◌, ◌∙◌, ◌∷◌, ◌≡◌, ◌≤◌}, lemmas.List.Elements.filter_map-append}
+use Rattle.std.specs.{List.{cons_option, count_by, filter_map, slice_get}, Prelude.◌⊎◌}
+use Rattle.kc_language.specs.{Expansion.numbers, Statements.{ConfigLine, EndMenuLine, MenuLine, Numbered}, Symbols.{Condition, EndShown, MenuShown, Shown, SymbolShown, is_first_definition, shown_at, shows_entry}, declared.expressions.SymId.SymId}
+use Rattle.kc_entries.specs.PartsOfSymbols.{enclosing_block, entries, shown_number, shown_when}
+use Rattle.kc_entries.proofs.{ChoiceLemmas.fewer_before, EnclosingLemmas.{last_is_nested, there}, MemberLemmas.below_or_past, PlaceLemmas.{count_next, end_get, front_get}}
+use Rattle.kc_read.proofs.{ExpansionLemmas.AreNested, NestLemmas.menu_closed}
 
 get_snoc : {X : Type 0} (xs : List X) (o : Option X) (i : ℕ) (x : X) → slice_get (xs ++ cons_option o []) i ≡ Some x → (slice_get xs i ≡ Some x) ⊎ ((i ≡ length xs) × (o ≡ Some x))
 get_snoc [] None i x e = absurd cc

@@ -1,17 +1,10 @@
 -- Whose entry each line belongs to, and what prompts stand before it in that entry.
-use Rattle.std.proofs.Common.{◌≡◌, ℕ, suc, ◌+◌, Bool, true, false, ◌||◌, if◌then◌else◌, List, [], ◌∷◌, ◌++◌, take, filter, reverse, Option, Some, refl, ap, sym, ◌∙◌, arith, add-one}
-use Rattle.std.specs.List.{slice_get, list_any, take_while, prefix_len}
-use Rattle.std.specs.Prelude.{option_map}
-use Rattle.std.specs.Option.{unwrap_or, is_some}
-use Rattle.std.proofs.lemmas.List.{append-nil, reverse-append}
-use Rattle.kc_language.specs.Statements.{Numbered}
-use Rattle.kc_language.specs.Expansion.{numbers, last_of, is_attribute}
+use Rattle.std.proofs.{Common.{Bool, List, Option, Some, [], add-one, ap, arith, false, filter, if◌then◌else◌, refl, reverse, suc, sym, take, true, ℕ, ◌++◌, ◌+◌, ◌||◌, ◌∙◌, ◌∷◌, ◌≡◌}, lemmas.List.{append-nil, reverse-append}}
+use Rattle.std.specs.{List.{list_any, prefix_len, slice_get, take_while}, Option.{is_some, unwrap_or}, Prelude.option_map}
+use Rattle.kc_language.specs.{Expansion.{is_attribute, last_of, numbers}, Statements.Numbered, Symbols.{begun, choice_number, menu_entry_at, prompt_of}}
 use Rattle.kc_language.specs.declared.symbols.MenuEntry.TheVariants as menu_entry
-use Rattle.kc_language.specs.Symbols.{choice_number, prompt_of, begun, menu_entry_at}
-use Rattle.kc_read.specs.PartsOfSymbols.{begun_at}
-use Rattle.kc_read.specs.PartsOfSymbols.{is_some_other, entry_before, menu_entry_before, prompt_before}
-use Rattle.kc_read.proofs.EnclosingLemmas.{take-next, last-snoc}
-use Rattle.kc_read.proofs.PlaceLemmas.{filter-next}
+use Rattle.kc_entries.specs.PartsOfSymbols.{begun_at, entry_before, is_some_other, menu_entry_before, prompt_before}
+use Rattle.kc_entries.proofs.{EnclosingLemmas.{last-snoc, take-next}, PlaceLemmas.filter-next}
 
 module _ (ss : List Numbered) where
   abbrev is_head : ℕ → Bool

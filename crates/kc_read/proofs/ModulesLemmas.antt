@@ -1,12 +1,7 @@
 -- The modules symbol, one statement after another.
-use Rattle.std.proofs.Common.{◌≡◌, ℕ, Bool, true, false, cond, not, ◌||◌, List, [], ◌∷◌, ◌++◌, Option, Some, None, refl, sym, ap, ◌∙◌}
-use Rattle.std.specs.Prelude.{is_some}
-use Rattle.std.specs.List.{before_first, list_any, take_while}
-use Rattle.std.specs.Option.{option_or}
-use Rattle.std.proofs.lemmas.List.Folds.{list_any-append}
-use Rattle.std.proofs.lemmas.List.Sums.{take_while-cons}
-use Rattle.kc_language.specs.Statements.{Named}
-use Rattle.kc_language.specs.Expansion.{definitions, is_modules, last_of, modules_of}
+use Rattle.std.proofs.{Common.{Bool, List, None, Option, Some, [], ap, cond, false, not, refl, sym, true, ℕ, ◌++◌, ◌||◌, ◌∙◌, ◌∷◌, ◌≡◌}, lemmas.List.{Folds.list_any-append, Sums.take_while-cons}}
+use Rattle.std.specs.{List.{before_first, list_any, take_while}, Option.option_or, Prelude.is_some}
+use Rattle.kc_language.specs.{Expansion.{definitions, is_modules, last_of, modules_of}, Statements.Named}
 
 -- ---- What stands before the first that passes
 

@@ -1,19 +1,12 @@
 -- Names and their numbers, as more names are mentioned.
-use Rattle.std.proofs.Common.{◌≡◌, ◌≢◌, ℕ, suc, ◌+◌, nat_lt, Bool, true, false, not, cond, ◌||◌, ◌==◌, List, [], ◌∷◌, ◌++◌, length, map, Option, Some, None, option_map, slice_get, refl, sym, ap, ◌∙◌, append-nil, length-append, inl, inr, arith}
-use Rattle.std.specs.List.{list_any}
-use Rattle.std.specs.Option.{option_or}
-use Rattle.std.proofs.lemmas.Bool.{cases_eq, eq-eqb, ne_eqb}
-use Rattle.std.proofs.lemmas.List.Folds.{list_any-append}
-use Rattle.std.proofs.lemmas.List.{length-map, map-append}
-use Rattle.kc_language.specs.declared.expressions.SymId.{SymId}
-use Rattle.kc_expr.specs.Names.{IsNumber, Extends}
-use Rattle.kc_language.specs.Expressions.{same_name, number_of, symbol, mention}
+use Rattle.std.proofs.{Common.{Bool, List, None, Option, Some, [], ap, append-nil, arith, cond, false, inl, inr, length, length-append, map, nat_lt, not, option_map, refl, slice_get, suc, sym, true, ℕ, ◌++◌, ◌+◌, ◌==◌, ◌||◌, ◌∙◌, ◌∷◌, ◌≡◌, ◌≢◌}, lemmas.{Bool.{cases_eq, eq-eqb, ne_eqb}, List.{Folds.list_any-append, length-map, map-append}}}
+use Rattle.std.specs.{List.list_any, Option.option_or}
+use Rattle.kc_language.specs.{Expressions.{mention, number_of, same_name, symbol}, declared.expressions.SymId.SymId}
+use Rattle.kc_expr.specs.{Names.{Extends, IsNumber}, PartsOfSymbols.{added, stands_in}}
 use Rattle.kc_language.specs.declared.diagnostics.Cause.TheVariants as cause
-use Rattle.kc_expr.specs.PartsOfSymbols.{added, stands_in}
 use Rattle.kc_expr.proofs.NamesLemmas.{extends_on, same_name-refl}
-use Rattle.kc_read.specs.PartsOfExpansion.{names_match}
-use Rattle.kc_read.specs.Progress.{defined_after, defining_cause, ids_match, naming_cause, order_after}
-use Rattle.kc_read.specs.Expanded.{AreNumbers, IsNamed}
+use Rattle.kc_entries.specs.PartsOfExpansion.{names_match}
+use Rattle.kc_read.specs.{Expanded.{AreNumbers, IsNamed}, Progress.{defined_after, defining_cause, ids_match, naming_cause, order_after}}
 use Rattle.kc_read.proofs.FileLemmas.{same_name_eq}
 
 pub extends_none : (names : List (List ℕ)) → Extends names names

@@ -1,19 +1,10 @@
 -- What the nesting of blocks says of places: what encloses a choice, and what a closer closes.
-use Rattle.std.proofs.Common.{◌≡◌, ℕ, zero, suc, Bool, true, false, ◌&&◌, ◌||◌, List, [], ◌∷◌, map, filter, length, take, drop, Option, Some, None, Ok, is_some, refl, ap, sym, ◌∙◌, subst}
-use Rattle.std.specs.List.{slice_get, list_any, filter_map}
-use Rattle.std.specs.Prelude.{option_map}
-use Rattle.std.proofs.lemmas.List.{length-map}
-use Rattle.std.proofs.lemmas.Option.{slice_get-map}
-use Rattle.kc_language.specs.declared.statements.Block.{Block}
+use Rattle.std.proofs.{Common.{Bool, List, None, Ok, Option, Some, [], ap, drop, false, filter, is_some, length, map, refl, subst, suc, sym, take, true, zero, ℕ, ◌&&◌, ◌||◌, ◌∙◌, ◌∷◌, ◌≡◌}, lemmas.{List.length-map, Option.slice_get-map}}
+use Rattle.std.specs.{List.{filter_map, list_any, slice_get}, Prelude.option_map}
+use Rattle.kc_language.specs.{Expansion.{Bracket, Closes, Expands, Files, NoBracket, Opens, ReadSoFar, bracket, bracket_at, enclosing, is_choice_block, last_of, numbers, open_block_indices, open_blocks, opened, stays_open}, Statements.{ChoiceLine, ConfigLine, EndMenuLine, IfLine, Located, MenuLine, Named, Numbered, numbered, statements}, Symbols.{choice_number, enclosing_choice, is_block, of_block}, declared.statements.Block.Block}
 use Rattle.kc_language.specs.declared.statements.Block.TheVariants as block
-use Rattle.kc_language.specs.Statements.{Named, Numbered, Located, numbered, ConfigLine, IfLine, MenuLine, EndMenuLine, ChoiceLine, statements}
-use Rattle.kc_language.specs.Expansion.{Bracket, Closes, NoBracket, Opens, bracket, bracket_at, opened, stays_open, open_block_indices, open_blocks, enclosing, numbers, last_of, ReadSoFar, Expands, is_choice_block, Files}
-use Rattle.kc_read.specs.PartsOfExpansion.{is_open}
-use Rattle.kc_read.specs.PartsOfExpansion.{bracket_of, located_numbered, stays_after}
-use Rattle.kc_language.specs.Symbols.{is_block, of_block, enclosing_choice, choice_number}
-use Rattle.kc_read.specs.PartsOfSymbols.{block_at, enclosing_block}
-use Rattle.kc_read.proofs.TurnLemmas.{Leaves, turn}
-use Rattle.kc_read.proofs.ExpansionLemmas.{Suits, AreNested, expansion_is_nested}
+use Rattle.kc_entries.specs.{PartsOfExpansion.{bracket_of, is_open, located_numbered, stays_after}, PartsOfSymbols.{block_at, enclosing_block}}
+use Rattle.kc_read.proofs.{ExpansionLemmas.{AreNested, Suits, expansion_is_nested}, TurnLemmas.{Leaves, turn}}
 
 -- Statements that are brackets alike have the same blocks.
 module _ {A B : Type 0} (f : A → B) where

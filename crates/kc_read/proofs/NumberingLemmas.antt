@@ -1,27 +1,13 @@
 -- The names and numbers of an expanded list.
-use Rattle.std.proofs.Common.{◌≡◌, ℕ, zero, suc, ◌+◌, ◌<◌, Bool, true, false, cond, ◌||◌, List, [], ◌∷◌, ◌++◌, length, map, take, Option, Some, None, not, refl, ap, sym, ◌∙◌, arith}
-use Rattle.std.specs.List.{before_first, cons_option, flat_map, list_any, position_or_len, slice_get, IsDistinct}
-use Rattle.std.specs.Prelude.{option_map}
-use Rattle.std.proofs.lemmas.Cmp.{nat_list_eq_equiv}
-use Rattle.std.proofs.lemmas.List.{length-map}
-use Rattle.std.proofs.lemmas.List.Folds.{list_any-append}
-use Rattle.std.proofs.lemmas.Map.Keys.{IsDistinct-push}
-use Rattle.std.proofs.lemmas.Option.{slice_get_within}
-use Rattle.kc_language.specs.declared.expressions.SymId.{SymId}
-use Rattle.kc_expr.specs.Names.{AreDistinct, IsNumber, Extends}
-use Rattle.kc_language.specs.Expressions.{same_name, number_of, symbol, mention, all_mentioned}
-use Rattle.kc_expr.specs.PartsOfSymbols.{added}
-use Rattle.kc_language.specs.Symbols.{all_added, defined_symbols}
-use Rattle.kc_read.specs.PartsOfSymbols.{symbol_of}
+use Rattle.std.proofs.{Common.{Bool, List, None, Option, Some, [], ap, arith, cond, false, length, map, not, refl, suc, sym, take, true, zero, ℕ, ◌++◌, ◌+◌, ◌<◌, ◌||◌, ◌∙◌, ◌∷◌, ◌≡◌}, lemmas.{Cmp.nat_list_eq_equiv, List.{Folds.list_any-append, length-map}, Map.Keys.IsDistinct-push, Option.slice_get_within}}
+use Rattle.std.specs.{List.{IsDistinct, before_first, cons_option, flat_map, list_any, position_or_len, slice_get}, Prelude.option_map}
+use Rattle.kc_language.specs.{Expansion.{defined_name, definitions, is_modules, last_of, mentioned_names, modules_of, numbered_lines}, Expressions.{all_mentioned, mention, number_of, same_name, symbol}, Statements.{ConfigLine, Located, ModulesLine, Named, names_in_statement, numbered, statements}, Symbols.{all_added, defined_symbols}, declared.expressions.SymId.SymId}
+use Rattle.kc_expr.specs.{Names.{AreDistinct, Extends, IsNumber}, PartsOfSymbols.added}
+use Rattle.kc_entries.specs.{ListFacts.AreBelow, PartsOfExpansion.{defined, located_numbered}, PartsOfSymbols.symbol_of}
 use Rattle.kc_expr.proofs.NamesLemmas.{all_mentioned_extends, number_later, same_name-refl}
-use Rattle.kc_language.specs.Expansion.{definitions, defined_name, is_modules, last_of, modules_of, mentioned_names, numbered_lines}
-use Rattle.kc_read.specs.PartsOfExpansion.{defined, located_numbered}
 use Rattle.kc_read.specs.Expanded.{AreNumbers, IsNamed}
-use Rattle.kc_language.specs.Statements.{Named, Located, ConfigLine, ModulesLine, numbered, names_in_statement, statements}
-use Rattle.kc_read.proofs.FileLemmas.{same_name_eq}
-use Rattle.kc_read.proofs.ListLemmas.{last_of-map}
-use Rattle.kc_read.proofs.NameLemmas.{extends_none, known_at, numbers_placed}
-use Rattle.kc_read.specs.ListFacts.{AreBelow}
+use Rattle.kc_read.proofs.{FileLemmas.same_name_eq, NameLemmas.{extends_none, known_at, numbers_placed}}
+use Rattle.kc_entries.proofs.ListLemmas.{last_of-map}
 
 -- Names that are mentioned are known.
 known_in : (names others : List (List ℕ)) (w : List ℕ) → list_any (same_name w) names ≡ true → list_any (same_name w) (names ++ others) ≡ true

@@ -1,24 +1,12 @@
 -- A root file has one expansion.
-use Rattle.std.proofs.Common.{◌≡◌, ◌≢◌, ◌⊎◌, inl, inr, ℕ, Bool, true, false, cond, List, [], ◌∷◌, length, map, slice_get, Option, Some, None, MatchOption, Result, Ok, Err, refl, sym, ap, ◌∙◌, subst, arith}
-use Rattle.kc_language.specs.declared.tokens.TextFault.{TextFault}
-use Rattle.kc_language.specs.Lines.{UnreadLines, IsTooLong, unread_lines}
-use Rattle.kc_language.specs.Tokens.{Lexeme, IsCutIn}
-use Rattle.kc_text.proofs.Joins.{takes_one, takes_less, taken_is_short, too_long_some}
-use Rattle.kc_text.proofs.Once.{same_cutting_in}
-use Rattle.kc_text.proofs.MarkerLemmas.{marked_or_not, one_marker}
-use Rattle.kc_language.specs.Expressions.{mention, same_name}
-use Rattle.kc_read.proofs.FileLemmas.{same_name_eq}
+use Rattle.std.proofs.{Common.{Bool, Err, List, MatchOption, None, Ok, Option, Result, Some, [], ap, arith, cond, false, inl, inr, length, map, refl, slice_get, subst, sym, true, ℕ, ◌∙◌, ◌∷◌, ◌≡◌, ◌≢◌, ◌⊎◌}, lemmas.Bool.{both_ways, cases_Bool, false≢true}}
+use Rattle.kc_language.specs.{Expansion.{FileContext, Files, IsBlankNext, IsMarker, IsUnclosed, MarksNext, NextLine, NextStatement, ReadSoFar, Reading, Refused, Rest, after_file, at_end, at_root, bad_line, bad_source, blank, bytes_cause, context_of, goes_on, inside, last_of, limit_cause, moved, no_tokens, open_blocks, over_limit, refusal_at, refused, refused_inside, renumbered, source, sourced, statement, text_cause, too_long, unclosed, with_file, with_line, without_help}, Expressions.{mention, same_name}, Lines.{IsTooLong, UnreadLines, unread_lines}, Statements.{Cause, Located, Named, ReadsLine, SourceLine, statements}, Tokens.{IsCutIn, Lexeme}, declared.tokens.TextFault.TextFault}
+use Rattle.kc_text.proofs.{Joins.{taken_is_short, takes_less, takes_one, too_long_some}, MarkerLemmas.{marked_or_not, one_marker}, Once.same_cutting_in}
+use Rattle.kc_read.proofs.{BlockLemmas.{blocks_of_located, located_blocks-opens, no_places, opens}, FileLemmas.same_name_eq, OneLine.one_line}
 use Rattle.kc_expr.proofs.NamesLemmas.{same_name-refl}
-use Rattle.std.proofs.lemmas.Bool.{both_ways, cases_Bool, false≢true}
 use Rattle.kc_language.specs.declared.diagnostics.Cause.TheVariants as cause
-use Rattle.kc_language.specs.Expansion.{last_of, open_blocks, FileContext, ReadSoFar, Refused, Rest, IsBlankNext, IsMarker, IsUnclosed, MarksNext, NextLine, NextStatement, first_log, sourced, refusal_at, bytes_cause, context_of, limit_cause, inside, with_file, text_cause, with_line, without_help, at_end, unclosed, too_long, no_tokens, blank, renumbered, moved, bad_line, over_limit, statement, bad_source, refused_inside, source, Files}
-use Rattle.kc_read.specs.PartsOfExpansion.{is_help, is_source, logged, root_context}
-use Rattle.kc_read.specs.PartsOfExpansion.{innermost, source_cause}
-use Rattle.kc_read.specs.Expansion.{OneExpansion}
-use Rattle.kc_language.specs.Statements.{Cause, ReadsLine, Located, Named, SourceLine, statements}
-use Rattle.kc_read.proofs.BlockLemmas.{blocks_of_located, located_blocks-opens, no_places, opens}
-use Rattle.kc_read.specs.Progress.{located_blocks}
-use Rattle.kc_read.proofs.OneLine.{one_line}
+use Rattle.kc_entries.specs.PartsOfExpansion.{innermost, is_help, is_source, logged, reading, source_cause}
+use Rattle.kc_read.specs.{Expansion.OneExpansion, Progress.located_blocks}
 
 -- ---- The next line
 
@@ -133,13 +121,13 @@ module _ (files : Files) (a : FileContext) (l : UnreadLines) (own : List (Locate
   -- after a statement
   data Said (m : UnreadLines) (s : Named) (r : Result ReadSoFar Refused) : Type 0 where
     said_effect : (c : Cause) → limit_cause a own log s ≡ Some c → r ≡ Err (refusal_at c a.file l.number) → Said m s r
-    said_plain : is_source s ≡ false → limit_cause a own log s ≡ None → Rest files a m (with_line own a l.number s) (logged log a l.number s) r → Said m s r
+    said_plain : is_source s ≡ false → limit_cause a own log s ≡ None → Rest files (reading a m (with_line own a l.number s) (logged log a l.number s)) r → Said m s r
     said_bad_source : (name : List ℕ) (c : Cause) → s ≡ SourceLine name → source_cause files a log.total_lines name ≡ Some c → r ≡ Err (refusal_at c a.file l.number) → Said m s r
     said_inside : (name bytes : List ℕ) (e : Refused) → s ≡ SourceLine name → source_cause files a log.total_lines name ≡ None → sourced files name ≡ Some bytes →
-        Rest files (inside a own name) (unread_lines bytes 1) [] (with_file log name bytes) (Err e) → r ≡ Err e → Said m s r
+        Rest files (reading (inside a own name) (unread_lines bytes 1) [] (with_file log name bytes)) (Err e) → r ≡ Err e → Said m s r
     said_source : (name bytes : List ℕ) (more : ReadSoFar) → s ≡ SourceLine name → source_cause files a log.total_lines name ≡ None → sourced files name ≡ Some bytes →
-        Rest files (inside a own name) (unread_lines bytes 1) [] (with_file log name bytes) (Ok more) →
-        Rest files a m (with_line own a l.number (SourceLine name)) more r → Said m s r
+        Rest files (reading (inside a own name) (unread_lines bytes 1) [] (with_file log name bytes)) (Ok more) →
+        Rest files (reading a m (with_line own a l.number (SourceLine name)) more) r → Said m s r
 
   abbrev Says : UnreadLines → Result Named Cause → Result ReadSoFar Refused → Type 0
   Says m (Ok s) r = Said m s r
@@ -147,10 +135,10 @@ module _ (files : Files) (a : FileContext) (l : UnreadLines) (own : List (Locate
 
   -- behind a line without tokens
   abbrev Behind : UnreadLines → Mark → Result ReadSoFar Refused → Type 0
-  Behind m NoMark r = Rest files a m own log r
-  Behind m (Number n) r = Rest files a (record m { number = n }) own log r
+  Behind m NoMark r = Rest files (reading a m own log) r
+  Behind m (Number n) r = Rest files (reading a (record m { number = n }) own log) r
   Behind m (Place n name) r =
-      Rest files (record a { file = name }) (record m { number = n }) (with_line own a l.number (SourceLine name)) (record log { opened = mention log.opened name }) r
+      Rest files (reading (record a { file = name }) (record m { number = n }) (with_line own a l.number (SourceLine name)) (record log { opened = mention log.opened name })) r
 
   abbrev Gives : Turn → Result ReadSoFar Refused → Type 0
   Gives Ends r = ((open_blocks (statements own) ≡ []) × (r ≡ Ok log)) ⊎ ((line : Located Named) × IsUnclosed own line × (r ≡ Err (refusal_at cause.Block line.file line.line)))
@@ -165,31 +153,34 @@ module _ (files : Files) (a : FileContext) (l : UnreadLines) (own : List (Locate
   goes_statement : (m : UnreadLines) (s : Result Named Cause) (r : Result ReadSoFar Refused) → NextStatement files.flat l m (context_of a own log) s → Says m s r → Goes r
   goes_statement m s r n h = (Line m n.tokens None, n.next, inr (n.some, (s, n.reads, h)))
 
-goes : {files : Files} {a : FileContext} {l : UnreadLines} {own : List (Located Named)} {log : ReadSoFar} {r : Result ReadSoFar Refused} → Rest files a l own log r → Goes files a l own log r
-goes (at_end a l own log none closed) = (Ends, none, inl (closed, refl))
-goes (unclosed a l own log line none unmatched) = (Ends, none, inr (line, unmatched, refl))
-goes (too_long a l own log long) = (Long, long, refl)
-goes (no_tokens a l m own log ts why next) = (Line m ts (Some why), next, refl)
-goes (blank a l m own log r next d) = (Line m [] None, next.0, inl (refl, (NoMark, next, d)))
-goes (renumbered a l m own log n r marks d) = (Line m [] None, marks.0, inl (refl, (Number n, marks, d)))
-goes (moved a l m own log n name r marks differs d) = (Line m [] None, marks.0, inl (refl, (Place n name, (marks, differs), d)))
-goes {files} (bad_line a l m own log c n) = goes_statement files a l own log m (Err c) _ n refl
-goes {files} (over_limit a l m own log s c n e) = goes_statement files a l own log m (Ok s) _ n (said_effect c e refl)
-goes {files} (statement a l m own log s r n plain e d) = goes_statement files a l own log m (Ok s) r n (said_plain plain e d)
-goes {files} (bad_source a l m own log name c n e) = goes_statement files a l own log m (Ok (SourceLine name)) _ n (said_bad_source name c refl e refl)
-goes {files} (refused_inside a l m own log name bytes e n free there d) = goes_statement files a l own log m (Ok (SourceLine name)) _ n (said_inside name bytes e refl free there d refl)
-goes {files} (source a l m own log more name bytes r n free there d f) = goes_statement files a l own log m (Ok (SourceLine name)) r n (said_source name bytes more refl free there d f)
+goes : {files : Files} {at : Reading} {r : Result ReadSoFar Refused} → Rest files at r → Goes files at.context at.unread at.own at.log r
+goes (at_end at none closed) = (Ends, none, inl (closed, refl))
+goes (unclosed at line none unmatched) = (Ends, none, inr (line, unmatched, refl))
+goes (refused at c (too_long long)) = (Long, long, refl)
+goes (refused at c (no_tokens m ts why next)) = (Line m ts (Some why), next, refl)
+goes {files} (refused at c (bad_line m why n)) = goes_statement files at.context at.unread at.own at.log m (Err c) _ n refl
+goes {files} (refused at c (over_limit m s why n e)) = goes_statement files at.context at.unread at.own at.log m (Ok s) _ n (said_effect c e refl)
+goes {files} (refused at c (bad_source m name why n e)) =
+    goes_statement files at.context at.unread at.own at.log m (Ok (SourceLine name)) _ n (said_bad_source name c refl e refl)
+goes (goes_on at next r (blank m n) d) = (Line m [] None, n.0, inl (refl, (NoMark, n, d)))
+goes (goes_on at next r (renumbered m n marks) d) = (Line m [] None, marks.0, inl (refl, (Number n, marks, d)))
+goes (goes_on at next r (moved m n name marks differs) d) = (Line m [] None, marks.0, inl (refl, (Place n name, (marks, differs), d)))
+goes {files} (goes_on at next r (statement m s n plain e) d) = goes_statement files at.context at.unread at.own at.log m (Ok s) r n (said_plain plain e d)
+goes {files} (refused_inside at f e d) =
+    goes_statement files at.context at.unread at.own at.log f.after (Ok (SourceLine f.name)) _ f.next (said_inside f.name f.bytes e refl f.allowed f.found d refl)
+goes {files} (source at f more r d after) =
+    goes_statement files at.context at.unread at.own at.log f.after (Ok (SourceLine f.name)) r f.next (said_source f.name f.bytes more refl f.allowed f.found d after)
 
 -- what the next line gives
 gives : (files : Files) (a : FileContext) (l : UnreadLines) (own : List (Located Named)) (log : ReadSoFar) (r : Result ReadSoFar Refused) (t : Turn) → IsTurn files.flat l t →
-    Rest files a l own log r → Gives files a l own log t r
+    Rest files (reading a l own log) r → Gives files a l own log t r
 gives files a l own log r t is d =
     let (u, is', h) = goes d in
     subst (λ v. Gives files a l own log v r) (one_turn files.flat l u t is' is) h
 
 -- what a line without tokens gives
 behind : (files : Files) (a : FileContext) (l m : UnreadLines) (own : List (Located Named)) (log : ReadSoFar) (x : Mark) (r : Result ReadSoFar Refused) →
-    NextLine files.flat l m [] None → IsMark files.flat a.file l m x → Rest files a l own log r → Behind files a l own log m x r
+    NextLine files.flat l m [] None → IsMark files.flat a.file l m x → Rest files (reading a l own log) r → Behind files a l own log m x r
 behind files a l m own log x r n is d = by (gives files a l own log r (Line m [] None) n d)
   where
     by : Gives files a l own log (Line m [] None) r → Behind files a l own log m x r
@@ -198,7 +189,7 @@ behind files a l m own log x r n is d = by (gives files a l own log r (Line m []
 
 -- what the next statement gives
 says : (files : Files) (a : FileContext) (l m : UnreadLines) (own : List (Located Named)) (log : ReadSoFar) (s : Result Named Cause) (r : Result ReadSoFar Refused) →
-    NextStatement files.flat l m (context_of a own log) s → Rest files a l own log r → Says files a l own log m s r
+    NextStatement files.flat l m (context_of a own log) s → Rest files (reading a l own log) r → Says files a l own log m s r
 says files a l m own log s r n d = by (gives files a l own log r (Line m n.tokens None) n.next d)
   where
     by : ((n.tokens ≡ []) × ((x : Mark) × IsMark files.flat a.file l m x × Behind files a l own log m x r)) ⊎ ((n.tokens ≢ [])
@@ -241,7 +232,7 @@ module _ (files : Files) (a : FileContext) (l m : UnreadLines) (own : List (Loca
   same_effect s c f (said_inside name bytes d e g h i j) = none_or_some (limit_cause a own log s) c (source_effect a own log s name e) f
   same_effect s c f (said_source name bytes more e g h i j) = none_or_some (limit_cause a own log s) c (source_effect a own log s name e) f
 
-  same_plain : (s : Named) → is_source s ≡ false → limit_cause a own log s ≡ None → Said files a l own log m s other → Rest files a m (with_line own a l.number s) (logged log a l.number s) other
+  same_plain : (s : Named) → is_source s ≡ false → limit_cause a own log s ≡ None → Said files a l own log m s other → Rest files (reading a m (with_line own a l.number s) (logged log a l.number s)) other
   same_plain s p f (said_effect d g e) = none_or_some (limit_cause a own log s) d f g
   same_plain s p f (said_plain q g e) = e
   same_plain s p f (said_bad_source name d e g h) = plain_or_source s name p e
@@ -262,17 +253,17 @@ module _ (files : Files) (a : FileContext) (l m : UnreadLines) (own : List (Loca
     module _ (bytes : List ℕ) (free : source_cause files a log.total_lines name ≡ None) (there : sourced files name ≡ Some bytes) where
       -- the same file is opened
       abbrev Inner : Result ReadSoFar Refused → Type 0
-      Inner r = Rest files (inside a own name) (unread_lines bytes 1) [] (with_file log name bytes) r
+      Inner r = Rest files (reading (inside a own name) (unread_lines bytes 1) [] (with_file log name bytes)) r
 
-      inner : (n b : List ℕ) (r : Result ReadSoFar Refused) → source_line name ≡ source_line n → sourced files n ≡ Some b → Rest files (inside a own n) (unread_lines b 1) [] (with_file log n b) r → Inner r
+      inner : (n b : List ℕ) (r : Result ReadSoFar Refused) → source_line name ≡ source_line n → sourced files n ≡ Some b → Rest files (reading (inside a own n) (unread_lines b 1) [] (with_file log n b)) r → Inner r
       inner n b r e f d =
           let g : n ≡ name = sym (one_name name n e) in
           let h : b ≡ bytes = one_some (sourced files name) b bytes (subst (λ k. sourced files k ≡ Some b) g f) there in
-          subst (λ x. Rest files (inside a own name) (unread_lines x 1) [] (with_file log name x) r) h (subst (λ k. Rest files (inside a own k) (unread_lines b 1) [] (with_file log k b) r) g d)
+          subst (λ x. Rest files (reading (inside a own name) (unread_lines x 1) [] (with_file log name x)) r) h (subst (λ k. Rest files (reading (inside a own k) (unread_lines b 1) [] (with_file log k b)) r) g d)
 
       -- what the file gives, and what follows it
       abbrev Entered : Type 0
-      Entered = ((e : Refused) × Inner (Err e) × (other ≡ Err e)) ⊎ ((more : ReadSoFar) × Inner (Ok more) × Rest files a m (with_line own a l.number (SourceLine name)) more other)
+      Entered = ((e : Refused) × Inner (Err e) × (other ≡ Err e)) ⊎ ((more : ReadSoFar) × Inner (Ok more) × Rest files (reading a m (with_line own a l.number (SourceLine name)) more) other)
 
       entered : Said files a l own log m (SourceLine name) other → Entered
       entered (said_effect d g e) = none_or_some (limit_cause a own log (SourceLine name)) d refl g
@@ -280,7 +271,7 @@ module _ (files : Files) (a : FileContext) (l m : UnreadLines) (own : List (Loca
       entered (said_bad_source n d e g h) = none_or_some (source_cause files a log.total_lines name) d free (subst (λ k. source_cause files a log.total_lines k ≡ Some d) (sym (one_name name n e)) g)
       entered (said_inside n b d e g h i j) = inl (d, inner n b (Err d) e h i, j)
       entered (said_source n b more e g h i j) =
-          inr (more, inner n b (Ok more) e h i, subst (λ k. Rest files a m (with_line own a l.number (SourceLine k)) more other) (sym (one_name name n e)) j)
+          inr (more, inner n b (Ok more) e h i, subst (λ k. Rest files (reading a m (with_line own a l.number (SourceLine k)) more) other) (sym (one_name name n e)) j)
 
 abbrev refusal : Refused → Result ReadSoFar Refused
 refusal e = Err e
@@ -291,44 +282,51 @@ err_or_ok e log h = absurd cc
 abbrev outcome : ReadSoFar → Result ReadSoFar Refused
 outcome g = Ok g
 
-pub one_rest : {files : Files} {a : FileContext} {l : UnreadLines} {own : List (Located Named)} {log : ReadSoFar} {r : Result ReadSoFar Refused} →
-    Rest files a l own log r → (other : Result ReadSoFar Refused) → Rest files a l own log other → r ≡ other
-one_rest {files} (at_end a l own log none closed) other e = by (gives files a l own log other Ends none e)
+pub one_rest : {files : Files} {at : Reading} {r : Result ReadSoFar Refused} → Rest files at r → (other : Result ReadSoFar Refused) → Rest files at other → r ≡ other
+one_rest {files} (at_end at none closed) other e = by (gives files at.context at.unread at.own at.log other Ends none e)
   where
-    by : ((open_blocks (statements own) ≡ []) × (other ≡ Ok log)) ⊎ ((line : Located Named) × IsUnclosed own line × (other ≡ Err (refusal_at cause.Block line.file line.line))) → Ok log ≡ other
+    by : ((open_blocks (statements at.own) ≡ []) × (other ≡ Ok at.log)) ⊎ ((line : Located Named) × IsUnclosed at.own line
+        × (other ≡ Err (refusal_at cause.Block line.file line.line))) → Ok at.log ≡ other
     by (inl x) = sym x.1
-    by (inr x) = absurd (closed_or_not own x.0 closed x.1)
-one_rest {files} (unclosed a l own log line none unmatched) other e = by (gives files a l own log other Ends none e)
+    by (inr x) = absurd (closed_or_not at.own x.0 closed x.1)
+one_rest {files} (unclosed at line none unmatched) other e = by (gives files at.context at.unread at.own at.log other Ends none e)
   where
-    by : ((open_blocks (statements own) ≡ []) × (other ≡ Ok log)) ⊎ ((n : Located Named) × IsUnclosed own n × (other ≡ Err (refusal_at cause.Block n.file n.line))) →
+    by : ((open_blocks (statements at.own) ≡ []) × (other ≡ Ok at.log)) ⊎ ((n : Located Named) × IsUnclosed at.own n × (other ≡ Err (refusal_at cause.Block n.file n.line))) →
         Err (refusal_at cause.Block line.file line.line) ≡ other
-    by (inl x) = absurd (closed_or_not own line x.0 unmatched)
-    by (inr x) = ap (λ n. Err (refusal_at cause.Block n.file n.line)) (one_unclosed own line x.0 unmatched x.1) ∙ sym x.2
-one_rest {files} (too_long a l own log long) other e = sym (gives files a l own log other Long long e)
-one_rest {files} (no_tokens a l m own log ts why next) other e = sym (gives files a l own log other (Line m ts (Some why)) next e)
-one_rest {files} (blank a l m own log r next d) other e = one_rest d other (behind files a l m own log NoMark other next.0 next e)
-one_rest {files} (renumbered a l m own log n r marks d) other e = one_rest d other (behind files a l m own log (Number n) other marks.0 marks e)
-one_rest {files} (moved a l m own log n name r marks differs d) other e = one_rest d other (behind files a l m own log (Place n name) other marks.0 (marks, differs) e)
-one_rest {files} (bad_line a l m own log c n) other e = sym (says files a l m own log (Err c) other n e)
-one_rest {files} (over_limit a l m own log s c n f) other e = same_effect files a l m own log other s c f (says files a l m own log (Ok s) other n e)
-one_rest {files} (statement a l m own log s r n plain f d) other e = one_rest d other (same_plain files a l m own log other s plain f (says files a l m own log (Ok s) other n e))
-one_rest {files} (bad_source a l m own log name c n f) other e = same_bad_source files a l m own log other name c f (says files a l m own log (Ok (SourceLine name)) other n e)
-one_rest {files} (refused_inside a l m own log name bytes c n free there d) other e =
-    elim (entered files a l m own log other name bytes free there (says files a l m own log (Ok (SourceLine name)) other n e)) [
+    by (inl x) = absurd (closed_or_not at.own line x.0 unmatched)
+    by (inr x) = ap (λ n. Err (refusal_at cause.Block n.file n.line)) (one_unclosed at.own line x.0 unmatched x.1) ∙ sym x.2
+one_rest {files} (refused at c (too_long long)) other e = sym (gives files at.context at.unread at.own at.log other Long long e)
+one_rest {files} (refused at c (no_tokens m ts why next)) other e = sym (gives files at.context at.unread at.own at.log other (Line m ts (Some why)) next e)
+one_rest {files} (refused at c (bad_line m why n)) other e = sym (says files at.context at.unread m at.own at.log (Err c) other n e)
+one_rest {files} (refused at c (over_limit m s why n f)) other e =
+    same_effect files at.context at.unread m at.own at.log other s c f (says files at.context at.unread m at.own at.log (Ok s) other n e)
+one_rest {files} (refused at c (bad_source m name why n f)) other e =
+    same_bad_source files at.context at.unread m at.own at.log other name c f (says files at.context at.unread m at.own at.log (Ok (SourceLine name)) other n e)
+one_rest {files} (goes_on at next r (blank m n) d) other e = one_rest d other (behind files at.context at.unread m at.own at.log NoMark other n.0 n e)
+one_rest {files} (goes_on at next r (renumbered m n marks) d) other e =
+    one_rest d other (behind files at.context at.unread m at.own at.log (Number n) other marks.0 marks e)
+one_rest {files} (goes_on at next r (moved m n name marks differs) d) other e =
+    one_rest d other (behind files at.context at.unread m at.own at.log (Place n name) other marks.0 (marks, differs) e)
+one_rest {files} (goes_on at next r (statement m s n plain f) d) other e =
+    one_rest d other (same_plain files at.context at.unread m at.own at.log other s plain f (says files at.context at.unread m at.own at.log (Ok s) other n e))
+one_rest {files} (refused_inside at f c d) other e =
+    elim (entered files at.context at.unread f.after at.own at.log other f.name f.bytes f.allowed f.found
+    (says files at.context at.unread f.after at.own at.log (Ok (SourceLine f.name)) other f.next e)) [
       | inl x ↦ one_rest d (Err x.0) x.1 ∙ sym x.2
       | inr x ↦ err_or_ok c x.0 (one_rest d (Ok x.0) x.1)
     ]
-one_rest {files} (source a l m own log more name bytes r n free there d f) other e =
-    elim (entered files a l m own log other name bytes free there (says files a l m own log (Ok (SourceLine name)) other n e)) [
+one_rest {files} (source at f more r d after) other e =
+    elim (entered files at.context at.unread f.after at.own at.log other f.name f.bytes f.allowed f.found
+    (says files at.context at.unread f.after at.own at.log (Ok (SourceLine f.name)) other f.next e)) [
       | inl x ↦ err_or_ok x.0 more (sym (one_rest d (Err x.0) x.1))
-      | inr x ↦ one_rest f other (subst (λ g. Rest files a m (with_line own a l.number (SourceLine name)) g other) (sym (one_log more x.0 (one_rest d (Ok x.0) x.1))) x.2)
+      | inr x ↦ one_rest after other (subst (λ g. Rest files (after_file at f g) other) (sym (one_log more x.0 (one_rest d (Ok x.0) x.1))) x.2)
     ]
   where
     one_log : (g h : ReadSoFar) → outcome g ≡ outcome h → g ≡ h
     one_log g h i = cc
 
 abbrev RootGives : Files → List ℕ → Result ReadSoFar Refused → Type 0
-RootGives files root r = (bytes : List ℕ) × (files.bytes root ≡ Some bytes) × Rest files (root_context root) (unread_lines bytes 1) [] (first_log files root bytes) r
+RootGives files root r = (bytes : List ℕ) × (files.bytes root ≡ Some bytes) × Rest files (at_root files root bytes) r
 
 pub one_expansion_law : OneExpansion
 one_expansion_law files root r other d e = by (bytes_cause root 0 (files.bytes root)) d e
@@ -337,4 +335,4 @@ one_expansion_law files root r other d e = by (bytes_cause root 0 (files.bytes r
     by (Some c) x y = x ∙ sym y
     by None x y =
         let b : y.0 ≡ x.0 = one_some (files.bytes root) y.0 x.0 y.1 x.1 in
-        one_rest x.2 other (subst (λ b. Rest files (root_context root) (unread_lines b 1) [] (first_log files root b) other) b y.2)
+        one_rest x.2 other (subst (λ b. Rest files (at_root files root b) other) b y.2)

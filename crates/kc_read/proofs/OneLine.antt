@@ -1,20 +1,11 @@
 -- A line has one outcome.
 use Rattle.kc_language.specs.declared.diagnostics.Cause.TheVariants as cause
-use Rattle.std.proofs.Common.{◌≡◌, ◌⊎◌, inl, inr, ℕ, zero, suc, Bool, true, false, List, [], ◌∷◌, length, drop, codes, Option, Some, None, Result, Ok, Err, refl, sym, ap, ◌∙◌, subst, append-nil, length-drop, arith}
-use Rattle.std.proofs.lemmas.List.{length-map}
-use Rattle.kc_language.specs.Tokens.{Lexeme}
-use Rattle.kc_language.specs.declared.expressions.SymbolType.{SymbolType}
-use Rattle.kc_language.specs.Expressions.{Disjunction, terminal_of, if_word}
-use Rattle.kc_expr.specs.PartsOfExpressions.{terminals}
-use Rattle.kc_expr.specs.PartsOfExpressions.{spell_or}
-use Rattle.kc_expr.proofs.OneTree.{unambiguous}
-use Rattle.kc_expr.proofs.LongestLemmas.{one_longest, is_expression, not_too_deep, determined}
-use Rattle.kc_language.specs.declared.statements.Keyword.{Keyword}
+use Rattle.std.proofs.{Common.{Bool, Err, List, None, Ok, Option, Result, Some, [], ap, append-nil, arith, codes, drop, false, inl, inr, length, length-drop, refl, subst, suc, sym, true, zero, ℕ, ◌∙◌, ◌∷◌, ◌≡◌, ◌⊎◌}, lemmas.List.length-map}
+use Rattle.kc_language.specs.{Expressions.{Disjunction, if_word, terminal_of}, Statements.{After, Cause, CommentLine, ConditionFault, DefLine, DefaultLine, DependsLine, EndChoiceLine, EndIfLine, EndMenuLine, ExpressionFault, Front, HelpLine, IfLine, ImplyLine, InputPrompt, IsCondition, IsMore, LineContext, MainMenuLine, MenuLine, ModulesLine, Named, PromptLine, RangeLine, ReadsCondition, ReadsLine, ReadsPrompt, ReadsRest, ReadsSource, ReadsTextLine, ReadsValue, ReadsWhole, SelectLine, SourceLine, StartsExpression, TypeLine, VisibleLine, WholeFault, begins_with, finish, in_place, keyword_of, keyword_or_refusal, named_target, operand_of, option_line, placement_cause, plain_text, text_of, word_of}, Tokens.Lexeme, declared.{expressions.SymbolType.SymbolType, statements.Keyword.Keyword}}
+use Rattle.kc_expr.specs.PartsOfExpressions.{spell_or, terminals}
+use Rattle.kc_expr.proofs.{LongestLemmas.{determined, is_expression, not_too_deep, one_longest}, OneTree.unambiguous}
 use Rattle.kc_language.specs.declared.statements.Keyword.TheVariants as key
-use Rattle.kc_language.specs.Statements.{Named, InputPrompt, IfLine, EndIfLine, CommentLine, SourceLine, MenuLine, EndMenuLine, EndChoiceLine, MainMenuLine, TypeLine, PromptLine, DefaultLine, DefLine, DependsLine, VisibleLine, SelectLine, ImplyLine, RangeLine, HelpLine, ModulesLine, Cause, LineContext, Front, StartsExpression, ExpressionFault, IsMore, WholeFault, ReadsWhole, IsCondition, ConditionFault, ReadsCondition, After, finish, text_of, word_of, named_target, operand_of, plain_text, option_line, keyword_of, placement_cause, ReadsTextLine, ReadsSource, ReadsPrompt, ReadsValue, ReadsRest, ReadsLine, begins_with}
-use Rattle.kc_read.specs.PartsOfStatements.{IsWhole, choice_line, expected, ReadsConfig, ReadsType, ReadsTarget}
-use Rattle.kc_language.specs.Statements.{keyword_or_refusal, in_place}
-use Rattle.kc_read.specs.PartsOfStatements.{front, good_name, ReadsRange, ReadsPlaced}
+use Rattle.kc_entries.specs.PartsOfStatements.{IsWhole, ReadsConfig, ReadsPlaced, ReadsRange, ReadsTarget, ReadsType, choice_line, expected, front, good_name}
 
 -- ---- Expressions
 

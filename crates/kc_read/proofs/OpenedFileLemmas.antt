@@ -1,22 +1,13 @@
 -- The files that an expansion asks for are named in those that it opened before.
-use Rattle.std.proofs.Common.{◌≡◌, ◌⊎◌, inl, inr, ℕ, zero, suc, ◌<◌, ◌≤◌, Bool, true, false, true≢false, cond, List, [], ◌∷◌, ◌++◌, length, drop, codes, Option, Some, None, Result, Ok, Err, refl, sym, ap, ◌∙◌, subst, arith}
+use Rattle.std.proofs.{Common.{Bool, Err, List, None, Ok, Option, Result, Some, [], ap, arith, codes, cond, drop, false, inl, inr, length, refl, subst, suc, sym, true, true≢false, zero, ℕ, ◌++◌, ◌<◌, ◌∙◌, ◌∷◌, ◌≡◌, ◌≤◌, ◌⊎◌}, lemmas.Bool.cases_Bool}
 use Rattle.std.specs.List.{Contains}
-use Rattle.std.proofs.lemmas.Bool.{cases_Bool}
-use Rattle.kc_language.specs.declared.tokens.TextFault.{TextFault}
-use Rattle.kc_language.specs.Tokens.{Lexeme}
-use Rattle.kc_language.specs.Lines.{UnreadLines, TakesLine, unread_lines}
-use Rattle.kc_text.specs.Lines.{Next, Ended, Taken, TooLong, IsNextLine}
-use Rattle.kc_text.proofs.Joins.{one_next_line_law}
-use Rattle.kc_text.proofs.There.{one_cutting_law}
-use Rattle.kc_language.specs.Expansion.{FileContext, ReadSoFar, Refused, Rest, NextLine, NextStatement, context_of, without_help, at_end, unclosed, too_long, no_tokens, blank, renumbered, moved, bad_line, over_limit, statement, bad_source, refused_inside, source, sourced, Files, SourceNames}
-use Rattle.kc_read.specs.PartsOfExpansion.{is_help}
-use Rattle.kc_language.specs.Statements.{Cause, LineContext, After, ReadsSource, begins_with, finish, plain_text, text_of, Located, Named, SourceLine}
-use Rattle.kc_read.specs.OpenedFiles.{sourced_files, IsNamedIn, IsNamedByOne, SourcedFilesAreNamed, HasOneListOfNames}
-use Rattle.kc_read.proofs.LineThere.{source_line}
-use Rattle.kc_read.proofs.RestLemmas.{next_less}
-use Rattle.kc_read.proofs.SourceLines.{before_other, before_source, one_list}
+use Rattle.kc_language.specs.{Expansion.{Files, NextLine, NextStatement, ReadSoFar, Reading, Refused, Rest, SourceNames, at_end, bad_line, bad_source, blank, context_of, goes_on, moved, no_tokens, over_limit, refused, refused_inside, renumbered, source, sourced, statement, too_long, unclosed, without_help}, Lines.{TakesLine, UnreadLines, unread_lines}, Statements.{After, Cause, LineContext, Located, Named, ReadsSource, SourceLine, begins_with, finish, plain_text, text_of}, Tokens.Lexeme, declared.tokens.TextFault.TextFault}
+use Rattle.kc_text.specs.Lines.{Ended, IsNextLine, Next, Taken, TooLong}
+use Rattle.kc_text.proofs.{Joins.one_next_line_law, There.one_cutting_law}
+use Rattle.kc_entries.specs.PartsOfExpansion.{is_help}
+use Rattle.kc_read.specs.OpenedFiles.{HasOneListOfNames, IsNamedByOne, IsNamedIn, SourcedFilesAreNamed, sourced_files}
+use Rattle.kc_read.proofs.{LineThere.source_line, RestLemmas.next_less, SourceLines.{before_other, before_source, one_list}, SourceWord.{begins_source, source_begins}}
 use Rattle.kc_read.proofs.SourceLines as lines
-use Rattle.kc_read.proofs.SourceWord.{source_begins, begins_source}
 
 abbrev begins : List Lexeme → Bool
 begins ts = begins_with (codes "source") ts
@@ -149,42 +140,44 @@ in_tree {l = l} {m = m} {c = c} {s = s} f n = subst (λ b. NextStatement b l m c
 held_in_tree : (files : Files) (name bytes : List ℕ) → files.flat ≡ false → sourced files name ≡ Some bytes → files.bytes name ≡ Some bytes
 held_in_tree files name bytes f h = sym (ap (λ b. cond b None (files.bytes name)) f) ∙ h
 
-pub named : {files : Files} (g : files.flat ≡ false) {a : FileContext} {l : UnreadLines} {own : List (Located Named)} {log : ReadSoFar} {r : Result ReadSoFar Refused} (d : Rest files a l own log r)
-    (before after : List (List ℕ)) (name : List ℕ) → sourced_files d ≡ before ++ name ∷ after → IsNamed files l before name
-named g (at_end a l own log none closed) before after name e = no_split before after name e
-named g (unclosed a l own log line none unmatched) before after name e = no_split before after name e
-named g (too_long a l own log long) before after name e = no_split before after name e
-named g (no_tokens a l m own log ts why next) before after name e = no_split before after name e
-named g (blank a l m own log r next d) before after name e = elim (named g d before after name e) [
-  | inl h ↦ inl (named_later l m [] name (subst (λ b. NextLine b l m [] None) g next.0) (λ b. absurd cc) h)
+pub named : {files : Files} (g : files.flat ≡ false) {at : Reading} {r : Result ReadSoFar Refused} (d : Rest files at r)
+    (before after : List (List ℕ)) (name : List ℕ) → sourced_files d ≡ before ++ name ∷ after → IsNamed files at.unread before name
+named g (at_end at none closed) before after name e = no_split before after name e
+named g (unclosed at line none unmatched) before after name e = no_split before after name e
+named g (refused at c (too_long long)) before after name e = no_split before after name e
+named g (refused at c (no_tokens m ts why next)) before after name e = no_split before after name e
+named g (refused at c (bad_line m why n)) before after name e = no_split before after name e
+named g (refused at c (over_limit m s why n f)) before after name e = no_split before after name e
+named g (refused at c (bad_source m k why n f)) [] after name e =
+    let h : k ≡ name = cc in inl (subst (IsNamedIn at.unread) h (named_here at.unread m (context_of at.context at.own at.log) k (in_tree g n)))
+named g (refused at c (bad_source m k why n f)) (b ∷ before) after name e = no_split before after name (let h : [] ≡ before ++ name ∷ after = cc in h)
+named g (goes_on at next r (blank m n) d) before after name e = elim (named g d before after name e) [
+  | inl h ↦ inl (named_later at.unread m [] name (subst (λ b. NextLine b at.unread m [] None) g n.0) (λ b. absurd cc) h)
   | inr h ↦ inr h
 ]
-named g (renumbered a l m own log n r marks d) before after name e = absurd (true≢false (sym marks.1 ∙ g))
-named g (moved a l m own log n k r marks differs d) before after name e = absurd (true≢false (sym marks.1 ∙ g))
-named g (bad_line a l m own log c n) before after name e = no_split before after name e
-named g (over_limit a l m own log s c n f) before after name e = no_split before after name e
-named g (statement a l m own log s r n plain f d) before after name e = elim (named g d before after name e) [
-  | inl h ↦ inl (named_after l m (context_of a own log) s name (in_tree g n) h)
+named g (goes_on at next r (renumbered m n marks) d) before after name e = absurd (true≢false (sym marks.1 ∙ g))
+named g (goes_on at next r (moved m n k marks differs) d) before after name e = absurd (true≢false (sym marks.1 ∙ g))
+named g (goes_on at next r (statement m s n plain f) d) before after name e = elim (named g d before after name e) [
+  | inl h ↦ inl (named_after at.unread m (context_of at.context at.own at.log) s name (in_tree g n) h)
   | inr h ↦ inr h
 ]
-named g (bad_source a l m own log k c n f) [] after name e =
-    let h : k ≡ name = cc in inl (subst (IsNamedIn l) h (named_here l m (context_of a own log) k (in_tree g n)))
-named g (bad_source a l m own log k c n f) (b ∷ before) after name e = no_split before after name (let h : [] ≡ before ++ name ∷ after = cc in h)
-named g (refused_inside a l m own log k bytes c n free there d) [] after name e =
-    let h : k ≡ name = cc in inl (subst (IsNamedIn l) h (named_here l m (context_of a own log) k (in_tree g n)))
-named {files} g (refused_inside a l m own log k bytes c n free there d) (b ∷ before) after name e =
-    let h : k ≡ b = cc in
+named g (refused_inside at f c d) [] after name e =
+    let h : f.name ≡ name = cc in inl (subst (IsNamedIn at.unread) h (named_here at.unread f.after (context_of at.context at.own at.log) f.name (in_tree g f.next)))
+named {files} g (refused_inside at f c d) (b ∷ before) after name e =
+    let h : f.name ≡ b = cc in
     let t : sourced_files d ≡ before ++ name ∷ after = cc in
-    inr (subst (λ x. IsNamedByOne files (x ∷ before) name) h (within files bytes before name k (held_in_tree files k bytes g there) (named g d before after name t)))
-named g (source a l m own log more k bytes r n free there d f) [] after name e =
-    let h : k ≡ name = cc in inl (subst (IsNamedIn l) h (named_here l m (context_of a own log) k (in_tree g n)))
-named {files} g (source a l m own log more k bytes r n free there d f) (b ∷ before) after name e =
-    let h : k ≡ b = cc in
-    let t : sourced_files d ++ sourced_files f ≡ before ++ name ∷ after = cc in
-    elim (split_append (sourced_files d) (sourced_files f) before after name t) [
-      | inl x ↦ inr (subst (λ y. IsNamedByOne files (y ∷ before) name) h (within files bytes before name k (held_in_tree files k bytes g there) (named g d before x.0 name x.1)))
-      | inr x ↦ elim (named g f x.0 after name x.2) [
-        | inl y ↦ inl (named_after l m (context_of a own log) (SourceLine k) name (in_tree g n) y)
+    inr (subst (λ x. IsNamedByOne files (x ∷ before) name) h
+    (within files f.bytes before name f.name (held_in_tree files f.name f.bytes g f.found) (named g d before after name t)))
+named g (source at f more r d behind) [] after name e =
+    let h : f.name ≡ name = cc in inl (subst (IsNamedIn at.unread) h (named_here at.unread f.after (context_of at.context at.own at.log) f.name (in_tree g f.next)))
+named {files} g (source at f more r d behind) (b ∷ before) after name e =
+    let h : f.name ≡ b = cc in
+    let t : sourced_files d ++ sourced_files behind ≡ before ++ name ∷ after = cc in
+    elim (split_append (sourced_files d) (sourced_files behind) before after name t) [
+      | inl x ↦ inr (subst (λ y. IsNamedByOne files (y ∷ before) name) h
+          (within files f.bytes before name f.name (held_in_tree files f.name f.bytes g f.found) (named g d before x.0 name x.1)))
+      | inr x ↦ elim (named g behind x.0 after name x.2) [
+        | inl y ↦ inl (named_after at.unread f.after (context_of at.context at.own at.log) (SourceLine f.name) name (in_tree g f.next) y)
         | inr y ↦ let (by, text, has, there, names) = y in inr (by, text, subst (λ z. Contains (b ∷ z) by) (sym x.1) (later by b (sourced_files d ++ x.0) (later_all by (sourced_files d) x.0 has)), there, names)
       ]
     ]

@@ -1,9 +1,8 @@
 -- The files that an expansion opens are one list.
-use Rattle.std.proofs.Common.{◌≡◌, ℕ, List, [], Result, Ok, Err, refl, sym, ap, ◌∙◌}
-use Rattle.kc_language.specs.Expansion.{ReadSoFar, Refused, Expands, Files, AreOpened}
+use Rattle.std.proofs.Common.{Err, List, Ok, Result, [], ap, refl, sym, ℕ, ◌∙◌, ◌≡◌}
+use Rattle.kc_language.specs.Expansion.{AreOpened, Expands, Files, ReadSoFar, Refused}
 use Rattle.kc_read.specs.OpenedFiles.{OpenedAreOneList}
-use Rattle.kc_read.proofs.ExpansionThere.{has_one_expansion}
-use Rattle.kc_read.proofs.OneExpansion.{one_expansion_law}
+use Rattle.kc_read.proofs.{ExpansionThere.has_one_expansion, OneExpansion.one_expansion_law}
 
 -- those of the one list that the root file gives
 pub are_opened : (files : Files) (root : List ℕ) (log : ReadSoFar) (names : List (List ℕ)) → Expands files root (Ok log) → names ≡ log.opened → AreOpened files root names

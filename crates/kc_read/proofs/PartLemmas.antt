@@ -1,23 +1,12 @@
 -- Parts of a line, and refusals that are passed on.
-use Rattle.std.proofs.Common.{◌≡◌, ℕ, true, false, List, [], ◌∷◌, drop, Option, Some, None, Result, Ok, IfErr, IsErrAnd, Err, codes, refl, sym, ap, subst, inl, inr, Bool}
+use Rattle.std.proofs.{Common.{Bool, Err, IfErr, IsErrAnd, List, None, Ok, Option, Result, Some, [], ap, codes, drop, false, inl, inr, refl, subst, sym, true, ℕ, ◌∷◌, ◌≡◌}, lemmas.Result.err_from_is_err_and}
 use Rattle.std.specs.Prelude.{is_some}
-use Rattle.std.proofs.lemmas.Result.{err_from_is_err_and}
-use Rattle.kc_language.specs.Text.{unescape}
-use Rattle.kc_language.specs.Tokens.{Lexeme, AWord, AQuoted}
-use Rattle.kc_language.specs.declared.expressions.SymId.{SymId}
-use Rattle.kc_language.specs.declared.expressions.Tri.{Tri}
-use Rattle.kc_language.specs.Expressions.{Form, Text, Symbol, tri_text, tristate_constant, Atom, Disjunction, WordAtom, QuotedAtom, if_word, same_name, mention}
-use Rattle.kc_expr.specs.PartsOfExpressions.{is_tristate_constant}
+use Rattle.kc_language.specs.{Expressions.{Atom, Disjunction, Form, QuotedAtom, Symbol, Text, WordAtom, if_word, mention, same_name, tri_text, tristate_constant}, Statements.{Cause, ConditionFault, ConfigLine, DependsLine, ExpressionFault, IgnoredLine, InputPrompt, IsCondition, IsMore, LineContext, ModulesLine, Named, RangeLine, ReadsLine, ReadsPrompt, ReadsRest, ReadsSource, ReadsTextLine, ReadsValue, SourceLine, TypeLine, VisibleLine, WholeFault, begins_with, is_good_name, keyword_of, named_target, operand_of, option_line, placement_cause, text_of, word_of}, Text.unescape, Tokens.{AQuoted, AWord, Lexeme}, declared.{expressions.{SymId.SymId, SymbolType.SymbolType, Tri.Tri}, statements.Keyword.Keyword}}
+use Rattle.kc_expr.specs.{Names.IsNumber, PartsOfExpressions.is_tristate_constant}
 use Rattle.kc_expr.proofs.ConstantLemmas.{constant_text}
-use Rattle.kc_expr.specs.Names.{IsNumber}
 use Rattle.kc_language.specs.declared.diagnostics.Cause.TheVariants as cause
-use Rattle.kc_language.specs.Statements.{Cause, LineContext, ReadsValue, begins_with, operand_of, IsCondition, WholeFault, ConditionFault, ExpressionFault, text_of, word_of, named_target, is_good_name, ReadsTextLine, ReadsSource, ReadsPrompt, ReadsRest, ReadsLine, IsMore, keyword_of, placement_cause, option_line, Named, InputPrompt, SourceLine, ConfigLine, DependsLine, VisibleLine, ModulesLine, IgnoredLine, TypeLine, RangeLine}
-use Rattle.kc_read.specs.PartsOfStatements.{IsWhole, ReadsConfig, ReadsTarget, ReadsType}
-use Rattle.kc_read.specs.PartsOfStatements.{front, is_pattern, ReadsDepends, ReadsVisible, ReadsRange}
-use Rattle.kc_language.specs.declared.expressions.SymbolType.{SymbolType}
-use Rattle.kc_language.specs.declared.statements.Keyword.{Keyword}
-use Rattle.kc_read.specs.declared.statement.Statement.{Statement}
-use Rattle.kc_read.specs.LineReads.{LineFault, cause_of, IsFront, IsRead, IsFault, IsOperand, IsWholeForm, IsConditionForm}
+use Rattle.kc_entries.specs.{PartsOfStatements.{IsWhole, ReadsConfig, ReadsDepends, ReadsRange, ReadsTarget, ReadsType, ReadsVisible, front, is_pattern}, declared.statement.Statement.Statement}
+use Rattle.kc_read.specs.LineReads.{IsConditionForm, IsFault, IsFront, IsOperand, IsRead, IsWholeForm, LineFault, cause_of}
 
 pub fault_passed : {A : Type 0} (r : Result A LineFault) (P : LineFault → Type 0) (e : LineFault) → IsErrAnd r (λ y. y ≡ e) → P e → IfErr r P
 fault_passed r P e a h = let p = err_from_is_err_and r a in rw (p.1, p.2) h

@@ -1,21 +1,11 @@
 -- A file in which no line begins with the bytes of `source`, and none ends with a `\`, has no `source` line.
-use Rattle.std.proofs.Common.{◌≡◌, inl, inr, ℕ, zero, suc, ◌+◌, ◌-◌, ◌<◌, Bool, true, false, cond, ◌&&◌, eqb, List, [], ◌∷◌, ◌++◌, length, take, drop, get_or, codes, Option, None, refl, sym, ap, ◌∙◌, subst, append_assoc, append-nil, length-append, length-drop, get_or-drop, drop-cons, ◌≤◌, arith}
-use Rattle.std.specs.Prelude.{Some}
-use Rattle.std.specs.List.{slice_split, join_with_byte}
-use Rattle.std.specs.Str.Lines.{strip_carriage_return}
-use Rattle.std.proofs.lemmas.Bool.{both_ways, cases_Bool, eqb-true}
-use Rattle.std.proofs.lemmas.List.{take-append-drop}
-use Rattle.std.proofs.lemmas.List.Splits.{join_with_byte-slice_split}
-use Rattle.std.proofs.Math.Seq.{take-append_seam}
+use Rattle.std.proofs.{Common.{Bool, List, None, Option, [], ap, append-nil, append_assoc, arith, codes, cond, drop, drop-cons, eqb, false, get_or, get_or-drop, inl, inr, length, length-append, length-drop, refl, subst, suc, sym, take, true, zero, ℕ, ◌&&◌, ◌++◌, ◌+◌, ◌-◌, ◌<◌, ◌∙◌, ◌∷◌, ◌≡◌, ◌≤◌}, Math.Seq.take-append_seam, lemmas.{Bool.{both_ways, cases_Bool, eqb-true}, List.{Splits.join_with_byte-slice_split, take-append-drop}}}
+use Rattle.std.specs.{List.{join_with_byte, slice_split}, Prelude.Some, Str.Lines.strip_carriage_return}
 use Rattle.bstr.specs.Find.{OccursAt, Passes, is_byte}
-use Rattle.kc_language.specs.declared.tokens.TextFault.{TextFault}
-use Rattle.kc_language.specs.Lines.{after_text, column, from_other, is_help_line, IsFirstLine, UnreadLines, Physical, continues, joined_text, unread_lines, lines_of_parts, physical_lines}
-use Rattle.kc_language.specs.Tokens.{Lexeme, AWord, AQuoted, AnOp, Spells, IsCut, ended as cut_ends, stuck, skipped, taken}
+use Rattle.kc_language.specs.{Expansion.{IsSource, NextLine, SourceNames, here, none, past, without_help}, Lines.{IsFirstLine, Physical, UnreadLines, after_text, column, continues, from_other, is_help_line, joined_text, lines_of_parts, physical_lines, unread_lines}, Statements.begins_with, Tokens.{AQuoted, AWord, AnOp, IsCut, Lexeme, Spells, ended as cut_ends, skipped, stuck, taken}, declared.tokens.TextFault.TextFault}
 use Rattle.kc_text.specs.PartsOfTokens.{IsAtBlank}
 use Rattle.kc_text.proofs.Physicals.{lf}
-use Rattle.kc_language.specs.Expansion.{NextLine, without_help, IsSource, SourceNames, none, here, past}
-use Rattle.kc_read.specs.PartsOfExpansion.{is_help}
-use Rattle.kc_language.specs.Statements.{begins_with}
+use Rattle.kc_entries.specs.PartsOfExpansion.{is_help}
 use Rattle.kc_read.specs.QuietFiles.{AreAllBlank, BeginsLine, EndsLine, EndsLineBefore, HasNoJoin, HasNoSource, IsQuiet}
 use Rattle.kc_language.specs.Expansion as spec
 use Rattle.kc_read.proofs.FileLemmas.{same_name_eq}

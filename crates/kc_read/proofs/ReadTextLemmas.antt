@@ -1,27 +1,12 @@
 -- The texts of an expanded list: each stands in one line of a Kconfig file.
-use Rattle.std.proofs.Common.{◌≡◌, ℕ, Bool, true, false, ◌||◌, if◌then◌else◌, List, [], ◌∷◌, ◌++◌, drop, Option, Some, None, Result, Ok, Err, MatchOption, refl, sym, subst, inl, inr, codes}
+use Rattle.std.proofs.{Common.{Bool, Err, List, MatchOption, None, Ok, Option, Result, Some, [], codes, drop, false, if◌then◌else◌, inl, inr, refl, subst, sym, true, ℕ, ◌++◌, ◌||◌, ◌∷◌, ◌≡◌}, lemmas.List.{Elements.{All-append, All-cons, All-drop, All-head, All-nil, All-push}, map-append}}
 use Rattle.std.specs.Prelude.{All}
-use Rattle.std.proofs.lemmas.List.{map-append}
-use Rattle.std.proofs.lemmas.List.Elements.{All-nil, All-cons, All-head, All-append, All-push, All-drop}
-use Rattle.kc_language.specs.declared.tokens.TextFault.{TextFault}
-use Rattle.kc_language.specs.Text.{unescape}
-use Rattle.kc_language.specs.Tokens.{Lexeme, AWord, AQuoted, AnOp}
-use Rattle.kc_language.specs.Lines.{UnreadLines, unread_lines}
-use Rattle.kc_language.specs.declared.expressions.SymbolType.{SymbolType}
-use Rattle.kc_language.specs.Expressions.{Disjunction, Atom, WordAtom, QuotedAtom, names_in_atom, if_word, spell, names_in, same_name}
+use Rattle.kc_language.specs.{Expansion.{Expands, FileContext, Files, NextLine, ReadSoFar, Reading, Refused, Rest, at_end, at_root, blank, bytes_cause, context_of, goes_on, moved, refusal_at, refused, refused_inside, renumbered, source, statement, unclosed, with_line, without_help}, Expressions.{Atom, Disjunction, QuotedAtom, WordAtom, if_word, names_in, names_in_atom, same_name, spell}, Lines.{UnreadLines, unread_lines}, Statements.{After, Cause, ChoiceLine, CommentLine, ConfigLine, DefLine, DefaultLine, DependsLine, EndChoiceLine, EndIfLine, EndMenuLine, Front, HelpLine, IfLine, IgnoredLine, ImplyLine, InputPrompt, IsCondition, LineContext, Located, MainMenuLine, MenuLine, ModulesLine, Named, PromptLine, RangeLine, ReadsCondition, ReadsLine, ReadsPrompt, ReadsRest, ReadsTextLine, ReadsValue, ReadsWhole, SelectLine, SourceLine, StartsExpression, Statement, TypeLine, VisibleLine, begins_with, finish, in_place, is_good_name, keyword_of, keyword_or_refusal, named_target, names_in_condition, names_in_statement, operand_of, option_line, placement_cause, plain_text, statements, text_of, word_of}, Text.unescape, Tokens.{AQuoted, AWord, AnOp, Lexeme}, declared.{expressions.SymbolType.SymbolType, statements.Keyword.Keyword, tokens.TextFault.TextFault}}
 use Rattle.kc_expr.specs.PartsOfExpressions.{is_tristate_constant, terminals}
 use Rattle.kc_language.specs.declared.diagnostics.Cause.TheVariants as cause
-use Rattle.kc_language.specs.declared.statements.Keyword.{Keyword}
 use Rattle.kc_language.specs.declared.statements.Keyword.TheVariants as key
-use Rattle.kc_language.specs.Expansion.{FileContext, ReadSoFar, Refused, Rest, Expands, NextLine, bytes_cause, context_of, first_log, refusal_at, with_line, without_help, at_end, unclosed, too_long, no_tokens, blank, renumbered, moved, bad_line, over_limit, statement, bad_source, refused_inside, source, Files}
-use Rattle.kc_read.specs.PartsOfExpansion.{root_context, is_help}
-use Rattle.kc_language.specs.Statements.{Cause, LineContext, After, Front, IsCondition, ReadsLine, ReadsRest, ReadsWhole, ReadsCondition, ReadsTextLine, ReadsValue, ReadsPrompt, StartsExpression, begins_with, finish, is_good_name, keyword_of, operand_of, option_line, placement_cause, plain_text, named_target, text_of, word_of, Statement, InputPrompt, Named, Located, ConfigLine, IfLine, EndIfLine, CommentLine, SourceLine, MenuLine, EndMenuLine, ChoiceLine, EndChoiceLine, MainMenuLine, TypeLine, PromptLine, DefaultLine, DefLine, DependsLine, VisibleLine, SelectLine, ImplyLine, RangeLine, HelpLine, ModulesLine, IgnoredLine, names_in_condition, names_in_statement, statements}
-use Rattle.kc_read.specs.PartsOfStatements.{IsWhole, ReadsTarget, ReadsType, choice_line, expected}
-use Rattle.kc_language.specs.Statements.{in_place, keyword_or_refusal}
-use Rattle.kc_read.specs.PartsOfStatements.{ReadsPlaced, front, good_name, value_form}
-use Rattle.kc_tree.specs.TreeFacts.{IsLineText, IsLineForm}
-use Rattle.kc_read.proofs.LineTextLemmas.{AreOneLine, IsLineAtom, IsLineLexeme, IsLineTerminal, all_front, atom_lines, cut_line, file_lines, helped, taken_line, terminal_lines, value_line, word_lines}
-use Rattle.kc_read.proofs.TurnLemmas.{after}
+use Rattle.kc_entries.specs.{PartsOfExpansion.is_help, PartsOfStatements.{IsWhole, ReadsPlaced, ReadsTarget, ReadsType, choice_line, expected, front, good_name, value_form}, WellFormed.{IsLineForm, IsLineText}}
+use Rattle.kc_read.proofs.{LineTextLemmas.{AreOneLine, IsLineAtom, IsLineLexeme, IsLineTerminal, all_front, atom_lines, cut_line, file_lines, helped, taken_line, terminal_lines, value_line, word_lines}, TurnLemmas.after}
 
 -- a value whose constant, where one stands alone, is one line's text
 abbrev pub IsLineValue : Disjunction → Type 0
@@ -243,27 +228,23 @@ module _ (files : Files) where
   Outcome (Ok log) = AreInLines log.lines
   Outcome (Err r) = Unit {0}
 
-  rest_lines : {a : FileContext} {l : UnreadLines} {own : List (Located Named)} {log : ReadSoFar} {r : Result ReadSoFar Refused} → Rest files a l own log r → AreOneLine l.lines → AreInLines log.lines → Outcome r
-  rest_lines (at_end a l own log e o) h k = k
-  rest_lines (unclosed a l own log line e u) h k = tt
-  rest_lines (too_long a l own log t) h k = tt
-  rest_lines (no_tokens a l m own log ts why n) h k = tt
-  rest_lines (blank a l m own log r n rest) h k = rest_lines rest (next_line l m [] None n.0 h).1 k
-  rest_lines (renumbered a l m own log n r marks rest) h k = rest_lines rest (next_line l m [] None marks.0 h).1 k
-  rest_lines (moved a l m own log n name r marks differs rest) h k = rest_lines rest (next_line l m [] None marks.0 h).1 k
-  rest_lines (bad_line a l m own log c n) h k = tt
-  rest_lines (over_limit a l m own log s c n e) h k = tt
-  rest_lines (statement a l m own log s r n modeless effect rest) h k =
-      let next = next_line l m n.tokens None n.next h in
-      rest_lines rest next.1 (with_next log.lines a l.number s (line_of (context_of a own log) n.tokens s next.0 n.reads) k)
-  rest_lines (bad_source a l m own log name c n e) h k = tt
-  rest_lines (refused_inside a l m own log name bytes e n allowed found inner) h k = tt
-  rest_lines (source a l m own log more name bytes r n allowed found inner rest) h k =
-      rest_lines rest (next_line l m n.tokens None n.next h).1 (rest_lines inner (file_lines bytes) k)
+  rest_lines : {at : Reading} {r : Result ReadSoFar Refused} → Rest files at r → AreOneLine at.unread.lines → AreInLines at.log.lines → Outcome r
+  rest_lines (at_end at e o) h k = k
+  rest_lines (unclosed at line e u) h k = tt
+  rest_lines (refused at c here) h k = tt
+  rest_lines (goes_on at next r (blank m n) rest) h k = rest_lines rest (next_line at.unread m [] None n.0 h).1 k
+  rest_lines (goes_on at next r (renumbered m n marks) rest) h k = rest_lines rest (next_line at.unread m [] None marks.0 h).1 k
+  rest_lines (goes_on at next r (moved m n name marks differs) rest) h k = rest_lines rest (next_line at.unread m [] None marks.0 h).1 k
+  rest_lines (goes_on at next r (statement m s n modeless effect) rest) h k =
+      let found = next_line at.unread m n.tokens None n.next h in
+      rest_lines rest found.1 (with_next at.log.lines at.context at.unread.number s (line_of (context_of at.context at.own at.log) n.tokens s found.0 n.reads) k)
+  rest_lines (refused_inside at f e inner) h k = tt
+  rest_lines (source at f more r inner rest) h k =
+      rest_lines rest (next_line at.unread f.after f.next.tokens None f.next.next h).1 (rest_lines inner (file_lines f.bytes) k)
 
   by_bytes : (root : List ℕ) (log : ReadSoFar) (o : Option Cause) →
       MatchOption o ((bytes : List ℕ) × (files.bytes root ≡ Some bytes)
-      × Rest files (root_context root) (unread_lines bytes 1) [] (first_log files root bytes) (Ok log)) (λ c. Ok log ≡ Err (refusal_at c root 0)) →
+      × Rest files (at_root files root bytes) (Ok log)) (λ c. Ok log ≡ Err (refusal_at c root 0)) →
       AreInLines log.lines
   by_bytes root log None h = rest_lines h.2 (file_lines h.0) (All-nil IsInLines)
   by_bytes root log (Some c) h = absurd (let e : ◌≡◌ {A = Result ReadSoFar Refused} (Ok log) (Err (refusal_at c root 0)) = h in cc)

@@ -1,13 +1,10 @@
 -- The expanded list is the list of the root file.
-use Rattle.std.proofs.Common.{◌≡◌, ℕ, List, [], ◌∷◌, ◌++◌, Option, Some, None, Result, Ok, Err, refl, sym, ap, subst, ◌∙◌, append_assoc, append-nil}
+use Rattle.std.proofs.Common.{Err, List, None, Ok, Option, Result, Some, [], ap, append-nil, append_assoc, refl, subst, sym, ℕ, ◌++◌, ◌∙◌, ◌∷◌, ◌≡◌}
 use Rattle.std.specs.Prelude.{MatchOption, false}
-use Rattle.kc_language.specs.Lines.{UnreadLines, unread_lines}
-use Rattle.kc_language.specs.Expansion.{FileContext, ReadSoFar, Refused, Rest, IsBlankNext, MarksNext, NextStatement, context_of, bytes_cause, refusal_at, first_log, sourced, at_end, unclosed, too_long, no_tokens, blank, renumbered, moved, bad_line, over_limit, statement, bad_source, refused_inside, source, Files}
-use Rattle.kc_read.specs.PartsOfExpansion.{is_source, root_context}
-use Rattle.kc_language.specs.Statements.{Cause, LineContext, Located, Named, SourceLine}
-use Rattle.kc_language.specs.Expressions.{same_name}
+use Rattle.kc_language.specs.{Expansion.{Files, IsBlankNext, MarksNext, NextStatement, ReadSoFar, Reading, Refused, Rest, at_end, at_root, blank, bytes_cause, context_of, goes_on, moved, refusal_at, refused, refused_inside, renumbered, source, sourced, statement, unclosed}, Expressions.same_name, Lines.{UnreadLines, unread_lines}, Statements.{Cause, LineContext, Located, Named, SourceLine}}
+use Rattle.kc_entries.specs.PartsOfExpansion.{is_source}
 use Rattle.kc_read.specs.Replaced as r
-use Rattle.kc_read.specs.Replaced.{Owns, Replaces, located, IsListOf, ExpandedIsListOf}
+use Rattle.kc_read.specs.Replaced.{ExpandedIsListOf, IsListOf, Owns, Replaces, located}
 
 -- what the rest of a file adds to the list
 record Adds (files : Files) (file : List ℕ) (l : UnreadLines) (before after : List (Located Named)) : Type 0 where
@@ -66,26 +63,25 @@ source_made files file l m c before more name bytes (Ok log) n there i h = recor
 }
 source_made files file l m c before more name bytes (Err e) n there i h = tt
 
-made : {files : Files} {a : FileContext} {l : UnreadLines} {own : List (Located Named)} {log : ReadSoFar} {o : Result ReadSoFar Refused} → Rest files a l own log o → Made files a.file l log.lines o
-made (at_end a l own log none closed) = record { own = []; list = []; owns = r.no_line a.file l none; replaces = r.nothing; lines = sym (append-nil log.lines) }
-made (unclosed a l own log line none unmatched) = tt
-made (too_long a l own log long) = tt
-made (no_tokens a l m own log ts why next) = tt
-made {files} (blank a l m own log o next d) = blank_made files a.file l m log.lines o next (made d)
-made {files} (renumbered a l m own log n o marks d) = same_file_made files a.file l m n log.lines o marks (made d)
-made {files} (moved a l m own log n name o marks differs d) = other_file_made files a.file l m n name log.lines o marks differs (made d)
-made (bad_line a l m own log c n) = tt
-made (over_limit a l m own log s c n f) = tt
-made {files} (statement a l m own log s o n plain f d) = statement_made files a.file l m (context_of a own log) log.lines s o n plain (made d)
-made (bad_source a l m own log k c n f) = tt
-made (refused_inside a l m own log k bytes c n free there d) = tt
-made {files} (source a l m own log more k bytes o n free there d f) = source_made files a.file l m (context_of a own log) log.lines more k bytes o n there (made d) (made f)
+made : {files : Files} {at : Reading} {o : Result ReadSoFar Refused} → Rest files at o → Made files at.context.file at.unread at.log.lines o
+made (at_end at none closed) = record { own = []; list = []; owns = r.no_line at.context.file at.unread none; replaces = r.nothing; lines = sym (append-nil at.log.lines) }
+made (unclosed at line none unmatched) = tt
+made (refused at c here) = tt
+made {files} (goes_on at next o (blank m n) d) = blank_made files at.context.file at.unread m at.log.lines o n (made d)
+made {files} (goes_on at next o (renumbered m n marks) d) = same_file_made files at.context.file at.unread m n at.log.lines o marks (made d)
+made {files} (goes_on at next o (moved m n name marks differs) d) =
+    other_file_made files at.context.file at.unread m n name at.log.lines o marks differs (made d)
+made {files} (goes_on at next o (statement m s n plain f) d) =
+    statement_made files at.context.file at.unread m (context_of at.context at.own at.log) at.log.lines s o n plain (made d)
+made (refused_inside at f e d) = tt
+made {files} (source at f more o d after) =
+    source_made files at.context.file at.unread f.after (context_of at.context at.own at.log) at.log.lines more f.name f.bytes o f.next f.found (made d) (made after)
 
 pub expanded_is_list_of : ExpandedIsListOf
 expanded_is_list_of files root log h = by (bytes_cause root 0 (files.bytes root)) h
   where
     by : (o : Option Cause) → MatchOption o ((bytes : List ℕ) × (files.bytes root ≡ Some bytes)
-        × Rest files (root_context root) (unread_lines bytes 1) [] (first_log files root bytes) (Ok log)) (λ c. Ok log ≡ Err (refusal_at c root 0)) →
+        × Rest files (at_root files root bytes) (Ok log)) (λ c. Ok log ≡ Err (refusal_at c root 0)) →
         IsListOf files root log.lines
     by None x =
         let m : Adds files root (unread_lines x.0 1) [] log.lines = made x.2 in

@@ -1,40 +1,18 @@
 -- The rest of a file, one line after another.
 use Rattle.std.specs.Bool.{⊤}
-use Rattle.std.proofs.Common.{IfErr, IsErrAnd, take, ◌≡◌, ◌≢◌, ℕ, ◌-◌, ◌<◌, Bool, true, false, cond, List, [], ◌∷◌, ◌++◌, length, Option, Some, None, Result, Ok, Err, refl, sym, ap, ◌∙◌, subst, map, option_map, arith, append-nil}
-use Rattle.std.proofs.lemmas.Result.{err_from_is_err_and}
-use Rattle.kc_language.specs.Lines.{UnreadLines, unread_lines}
-use Rattle.kc_language.specs.Tokens.{Lexeme}
-use Rattle.kc_language.specs.declared.tokens.TextFault.{TextFault}
-use Rattle.kc_text.proofs.Helps.{after_help-le}
-use Rattle.kc_text.proofs.Joins.{takes_less}
-use Rattle.kc_read.specs.declared.frame.Frame.{Frame}
-use Rattle.kc_read.specs.declared.progress.Progress.{Progress}
+use Rattle.std.proofs.{Common.{Bool, Err, IfErr, IsErrAnd, List, None, Ok, Option, Result, Some, [], ap, append-nil, arith, cond, false, length, map, option_map, refl, subst, sym, take, true, ℕ, ◌++◌, ◌-◌, ◌<◌, ◌∙◌, ◌∷◌, ◌≡◌, ◌≢◌}, lemmas.Result.err_from_is_err_and}
+use Rattle.kc_language.specs.{Expansion.{FileContext, Files, IsBlankNext, MarksNext, NextLine, NextStatement, ReadSoFar, Rest, at_end, bad_line, bad_source, blank, context_of, goes_on, inside, is_attribute, last_of, moved, no_tokens, over_limit, refusal_at, refused, refused_inside, renumbered, source, sourced, sourcing_cause, statement, too_long, unclosed, with_file, with_line, without_help}, Expressions.{mention, same_name}, Lines.{UnreadLines, unread_lines}, Statements.{Cause, LineContext, Located, Named, SourceLine, is_config}, Tokens.Lexeme, declared.tokens.TextFault.TextFault}
+use Rattle.kc_text.proofs.{Helps.after_help-le, Joins.takes_less}
+use Rattle.kc_read.specs.{LineReads.{IsMade, LineFault, cause_of}, NextStep.{IsStepRefusal, StepFault}, Progress.{HasAdvanced, IsEnded, IsFileRead, IsLineTaken, IsMarkedOpened, IsMovedFrame, IsNextRead, IsOpenAtEnd, IsProgress, IsReading, IsRestRefusal, IsState, IsStatementRead, IsTaken, limit_view, open_names, opener_of, openers}, RefusalView.refusal_view, declared.{frame.Frame.Frame, progress.Progress.Progress, refusal.Refusal.Refusal}}
 use Rattle.kc_language.specs.declared.diagnostics.Cause.TheVariants as cause
-use Rattle.kc_read.specs.declared.refusal.Refusal.{Refusal}
 use Rattle.kc_diagnostics.proofs.CauseLemmas.{no_other_memory}
 use Rattle.kc_language.specs.declared.statements.EntryKind.TheVariants as entry
-use Rattle.kc_read.specs.declared.statement.Attribute.{Attribute}
-use Rattle.kc_read.specs.declared.statement.Statement.{Statement}
-use Rattle.kc_read.specs.declared.statement.Statement.TheVariants as made
-use Rattle.kc_language.specs.Expansion.{is_attribute, last_of, FileContext, ReadSoFar, Rest, refusal_at, context_of, inside, with_file, sourcing_cause, with_line, without_help, IsBlankNext, MarksNext, NextLine, NextStatement, sourced, at_end, unclosed, too_long, no_tokens, blank, renumbered, moved, bad_line, over_limit, statement, bad_source, refused_inside, source, Files}
-use Rattle.kc_read.specs.PartsOfExpansion.{is_help, is_source, logged}
-use Rattle.kc_read.specs.PartsOfExpansion.{source_cause}
-use Rattle.kc_read.specs.Entries.{IsLastFile}
-use Rattle.kc_language.specs.Statements.{Cause, LineContext, is_config, Located, Named, SourceLine}
-use Rattle.kc_read.specs.PartsOfStatements.{is_entry}
-use Rattle.kc_read.specs.Progress.{HasAdvanced, IsNextRead, IsReading, IsStatementRead, IsEnded, IsFileRead, IsOpenAtEnd, IsMarkedOpened, IsMovedFrame, IsProgress, IsRestRefusal, IsState, IsTaken, limit_view, open_names, opener_of, openers}
-use Rattle.kc_read.specs.StatementViews.{statement_view}
-use Rattle.kc_read.specs.LineReads.{LineFault, IsMade, cause_of}
-use Rattle.kc_read.specs.RefusalView.{refusal_view}
-use Rattle.kc_read.specs.NextStep.{IsStepRefusal, StepFault}
+use Rattle.kc_entries.specs.{Entries.IsLastFile, PartsOfExpansion.{is_help, is_source, logged, reading, source_cause}, PartsOfStatements.is_entry, StatementViews.statement_view, declared.statement.{Attribute.Attribute, Statement.Statement}}
+use Rattle.kc_entries.specs.declared.statement.Statement.TheVariants as made
 use Rattle.kc_read.specs.NextStep as step
 use Rattle.kc_read.proofs.BlockLemmas as blocks
-use Rattle.kc_read.proofs.ListLemmas.{but_last, but_last-append, but_last-take, last_of-map}
-use Rattle.kc_language.specs.Expressions.{mention, same_name}
-use Rattle.kc_read.proofs.StateLemmas.{effect_same, frame_push, no_entry, state_moved, state_taken}
-use Rattle.kc_read.proofs.HeadLemmas.{attribute_is}
-use Rattle.kc_read.proofs.ShapeLemmas.{made_shape}
-use Rattle.kc_read.proofs.TurnLemmas.{adds, enables, read_suits}
+use Rattle.kc_entries.proofs.ListLemmas.{but_last, but_last-append, but_last-take, last_of-map}
+use Rattle.kc_read.proofs.{HeadLemmas.attribute_is, ShapeLemmas.made_shape, StateLemmas.{effect_same, frame_push, no_entry, state_moved, state_taken}, TurnLemmas.{adds, enables, read_suits}}
 
 -- A line is taken from what is left of a file.
 pub next_less : {flat : Bool} (l m : UnreadLines) (ts : List Lexeme) (out : Option TextFault) → NextLine flat l m ts out → length m.lines < length l.lines
@@ -53,19 +31,22 @@ next_clear l m ts out n = by (is_help ts) n.left_after
     by true e = ap (λ x. x.refusal) e ∙ n.taken.5
     by false e = ap (λ x. x.refusal) e ∙ n.taken.5
 
+pub next_taken : {flat : Bool} (l m : UnreadLines) (ts : List Lexeme) → NextLine flat l m ts None → IsLineTaken l m
+next_taken l m ts n = (next_less l m ts None n, next_clear l m ts None n)
+
 -- a refusal of the next line is one of the rest
 fault_of_rest : (files : Files) (a : FileContext) (l : UnreadLines) (own : List (Located Named)) (log : ReadSoFar) (c : LineContext) (why : Cause) →
-    c ≡ context_of a own log → StepFault files.flat c l why → Rest files a l own log (Err (refusal_at why a.file l.number))
-fault_of_rest files a l own log c why e (step.too_long t) = too_long a l own log t
-fault_of_rest files a l own log c why e (step.no_tokens new ts w n) = no_tokens a l new own log ts w n
-fault_of_rest files a l own log c why e (step.refused_line new w n) = bad_line a l new own log w (subst (λ k. NextStatement files.flat l new k (Err w)) e n)
+    c ≡ context_of a own log → StepFault files.flat c l why → Rest files (reading a l own log) (Err (refusal_at why a.file l.number))
+fault_of_rest files a l own log c why e (step.too_long t) = refused (reading a l own log) _ (too_long t)
+fault_of_rest files a l own log c why e (step.no_tokens new ts w n) = refused (reading a l own log) _ (no_tokens new ts w n)
+fault_of_rest files a l own log c why e (step.refused_line new w n) = refused (reading a l own log) _ (bad_line new w (subst (λ k. NextStatement files.flat l new k (Err w)) e n))
 
 -- a refusal that is made for a cause and a line
 pub refusal_stands : (files : Files) (a : FileContext) (l : UnreadLines) (own : List (Located Named)) (log : ReadSoFar) (r : Refusal) (why : Cause) (file : List ℕ)
-    (line : ℕ) → refusal_view r ≡ refusal_at why file line → file ≡ a.file → line ≡ l.number → Rest files a l own log (Err (refusal_at why a.file l.number)) →
-    Rest files a l own log (Err (refusal_view r))
+    (line : ℕ) → refusal_view r ≡ refusal_at why file line → file ≡ a.file → line ≡ l.number → Rest files (reading a l own log) (Err (refusal_at why a.file l.number)) →
+    Rest files (reading a l own log) (Err (refusal_view r))
 refusal_stands files a l own log r why file line v e n rest =
-    subst (λ x. Rest files a l own log (Err x)) (sym (v ∙ ap (λ f. refusal_at why f line) e ∙ ap (λ k. refusal_at why a.file k) n)) rest
+    subst (λ x. Rest files (reading a l own log) (Err x)) (sym (v ∙ ap (λ f. refusal_at why f line) e ∙ ap (λ k. refusal_at why a.file k) n)) rest
 
 pub step_refused : (files : Files) (a : FileContext) (l : UnreadLines) (own : List (Located Named)) (log : ReadSoFar) (c : LineContext) (file : List ℕ) (r : Refusal)
     → c ≡ context_of a own log → file ≡ a.file → IsStepRefusal files.flat file c l r → IsRestRefusal files a l own log r
@@ -78,17 +59,17 @@ pub ended : (files : Files) (first : List (List ℕ)) (names : List (List ℕ)) 
     (own : List (Located Named)) (log : ReadSoFar) (p : Progress) (f : Frame) → IsState first names a own log p f → l.lines ≡ [] → f.blocks.items ≡ [] →
     IsEnded files first names a l own log p
 ended files first names a l own log p f i e none = record {
-  rest = at_end a l own log e (sym (blocks.blocks_of_located own) ∙ ap (map (λ o. o.block)) (sym i.frame.blocks ∙ ap (map opener_of) none));
+  rest = at_end (reading a l own log) e (sym (blocks.blocks_of_located own) ∙ ap (map (λ o. o.block)) (sym i.frame.blocks ∙ ap (map opener_of) none));
   progress = i.progress;
 }
 
 pub end_refused : (files : Files) (first : List (List ℕ)) (names : List (List ℕ)) (a : FileContext) (l : UnreadLines)
     (own : List (Located Named)) (log : ReadSoFar) (p : Progress) (f : Frame) (r : Refusal) → IsState first names a own log p f → l.lines ≡ [] →
-    IsOpenAtEnd f (refusal_view r) → Rest files a l own log (Err (refusal_view r))
+    IsOpenAtEnd f (refusal_view r) → Rest files (reading a l own log) (Err (refusal_view r))
 end_refused files first names a l own log p f r i e o =
     let found : last_of (openers f) ≡ Some (opener_of o.0) = last_of-map opener_of f.blocks.items ∙ ap (option_map opener_of) o.1 in
     let (opener, is_open, file, line) = blocks.unclosed own (opener_of o.0) (ap last_of (sym i.frame.blocks) ∙ found) in
-    subst (λ x. Rest files a l own log (Err x)) (sym (o.2 ∙ (λ j. refusal_at cause.Block (file j) (line j)))) (unclosed a l own log opener e is_open)
+    subst (λ x. Rest files (reading a l own log) (Err x)) (sym (o.2 ∙ (λ j. refusal_at cause.Block (file j) (line j)))) (unclosed (reading a l own log) opener e is_open)
 
 -- a line without tokens
 pub blank_goes : (files : Files) (first : List (List ℕ)) (names : List (List ℕ)) (a : FileContext) (l m : UnreadLines)
@@ -99,7 +80,7 @@ blank_goes files first names a l m own log p f i n = record {
   own_now = own;
   log_now = log;
   state = i;
-  follows = λ r rest. blank a l m own log r n rest;
+  follows = λ r rest. goes_on (reading a l own log) _ r (blank m n) rest;
 }
 
 -- a marker
@@ -111,7 +92,7 @@ renumbered_goes files first names a l m own log p f n file i e marks = record {
   own_now = own;
   log_now = log;
   state = i;
-  follows = λ r rest. renumbered a l m own log n r (subst (MarksNext files.flat l m n) e marks) rest;
+  follows = λ r rest. goes_on (reading a l own log) _ r (renumbered m n (subst (MarksNext files.flat l m n) e marks)) rest;
 }
 
 pub moved_goes : (files : Files) (first : List (List ℕ)) (names : List (List ℕ)) (a : FileContext) (l m : UnreadLines)
@@ -123,7 +104,7 @@ moved_goes files first names a l m own log p q f g n name file i e marks differs
   own_now = with_line own a l.number (SourceLine name);
   log_now = record log { opened = mention log.opened name };
   state = state_moved first names a own log f g p q l.number name i moves opens;
-  follows = λ r rest. moved a l m own log n name r marks (ap (same_name name) (sym e) ∙ differs) rest;
+  follows = λ r rest. goes_on (reading a l own log) _ r (moved m n name marks (ap (same_name name) (sym e) ∙ differs)) rest;
 }
 
 -- an attribute belongs to the last entry
@@ -146,27 +127,28 @@ statement_goes files first known names a l m own log f g p q s x line i is next 
   state = state_taken first known names a own log f g p q s x line i is t
       (enables (context_of a own log) x (read_suits (context_of a own log) next.tokens x next.reads));
   follows = λ r rest.
-      statement a l m own log x r next (sym (ap (λ z. z.4) (made_shape known names s x is)) ∙ src) (sym (effect_same first known names a own log f p s x i is) ∙ allowed)
-      (subst (λ n. Rest files a m (with_line own a n x) (logged log a n x) r) e rest);
+      goes_on (reading a l own log) _ r
+      (statement m x next (sym (ap (λ z. z.4) (made_shape known names s x is)) ∙ src) (sym (effect_same first known names a own log f p s x i is) ∙ allowed))
+      (subst (λ n. Rest files (reading a m (with_line own a n x) (logged log a n x)) r) e rest);
 }
 
 pub effect_refused : (files : Files) (first : List (List ℕ)) (known names : List (List ℕ)) (a : FileContext) (l m : UnreadLines)
     (own : List (Located Named)) (log : ReadSoFar) (f : Frame) (p : Progress) (s : Statement) (x : Named) (line : ℕ) (file : List ℕ) (why : Cause) (r : Refusal) →
     IsState first known a own log p f → IsMade known names s x → NextStatement files.flat l m (context_of a own log) (Ok x) → line ≡ l.number →
     file ≡ f.file.value.items → limit_view (statement_view s) f p ≡ Some why → refusal_view r ≡ refusal_at why file line →
-    Rest files a l own log (Err (refusal_view r))
+    Rest files (reading a l own log) (Err (refusal_view r))
 effect_refused files first known names a l m own log f p s x line file why r i is next e g effect v =
     refusal_stands files a l own log r why file line v (g ∙ i.frame.file) e
-    (over_limit a l m own log x why next (sym (effect_same first known names a own log f p s x i is) ∙ effect))
+    (refused (reading a l own log) why (over_limit m x why next (sym (effect_same first known names a own log f p s x i is) ∙ effect)))
 
 -- a `source` line
 pub source_refused : (files : Files) (first : List (List ℕ)) (names : List (List ℕ)) (a : FileContext) (l m : UnreadLines)
     (own : List (Located Named)) (log : ReadSoFar) (f : Frame) (p : Progress) (name : List ℕ) (line : ℕ) (file : List ℕ) (why : Cause) (r : Refusal) →
     IsState first names a own log p f → NextStatement files.flat l m (context_of a own log) (Ok (SourceLine name)) → line ≡ l.number → file ≡ f.file.value.items →
-    sourcing_cause files (open_names p) p.total_lines name ≡ Some why → refusal_view r ≡ refusal_at why file line → Rest files a l own log (Err (refusal_view r))
+    sourcing_cause files (open_names p) p.total_lines name ≡ Some why → refusal_view r ≡ refusal_at why file line → Rest files (reading a l own log) (Err (refusal_view r))
 source_refused files first names a l m own log f p name line file why r i next e g bad v =
     refusal_stands files a l own log r why file line v (g ∙ i.frame.file) e
-    (bad_source a l m own log name why next ((λ j. sourcing_cause files (sym i.files j) (sym i.progress.total_lines j) name) ∙ bad))
+    (refused (reading a l own log) why (bad_source m name why next ((λ j. sourcing_cause files (sym i.files j) (sym i.progress.total_lines j) name) ∙ bad)))
 
 source_allowed : (files : Files) (first : List (List ℕ)) (names : List (List ℕ)) (a : FileContext) (own : List (Located Named))
     (log : ReadSoFar) (f : Frame) (p : Progress) (name : List ℕ) → IsState first names a own log p f →
@@ -178,7 +160,9 @@ pub inside_refused : (files : Files) (first : List (List ℕ)) (names : List (Li
     NextStatement files.flat l m (context_of a own log) (Ok (SourceLine name)) → sourcing_cause files (open_names p) p.total_lines name ≡ None → sourced files name ≡ Some bytes →
     IsRestRefusal files (inside a own name) (unread_lines bytes 1) [] (with_file log name bytes) r → IsRestRefusal files a l own log r
 inside_refused files first names a l m own log f p name bytes r i next allowed found inner ne =
-    refused_inside a l m own log name bytes (refusal_view r) next (source_allowed files first names a own log f p name i allowed) found (inner ne)
+    refused_inside (reading a l own log)
+    (record { after = m; name = name; bytes = bytes; next = next; allowed = source_allowed files first names a own log f p name i allowed; found = found })
+    (refusal_view r) (inner ne)
 
 pub source_goes : (files : Files) (first : List (List ℕ)) (known names : List (List ℕ)) (a : FileContext) (l m : UnreadLines)
     (own : List (Located Named)) (log : ReadSoFar) (f g : Frame) (p q done : Progress) (name bytes : List ℕ) (line : ℕ) → IsState first known a own log p f →
@@ -208,15 +192,16 @@ source_goes files first known names a l m own log f g p q done name bytes line i
     goes_on = λ e. absurd (let none : is_entry entry.Nothing ≡ true = subst (λ k. is_entry k ≡ true) (no_entry a own line name) e in cc);
   };
   follows = λ r rest.
-      source a l m own log inner.log_now name bytes r next (source_allowed files first known a own log f p name i allowed) found inner.rest
-      (subst (λ n. Rest files a m (with_line own a n (SourceLine name)) inner.log_now r) e rest);
+      source (reading a l own log)
+      (record { after = m; name = name; bytes = bytes; next = next; allowed = source_allowed files first known a own log f p name i allowed; found = found })
+      inner.log_now r inner.rest (subst (λ n. Rest files (reading a m (with_line own a n (SourceLine name)) inner.log_now) r) e rest);
 }
 
 -- one line after another
-pub goes_on : (files : Files) (first : List (List ℕ)) (mid names : List (List ℕ)) (a : FileContext) (k l m : UnreadLines) (log : ReadSoFar)
+pub lines_go_on : (files : Files) (first : List (List ℕ)) (mid names : List (List ℕ)) (a : FileContext) (k l m : UnreadLines) (log : ReadSoFar)
     (p q : Progress) (f g : Frame) (h : HasAdvanced files first mid a k l [] log p f) →
     HasAdvanced files first names h.context_now l m h.own_now h.log_now q g → HasAdvanced files first names a k m [] log q g
-goes_on files first mid names a k l m log p q f g h n = record {
+lines_go_on files first mid names a k l m log p q f g h n = record {
   context_now = n.context_now;
   own_now = n.own_now;
   log_now = n.log_now;

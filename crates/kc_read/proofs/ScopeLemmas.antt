@@ -1,17 +1,10 @@
 -- The scope of a place.
-use Rattle.std.proofs.Common.{◌≡◌, ℕ, Bool, true, false, cond, if◌then◌else◌, List, [], ◌∷◌, ◌++◌, filter, Some, refl, ap, ◌∙◌}
-use Rattle.std.specs.List.{flat_map}
-use Rattle.std.specs.Prelude.{option_map}
-use Rattle.std.proofs.lemmas.List.{append-nil}
-use Rattle.std.proofs.lemmas.List.Elements.{filter-append}
-use Rattle.std.proofs.lemmas.Grind.{flat_map-append}
-use Rattle.kc_language.specs.Expressions.{Form}
+use Rattle.std.proofs.{Common.{Bool, List, Some, [], ap, cond, false, filter, if◌then◌else◌, refl, true, ℕ, ◌++◌, ◌∙◌, ◌∷◌, ◌≡◌}, lemmas.{Grind.flat_map-append, List.{Elements.filter-append, append-nil}}}
+use Rattle.std.specs.{List.flat_map, Prelude.option_map}
+use Rattle.kc_language.specs.{Expansion.last_of, Expressions.Form, Statements.Numbered, Symbols.{block_conjuncts, choice_number, of_block, own_visible}}
 use Rattle.kc_language.specs.declared.statements.Block.TheVariants as block
-use Rattle.kc_language.specs.Statements.{Numbered}
-use Rattle.kc_language.specs.Expansion.{last_of}
-use Rattle.kc_language.specs.Symbols.{of_block, block_conjuncts, own_visible, choice_number}
 use Rattle.kc_read.specs.Scopes.{Scope, block_visible, scope_of_block}
-use Rattle.kc_read.proofs.EnclosingLemmas.{last-snoc}
+use Rattle.kc_entries.proofs.EnclosingLemmas.{last-snoc}
 
 module _ (ss : List Numbered) where
   abbrev pub scope_by : List ℕ → Scope

@@ -1,18 +1,10 @@
 -- What a statement does, whether its names are written or numbered.
-use Rattle.std.proofs.Common.{◌≡◌, ℕ, ◌+◌, Bool, List, length, Option, Some, None, option_map, refl, ap, ◌∙◌}
+use Rattle.std.proofs.Common.{Bool, List, None, Option, Some, ap, length, option_map, refl, ℕ, ◌+◌, ◌∙◌, ◌≡◌}
 use Rattle.std.specs.Option.{option_or}
-use Rattle.kc_language.specs.Expressions.{symbol, number_of}
-use Rattle.kc_language.specs.declared.statements.EntryKind.{EntryKind}
-use Rattle.kc_read.specs.declared.statement.Statement.{Statement}
-use Rattle.kc_language.specs.Expansion.{Bracket, bracket, is_attribute, is_modules, entry_of, defined_name, open_blocks, FileContext, ReadSoFar, limit_cause}
-use Rattle.kc_read.specs.PartsOfExpansion.{is_source}
-use Rattle.kc_read.specs.PartsOfExpansion.{defined, nesting_cause, symbol_cause}
-use Rattle.kc_read.specs.Progress.{naming_cause}
-use Rattle.kc_read.specs.Expanded.{IsNamed}
-use Rattle.kc_read.specs.StatementViews.{statement_view}
-use Rattle.kc_read.specs.LineReads.{IsMade}
+use Rattle.kc_language.specs.{Expansion.{Bracket, FileContext, ReadSoFar, bracket, defined_name, entry_of, is_attribute, is_modules, limit_cause, open_blocks}, Expressions.{number_of, symbol}, Statements.{ChoiceLine, CommentLine, ConfigLine, DefLine, DefaultLine, DependsLine, EndChoiceLine, EndIfLine, EndMenuLine, HelpLine, IfLine, IgnoredLine, ImplyLine, Located, MainMenuLine, MenuLine, ModulesLine, Named, PromptLine, RangeLine, SelectLine, SourceLine, TypeLine, VisibleLine, numbered, statements}, declared.statements.EntryKind.EntryKind}
+use Rattle.kc_entries.specs.{PartsOfExpansion.{defined, is_source, nesting_cause, symbol_cause}, StatementViews.statement_view, declared.statement.Statement.Statement}
+use Rattle.kc_read.specs.{Expanded.IsNamed, LineReads.IsMade, Progress.naming_cause}
 use Rattle.kc_language.specs.Statements as s
-use Rattle.kc_language.specs.Statements.{Named, Located, numbered, ConfigLine, IfLine, EndIfLine, CommentLine, SourceLine, MenuLine, EndMenuLine, ChoiceLine, EndChoiceLine, MainMenuLine, TypeLine, PromptLine, DefaultLine, DefLine, DependsLine, VisibleLine, SelectLine, ImplyLine, RangeLine, HelpLine, ModulesLine, IgnoredLine, statements}
 use Rattle.kc_read.proofs.NameLemmas.{extends_none, is_named}
 
 -- the bracket, whether it is an attribute, the entry that it begins, whether it is a `modules` line, and a `source` line

@@ -1,22 +1,9 @@
 -- Each defined symbol has an entry.
-use Rattle.std.proofs.Common.{◌≡◌, ℕ, zero, suc, ◌<◌, Bool, true, false, not, if◌then◌else◌, List, [], ◌∷◌, ◌++◌, length, filter, map, Option, Some, None, refl, ap, sym, ◌∙◌, arith, add-one, inl, inr}
-use Rattle.std.specs.Prelude.{Contains}
-use Rattle.std.specs.List.{slice_get, filter_map, cons_option}
-use Rattle.std.proofs.lemmas.Bool.{cases_eq, eq-eqb, true≢false}
-use Rattle.std.proofs.lemmas.List.Sums.{length-filter}
-use Rattle.kc_language.specs.declared.expressions.SymId.{SymId}
-use Rattle.kc_language.specs.Expansion.{numbers}
-use Rattle.kc_language.specs.Statements.{Numbered, Located, ConfigLine, statements}
-use Rattle.kc_tree.specs.TreeFacts.{ShowsEach}
-use Rattle.kc_language.specs.Symbols.{SymbolShown, is_symbol_of, shown_at, is_first_definition, indices, symbol_at, facts_with}
-use Rattle.kc_read.specs.PartsOfSymbols.{entries}
-use Rattle.kc_read.specs.PartsOfSymbols.{symbol_of}
-use Rattle.kc_read.proofs.ElementLemmas.{kept_at, same_is}
-use Rattle.kc_read.specs.ListFacts.{defined_before}
-use Rattle.kc_read.proofs.FirstLemmas.{first-is, some_places}
-use Rattle.kc_read.proofs.PlaceLemmas.{front_get}
-use Rattle.kc_read.proofs.PlaceLemmas.{filter-next, get-map_numbers}
-use Rattle.kc_read.proofs.SymbolListLemmas.{defined_line}
+use Rattle.std.proofs.{Common.{Bool, List, None, Option, Some, [], add-one, ap, arith, false, filter, if◌then◌else◌, inl, inr, length, map, not, refl, suc, sym, true, zero, ℕ, ◌++◌, ◌<◌, ◌∙◌, ◌∷◌, ◌≡◌}, lemmas.{Bool.{cases_eq, eq-eqb, true≢false}, List.Sums.length-filter}}
+use Rattle.std.specs.{List.{cons_option, filter_map, slice_get}, Prelude.Contains}
+use Rattle.kc_language.specs.{Expansion.numbers, Statements.{ConfigLine, Located, Numbered, statements}, Symbols.{SymbolShown, facts_with, indices, is_first_definition, is_symbol_of, shown_at, symbol_at}, declared.expressions.SymId.SymId}
+use Rattle.kc_entries.specs.{ListFacts.defined_before, PartsOfSymbols.{entries, symbol_of}, WellFormed.ShowsEach}
+use Rattle.kc_entries.proofs.{ElementLemmas.{kept_at, same_is}, FirstLemmas.{first-is, some_places}, PlaceLemmas.{filter-next, front_get, get-map_numbers}, SymbolListLemmas.defined_line}
 
 -- what is given for one element is among what is given for all
 module _ {X Y : Type 0} (f : X → Option Y) where

@@ -1,16 +1,10 @@
 -- What conditions name is there.
-use Rattle.std.proofs.Common.{◌≡◌, ℕ, zero, suc, ◌<◌, ◌≤◌, Bool, true, false, if◌then◌else◌, List, [], ◌∷◌, ◌++◌, length, take, filter, Option, Some, None, refl, ap, sym, ◌∙◌, arith}
+use Rattle.std.proofs.{Common.{Bool, List, None, Option, Some, [], ap, arith, false, filter, if◌then◌else◌, length, refl, suc, sym, take, true, zero, ℕ, ◌++◌, ◌<◌, ◌∙◌, ◌∷◌, ◌≡◌, ◌≤◌}, lemmas.List.{Elements.filter-append, append-nil}}
 use Rattle.std.specs.Prelude.{option_map}
-use Rattle.std.proofs.lemmas.List.{append-nil}
-use Rattle.std.proofs.lemmas.List.Elements.{filter-append}
 use Rattle.kc_language.specs.declared.statements.Block.TheVariants as block
-use Rattle.kc_language.specs.Statements.{Numbered}
-use Rattle.kc_language.specs.Expansion.{numbers, last_of, enclosing}
-use Rattle.kc_read.specs.PartsOfExpansion.{is_open}
-use Rattle.kc_language.specs.Symbols.{of_block, choice_number, enclosing_choice}
-use Rattle.kc_read.specs.PartsOfSymbols.{choices}
-use Rattle.kc_read.proofs.EnclosingLemmas.{last-snoc}
-use Rattle.kc_read.proofs.ChoiceLemmas.{fewer_before, so_many}
+use Rattle.kc_language.specs.{Expansion.{enclosing, last_of, numbers}, Statements.Numbered, Symbols.{choice_number, enclosing_choice, of_block}}
+use Rattle.kc_entries.specs.{PartsOfExpansion.is_open, PartsOfSymbols.choices}
+use Rattle.kc_entries.proofs.{ChoiceLemmas.{fewer_before, so_many}, EnclosingLemmas.last-snoc}
 
 -- the last of the numbers below m that pass two tests
 last_step : (p q : ℕ → Bool) (m j : ℕ) (a b : Bool) → q m ≡ a → p m ≡ b → (last_of (filter p (filter q (numbers m))) ≡ Some j → (p j ≡ true) × (j < m)) →

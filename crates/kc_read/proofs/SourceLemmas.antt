@@ -1,27 +1,14 @@
 -- The names of a file's `source` lines, one line after another.
-use Rattle.std.proofs.Common.{IfOk, ◌≡◌, ◌≢◌, ℕ, ◌<◌, Bool, true, false, cond, List, [], ◌∷◌, ◌++◌, map, length, drop, codes, Option, Some, None, MatchOption, Result, Ok, Err, refl, sym, ap, ◌∙◌, subst, append_assoc}
-use Rattle.kc_language.specs.declared.tokens.TextFault.{TextFault}
+use Rattle.std.proofs.Common.{Bool, Err, IfOk, List, MatchOption, None, Ok, Option, Result, Some, [], ap, append_assoc, codes, cond, drop, false, length, map, refl, subst, sym, true, ℕ, ◌++◌, ◌<◌, ◌∙◌, ◌∷◌, ◌≡◌, ◌≢◌}
+use Rattle.kc_language.specs.{Expansion.{NextLine, SourceNames, without_help}, Lines.{TakesLine, UnreadLines}, Statements.{Cause, ReadsSource, SourceLine, begins_with}, Tokens.{IsCutIn, Lexeme}, declared.tokens.TextFault.TextFault}
 use Rattle.kc_language.specs.declared.tokens.TextFault.TheVariants as fault
-use Rattle.kc_text.specs.declared.tokens.Token.{Token}
-use Rattle.kc_language.specs.Lines.{UnreadLines, TakesLine}
-use Rattle.kc_text.specs.Lines.{IsLineFault}
-use Rattle.kc_language.specs.Tokens.{Lexeme, IsCutIn}
-use Rattle.kc_text.specs.Lexemes.{lexemes}
-use Rattle.kc_text.specs.Tokens.{IsCutting, IsRefused}
-use Rattle.kc_read.specs.LineReads.{lexemes_from}
-use Rattle.kc_language.specs.Expansion.{NextLine, without_help, SourceNames}
-use Rattle.kc_read.specs.PartsOfExpansion.{is_help}
-use Rattle.kc_language.specs.Statements.{Cause, ReadsSource, begins_with, SourceLine}
-use Rattle.kc_read.specs.SourceSteps.{HasMoreLines, IsFound}
-use Rattle.kc_read.proofs.FrontLemmas.{after_one}
-use Rattle.std.specs.declared.alloc.AllocError.{AllocError}
-use Rattle.kc_read.proofs.ListLemmas.{map-push}
-use Rattle.kc_read.proofs.RestLemmas.{next_clear, next_less}
-use Rattle.kc_read.proofs.SourceLines.{bad_source, before_other, before_source, no_tokens, too_long}
-use Rattle.kc_read.specs.declared.sources.NextSource.{NextSource}
+use Rattle.kc_text.specs.{Lexemes.lexemes, Lines.IsLineFault, Tokens.{IsCutting, IsRefused}, declared.tokens.Token.Token}
+use Rattle.kc_read.specs.{LineReads.lexemes_from, SourceSteps.{HasMoreLines, IsFound}, declared.sources.NextSource.NextSource}
+use Rattle.kc_entries.specs.PartsOfExpansion.{is_help}
+use Rattle.kc_read.proofs.{FrontLemmas.after_one, RestLemmas.{next_clear, next_less}, SourceLines.{bad_source, before_other, before_source, no_tokens, too_long}}
+use Rattle.std.specs.declared.{alloc.{AllocError.AllocError, Global.Global}, vec.Vec.Vec}
+use Rattle.kc_entries.proofs.ListLemmas.{map-push}
 use Rattle.kc_read.specs.declared.sources.NextSource.TheVariants as found
-use Rattle.std.specs.declared.vec.Vec.{Vec}
-use Rattle.std.specs.declared.alloc.Global.{Global}
 
 pub cause_none : (o : Option TextFault) (P : Type 0) (Q : TextFault → Type 0) → o ≡ None → MatchOption o P Q → P
 cause_none None P Q e h = h

@@ -1,15 +1,9 @@
 -- The `source` lines along a file: the first of them, and so the list of their names, is one.
-use Rattle.std.proofs.Common.{◌≡◌, ℕ, true, false, List, [], ◌∷◌, Some, None, Ok, Err, refl, sym, ap, ◌∙◌, subst, arith, codes, drop, length}
-use Rattle.std.proofs.lemmas.Bool.{both_ways}
-use Rattle.kc_language.specs.declared.tokens.TextFault.{TextFault}
-use Rattle.kc_language.specs.Lines.{UnreadLines, IsTooLong}
-use Rattle.kc_language.specs.Tokens.{Lexeme}
-use Rattle.kc_text.proofs.Joins.{takes_less, taken_is_short}
-use Rattle.kc_language.specs.Expansion.{NextLine, IsSource, SourceNames, Passes, here, past, none, next}
-use Rattle.kc_read.specs.PartsOfExpansion.{IsOther}
-use Rattle.kc_language.specs.Statements.{Cause, ReadsSource, begins_with, SourceLine}
-use Rattle.kc_read.proofs.OneExpansion.{one_name, one_next, source_line}
-use Rattle.kc_read.proofs.OneLine.{one_source}
+use Rattle.std.proofs.{Common.{Err, List, None, Ok, Some, [], ap, arith, codes, drop, false, length, refl, subst, sym, true, ℕ, ◌∙◌, ◌∷◌, ◌≡◌}, lemmas.Bool.both_ways}
+use Rattle.kc_language.specs.{Expansion.{IsSource, NextLine, Passes, SourceNames, here, next, none, past}, Lines.{IsTooLong, UnreadLines}, Statements.{Cause, ReadsSource, SourceLine, begins_with}, Tokens.Lexeme, declared.tokens.TextFault.TextFault}
+use Rattle.kc_text.proofs.Joins.{taken_is_short, takes_less}
+use Rattle.kc_entries.specs.PartsOfExpansion.{IsOther}
+use Rattle.kc_read.proofs.{OneExpansion.{one_name, one_next, source_line}, OneLine.one_source}
 
 -- ---- Lines that no name follows
 

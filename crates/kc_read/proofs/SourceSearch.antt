@@ -1,10 +1,6 @@
 -- What a search for lines that begin with `source`, or end with a `\`, says as far as it has come.
-use Rattle.std.proofs.Common.{◌≡◌, inl, inr, ℕ, suc, ◌+◌, ◌-◌, ◌<◌, ◌≤◌, true, false, eqb, List, [], ◌∷◌, ◌++◌, length, take, drop, get_or, codes, refl, sym, ap, ◌∙◌, subst, append_assoc, length-append, length-drop, get_or-drop, arith}
-use Rattle.std.proofs.lemmas.Bool.{both_ways, cases_lt, cases_order, eq-eqb}
-use Rattle.std.proofs.lemmas.List.{get_or-append-add, get_or_append_left, take-append-drop, take_more}
-use Rattle.std.proofs.Math.Seq.{get_or-append_seam, take-append_seam, drop-append_seam, take-length}
-use Rattle.bstr.specs.Bytes.{not_in}
-use Rattle.bstr.specs.Find.{NoneAfter, Nowhere, OccursAt, Passes, is_byte}
+use Rattle.std.proofs.{Common.{List, [], ap, append_assoc, arith, codes, drop, eqb, false, get_or, get_or-drop, inl, inr, length, length-append, length-drop, refl, subst, suc, sym, take, true, ℕ, ◌++◌, ◌+◌, ◌-◌, ◌<◌, ◌∙◌, ◌∷◌, ◌≡◌, ◌≤◌}, Math.Seq.{drop-append_seam, get_or-append_seam, take-append_seam, take-length}, lemmas.{Bool.{both_ways, cases_lt, cases_order, eq-eqb}, List.{get_or-append-add, get_or_append_left, take-append-drop, take_more}}}
+use Rattle.bstr.specs.{Bytes.not_in, Find.{NoneAfter, Nowhere, OccursAt, Passes, is_byte}}
 use Rattle.kc_language.specs.Tokens.{is_blank}
 use Rattle.kc_text.proofs.Blanks.{blanks, fails_not, not_in_is, passes_not}
 use Rattle.kc_read.specs.QuietFiles.{BeginsLine, EndsLine}

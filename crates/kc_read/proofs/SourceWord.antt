@@ -1,21 +1,12 @@
 -- The lines that begin with the word `source`, and no others, are `source` lines.
-use Rattle.std.proofs.Common.{◌≡◌, ◌||◌, not, sym, inl, inr, ℕ, Bool, true, false, cond, List, [], ◌∷◌, drop, codes, Option, Some, None, Result, Ok, Err, refl, ap, ◌∙◌, subst}
-use Rattle.std.proofs.lemmas.Bool.{cases_Bool}
+use Rattle.std.proofs.{Common.{Bool, Err, List, None, Ok, Option, Result, Some, [], ap, codes, cond, drop, false, inl, inr, not, refl, subst, sym, true, ℕ, ◌||◌, ◌∙◌, ◌∷◌, ◌≡◌}, lemmas.Bool.cases_Bool}
 use Rattle.std.specs.List.{list_all}
-use Rattle.kc_read.proofs.KeywordLemmas.{both}
-use Rattle.kc_language.specs.Tokens.{Lexeme, AWord, AQuoted, AnOp}
-use Rattle.kc_language.specs.declared.expressions.SymbolType.{SymbolType}
+use Rattle.kc_read.proofs.{FileLemmas.same_name_eq, KeywordLemmas.both, OneExpansion.source_line}
+use Rattle.kc_language.specs.{Expressions.{Disjunction, if_word, same_name}, Statements.{After, Cause, CommentLine, ConfigLine, DefLine, DefaultLine, DependsLine, EndChoiceLine, EndIfLine, EndMenuLine, HelpLine, IfLine, IgnoredLine, ImplyLine, InputPrompt, LineContext, MainMenuLine, MenuLine, ModulesLine, Named, PromptLine, RangeLine, ReadsCondition, ReadsLine, ReadsPrompt, ReadsRest, ReadsSource, ReadsTextLine, ReadsValue, ReadsWhole, SelectLine, SourceLine, TypeLine, VisibleLine, begins_with, finish, in_place, is_good_name, keyword_of, keyword_or_refusal, keyword_words, named_target, operand_of, option_line, placement_cause, text_of, word_of}, Tokens.{AQuoted, AWord, AnOp, Lexeme}, declared.{expressions.SymbolType.SymbolType, statements.Keyword.Keyword}}
 use Rattle.kc_language.specs.declared.expressions.SymbolType.TheVariants as symbol_type
-use Rattle.kc_language.specs.Expressions.{Disjunction, if_word, same_name}
-use Rattle.kc_language.specs.declared.statements.Keyword.{Keyword}
 use Rattle.kc_language.specs.declared.statements.Keyword.TheVariants as key
-use Rattle.kc_language.specs.Statements.{Named, InputPrompt, IfLine, EndIfLine, CommentLine, SourceLine, MenuLine, EndMenuLine, EndChoiceLine, MainMenuLine, TypeLine, PromptLine, DefaultLine, DefLine, DependsLine, VisibleLine, SelectLine, ImplyLine, RangeLine, HelpLine, ModulesLine, ConfigLine, IgnoredLine, Cause, LineContext, After, ReadsWhole, ReadsCondition, ReadsTextLine, ReadsSource, ReadsPrompt, ReadsValue, ReadsRest, ReadsLine, finish, text_of, word_of, named_target, operand_of, is_good_name, option_line, keyword_of, keyword_words, placement_cause, begins_with}
-use Rattle.kc_read.specs.PartsOfStatements.{ReadsConfig, ReadsType, ReadsTarget, choice_line, expected}
-use Rattle.kc_language.specs.Statements.{keyword_or_refusal, in_place}
-use Rattle.kc_read.specs.PartsOfStatements.{ReadsRange, ReadsPlaced, good_name, keyword_in}
+use Rattle.kc_entries.specs.PartsOfStatements.{ReadsConfig, ReadsPlaced, ReadsRange, ReadsTarget, ReadsType, choice_line, expected, good_name, keyword_in}
 use Rattle.kc_language.specs.declared.diagnostics.Cause.TheVariants as cause
-use Rattle.kc_read.proofs.FileLemmas.{same_name_eq}
-use Rattle.kc_read.proofs.OneExpansion.{source_line}
 
 -- ---- The word
 

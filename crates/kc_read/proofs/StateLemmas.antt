@@ -1,36 +1,14 @@
 -- What is remembered, one statement after another.
-use Rattle.std.proofs.Common.{◌≡◌, ℕ, ◌+◌, Bool, true, false, cond, ◌||◌, List, [], ◌∷◌, ◌++◌, map, filter, length, Option, Some, None, option_map, Result, Err, refl, sym, ap, ◌∙◌, subst, append-nil, length-append, arith}
-use Rattle.std.specs.Prelude.{is_some}
-use Rattle.std.specs.List.{cons_option, flat_map, list_any}
-use Rattle.std.specs.Option.{option_or}
-use Rattle.std.proofs.Math.ListN.{length-map}
-use Rattle.std.proofs.lemmas.Simd.{map-map}
-use Rattle.std.proofs.lemmas.Grind.{flat_map-append}
-use Rattle.std.proofs.lemmas.List.Elements.{filter-append, filter_map-append}
-use Rattle.std.proofs.lemmas.List.Folds.{list_any-append}
-use Rattle.kc_language.specs.Expressions.{all_mentioned, mention, number_of, symbol}
+use Rattle.std.proofs.{Common.{Bool, Err, List, None, Option, Result, Some, [], ap, append-nil, arith, cond, false, filter, length, length-append, map, option_map, refl, subst, sym, true, ℕ, ◌++◌, ◌+◌, ◌||◌, ◌∙◌, ◌∷◌, ◌≡◌}, Math.ListN.length-map, lemmas.{Grind.flat_map-append, List.{Elements.{filter-append, filter_map-append}, Folds.list_any-append}, Simd.map-map}}
+use Rattle.std.specs.{List.{cons_option, flat_map, list_any}, Option.option_or, Prelude.is_some}
+use Rattle.kc_language.specs.{Expansion.{Expands, FileContext, Files, ReadSoFar, Refused, Rest, at_root, bracket, bytes_cause, context_of, defined_name, definitions, entry_of, first_log, inside, is_attribute, is_choice_block, is_modules, is_no_attribute, last_of, limit_cause, modules_of, open_blocks, refusal_at, with_file, with_line}, Expressions.{all_mentioned, mention, number_of, symbol}, Lines.unread_lines, Statements.{Cause, ConfigLine, LineContext, Located, Named, Numbered, SourceLine, is_config, names_in_statement, statements}}
 use Rattle.kc_expr.specs.Names.{Extends}
-use Rattle.kc_expr.proofs.NamesLemmas.{extends_on, mentioned_on, mentioned_extends, all_mentioned-append}
+use Rattle.kc_expr.proofs.NamesLemmas.{all_mentioned-append, extends_on, mentioned_extends, mentioned_on}
 use Rattle.kc_language.specs.declared.statements.EntryKind.TheVariants as entry
-use Rattle.kc_read.specs.PartsOfStatements.{is_entry}
-use Rattle.kc_read.specs.declared.frame.Frame.{Frame}
-use Rattle.kc_read.specs.declared.progress.Progress.{Progress}
-use Rattle.kc_read.specs.declared.statement.Statement.{Statement}
-use Rattle.kc_language.specs.Expansion.{bracket, definitions, entry_of, is_attribute, is_modules, is_no_attribute, last_of, modules_of, defined_name, open_blocks, FileContext, ReadSoFar, Rest, context_of, limit_cause, first_log, inside, is_choice_block, with_file, with_line, Expands, Refused, bytes_cause, refusal_at, Files}
-use Rattle.kc_read.specs.PartsOfExpansion.{lines_of, logged, root_context}
-use Rattle.kc_read.specs.PartsOfExpansion.{last_no_attribute, nesting_cause, defined, located_numbered}
-use Rattle.kc_read.proofs.ModulesLemmas.{marked_push, modules_of_push}
-use Rattle.kc_language.specs.Statements.{Cause, LineContext, is_config, Numbered, Located, Named, ConfigLine, SourceLine, names_in_statement, statements}
-use Rattle.kc_language.specs.Lines.{unread_lines}
-use Rattle.kc_read.specs.Progress.{limit_view, IsEntered, IsFrame, IsMarkedOpened, IsMovedFrame, IsSourcedFrame, IsProgress, IsState, IsTaken, IsBegun, defined_after, entry_after, ids_match, open_blocks_after, opener_of, openers}
-use Rattle.kc_read.specs.Expanded.{IsNamed}
-use Rattle.kc_read.specs.Entries.{lines_in, IsLastFile}
-use Rattle.kc_read.specs.StatementViews.{statement_view}
-use Rattle.kc_read.specs.LineReads.{IsMade}
-use Rattle.kc_read.proofs.BlockLemmas.{blocks_of_located, located_blocks_push}
-use Rattle.kc_read.proofs.ListLemmas.{last_of-map, last_of-push, list_any-map, map-push}
-use Rattle.kc_read.proofs.NameLemmas.{defining_same, match_same, named_if, named_later, named_or, numbers_after}
-use Rattle.kc_read.proofs.ShapeLemmas.{effect_by, made_name, made_shape, shape}
+use Rattle.kc_entries.specs.{Entries.{IsLastFile, lines_in}, PartsOfExpansion.{defined, last_no_attribute, lines_of, located_numbered, logged, nesting_cause, root_context}, PartsOfStatements.is_entry, StatementViews.statement_view, declared.statement.Statement.Statement}
+use Rattle.kc_read.specs.{Expanded.IsNamed, LineReads.IsMade, Progress.{IsBegun, IsEntered, IsFrame, IsMarkedOpened, IsMovedFrame, IsProgress, IsSourcedFrame, IsState, IsTaken, defined_after, entry_after, ids_match, limit_view, open_blocks_after, opener_of, openers}, declared.{frame.Frame.Frame, progress.Progress.Progress}}
+use Rattle.kc_read.proofs.{BlockLemmas.{blocks_of_located, located_blocks_push}, ModulesLemmas.{marked_push, modules_of_push}, NameLemmas.{defining_same, match_same, named_if, named_later, named_or, numbers_after}, ShapeLemmas.{effect_by, made_name, made_shape, shape}}
+use Rattle.kc_entries.proofs.ListLemmas.{last_of-map, last_of-push, list_any-map, map-push}
 
 abbrev ranked : FileContext → ℕ → Named → Located Named
 ranked a n x = record { file = a.file; line = n; statement = x }
@@ -292,7 +270,7 @@ state_begun files names root bytes total_lines f p b c = record {
 }
 
 pub expands_read : (files : Files) (root bytes : List ℕ) (r : Result ReadSoFar Refused) → bytes_cause root 0 (files.bytes root) ≡ None → files.bytes root ≡ Some bytes →
-    Rest files (root_context root) (unread_lines bytes 1) [] (first_log files root bytes) r → Expands files root r
+    Rest files (at_root files root bytes) r → Expands files root r
 expands_read files root bytes r allowed found rest = rw allowed (bytes, found, rest)
 
 pub expands_refused : (files : Files) (root : List ℕ) (why : Cause) (e : Refused) → bytes_cause root 0 (files.bytes root) ≡ Some why → e ≡ refusal_at why root 0 → Expands files root (Err e)

@@ -1,26 +1,14 @@
 -- The next line of a file.
-use Rattle.std.proofs.Common.{◌≡◌, ◌≢◌, ℕ, Bool, true, false, cond, List, [], ◌∷◌, codes, Some, None, Result, Err, refl, sym, ap, ◌∙◌, subst}
+use Rattle.std.proofs.Common.{Bool, Err, List, None, Result, Some, [], ap, codes, cond, false, refl, subst, sym, true, ℕ, ◌∙◌, ◌∷◌, ◌≡◌, ◌≢◌}
 use Rattle.std.specs.Prelude.{MatchOption}
-use Rattle.kc_language.specs.declared.tokens.TextFault.{TextFault}
+use Rattle.kc_language.specs.{Expansion.{NextLine, NextStatement, refusal_at, text_cause, without_help}, Lines.{TakesLine, UnreadLines, after_help}, Statements.{Cause, LineContext, Named, ReadsLine, begins_with}, Tokens.{IsCutIn, Lexeme}, declared.tokens.TextFault.TextFault}
 use Rattle.kc_language.specs.declared.tokens.TextFault.TheVariants as fault
-use Rattle.kc_language.specs.Lines.{UnreadLines, TakesLine, after_help}
-use Rattle.kc_text.specs.Lines.{IsLineFault}
-use Rattle.kc_text.specs.Help.{Drops}
-use Rattle.kc_language.specs.Tokens.{IsCutIn, Lexeme}
-use Rattle.kc_text.specs.Tokens.{IsCutting, IsRefused}
-use Rattle.kc_read.specs.declared.refusal.Refusal.{Refusal}
+use Rattle.kc_text.specs.{Help.Drops, Lexemes.lexemes, Lines.IsLineFault, Tokens.{IsCutting, IsRefused}, declared.tokens.Token.Token}
+use Rattle.kc_read.specs.{LineReads.{IsFault, LineFault, cause_of, lexemes_from}, NextStep.{IsMarked, IsStep, IsStepRefusal, StepFault, long_line, no_tokens, refused_line, too_long}, RefusalView.{out_of_memory, refusal_view}, declared.{refusal.Refusal.Refusal, step.Step.Step}}
 use Rattle.kc_diagnostics.proofs.CauseLemmas.{no_other_memory}
 use Rattle.kc_language.specs.declared.diagnostics.Cause.TheVariants as cause
-use Rattle.kc_language.specs.Statements.{Named, Cause, LineContext, begins_with, ReadsLine}
-use Rattle.kc_read.specs.LineReads.{LineFault, IsFault, cause_of, lexemes_from}
-use Rattle.kc_read.specs.RefusalView.{out_of_memory, refusal_view}
-use Rattle.kc_read.specs.NextStep.{IsMarked, IsStep, IsStepRefusal, StepFault, too_long, no_tokens, refused_line, long_line}
-use Rattle.kc_text.specs.Lexemes.{lexemes}
-use Rattle.kc_text.specs.declared.tokens.Token.{Token}
-use Rattle.kc_language.specs.Expansion.{without_help, NextLine, NextStatement, refusal_at, text_cause}
-use Rattle.kc_read.specs.declared.step.Step.{Step}
 use Rattle.kc_read.specs.declared.step.Step.TheVariants as step
-use Rattle.kc_read.specs.PartsOfExpansion.{is_help}
+use Rattle.kc_entries.specs.PartsOfExpansion.{is_help}
 use Rattle.kc_read.proofs.SourceLemmas.{cause_none}
 
 pub help_first : (ls : List Lexeme) (b : Bool) → b ≡ begins_with (codes "help") ls → b ≡ true → b ≡ is_help ls

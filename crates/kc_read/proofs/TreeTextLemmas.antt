@@ -1,19 +1,9 @@
 -- The texts of a tree are those of the expanded list.
-use Rattle.std.proofs.Common.{◌≡◌, ℕ, suc, Bool, true, false, ◌==◌, if◌then◌else◌, List, [], ◌∷◌, ◌++◌, length, drop, map, Option, Some, None, refl, ap, subst, arith, codes}
-use Rattle.std.specs.Prelude.{All, option_map}
-use Rattle.std.specs.List.{slice_get, list_any, filter_map, flat_map, prefix_len}
-use Rattle.std.specs.Option.{unwrap_or, IfSome}
-use Rattle.std.proofs.lemmas.List.Elements.{All-nil, All-cons, All-head, All-tail, All-append, All-push, All-take, All-drop, All-map, All-contains, All-from_recursion}
-use Rattle.kc_language.specs.declared.expressions.SymId.{SymId}
-use Rattle.kc_language.specs.Expressions.{Form, all_mentioned, mention, number_of, same_name, symbol}
-use Rattle.kc_language.specs.Expansion.{attributes, is_attribute, last_of, numbers, mentioned_names, numbered_lines}
-use Rattle.kc_read.specs.PartsOfExpansion.{located_numbered}
-use Rattle.kc_language.specs.Statements.{Named, Numbered, Located, ConfigLine, CommentLine, MenuLine, EndMenuLine, MainMenuLine, DefaultLine, DefLine, numbered, names_in_statement, statements}
-use Rattle.kc_language.specs.Symbols.{TreeFacts, SymbolFacts, Guarded, Shown, SymbolShown, MenuShown, EndShown, CommentShown, StatedDefault, definitions_of, dependency, shown_at, stated_default, is_first_definition, indices, symbol_facts, facts_with}
-use Rattle.kc_read.specs.PartsOfSymbols.{shown_number}
-use Rattle.kc_read.specs.PartsOfSymbols.{guarded_default, defaults_at, enclosing_block, shown_when, title_of}
-use Rattle.kc_tree.specs.TreeFacts.{HasLineTexts, IsLineText, IsLineForm, OfTitle}
-use Rattle.kc_read.proofs.ElementLemmas.{All-at, All-cons_option, All-flat_map, All-map_each, filter_map-from}
+use Rattle.std.proofs.{Common.{Bool, List, None, Option, Some, [], ap, arith, codes, drop, false, if◌then◌else◌, length, map, refl, subst, suc, true, ℕ, ◌++◌, ◌==◌, ◌∷◌, ◌≡◌}, lemmas.List.Elements.{All-append, All-cons, All-contains, All-drop, All-from_recursion, All-head, All-map, All-nil, All-push, All-tail, All-take}}
+use Rattle.std.specs.{List.{filter_map, flat_map, list_any, prefix_len, slice_get}, Option.{IfSome, unwrap_or}, Prelude.{All, option_map}}
+use Rattle.kc_language.specs.{Expansion.{attributes, is_attribute, last_of, mentioned_names, numbered_lines, numbers}, Expressions.{Form, all_mentioned, mention, number_of, same_name, symbol}, Statements.{CommentLine, ConfigLine, DefLine, DefaultLine, EndMenuLine, Located, MainMenuLine, MenuLine, Named, Numbered, names_in_statement, numbered, statements}, Symbols.{CommentShown, EndShown, Guarded, MenuShown, Shown, StatedDefault, SymbolFacts, SymbolShown, TreeFacts, definitions_of, dependency, facts_with, indices, is_first_definition, shown_at, stated_default, symbol_facts}, declared.expressions.SymId.SymId}
+use Rattle.kc_entries.specs.{PartsOfExpansion.located_numbered, PartsOfSymbols.{defaults_at, enclosing_block, guarded_default, shown_number, shown_when, title_of}, WellFormed.{HasLineTexts, IsLineForm, IsLineText, OfTitle}}
+use Rattle.kc_entries.proofs.ElementLemmas.{All-at, All-cons_option, All-flat_map, All-map_each, filter_map-from}
 use Rattle.kc_read.proofs.ReadTextLemmas.{HasTexts, IsInLines, IsLineValue}
 
 -- The names that are mentioned.

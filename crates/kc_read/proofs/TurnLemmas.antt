@@ -1,19 +1,10 @@
 -- What a line that is read asks of its context.
-use Rattle.std.proofs.Common.{◌≡◌, ℕ, Bool, true, false, ◌&&◌, ◌||◌, if◌then◌else◌, not, List, [], ◌∷◌, drop, Option, Some, None, Result, Ok, Err, refl, ap, sym, ◌∙◌, subst, inl, inr, codes}
-use Rattle.kc_language.specs.Tokens.{Lexeme}
-use Rattle.kc_language.specs.declared.expressions.SymbolType.{SymbolType}
-use Rattle.kc_language.specs.Expressions.{Disjunction, if_word}
-use Rattle.kc_language.specs.declared.statements.Block.{Block}
+use Rattle.std.proofs.Common.{Bool, Err, List, None, Ok, Option, Result, Some, [], ap, codes, drop, false, if◌then◌else◌, inl, inr, not, refl, subst, sym, true, ℕ, ◌&&◌, ◌||◌, ◌∙◌, ◌∷◌, ◌≡◌}
+use Rattle.kc_language.specs.{Expansion.{is_attribute, is_modules}, Expressions.{Disjunction, if_word}, Statements.{After, Cause, ChoiceLine, CommentLine, ConfigLine, DefLine, DefaultLine, DependsLine, EndChoiceLine, EndIfLine, EndMenuLine, HelpLine, IfLine, IgnoredLine, ImplyLine, InputPrompt, LineContext, MainMenuLine, MenuLine, ModulesLine, Named, PromptLine, RangeLine, ReadsCondition, ReadsLine, ReadsPrompt, ReadsRest, ReadsSource, ReadsTextLine, ReadsValue, ReadsWhole, SelectLine, SourceLine, Statement, TypeLine, VisibleLine, begins_with, closing_cause, finish, in_place, is_choice_entry, is_config, is_good_name, keyword_of, keyword_or_refusal, named_target, operand_of, option_line, placement_cause, plain_text, text_of, type_placement, unless_placed, word_of}, Tokens.Lexeme, declared.{expressions.SymbolType.SymbolType, statements.{Block.Block, EntryKind.EntryKind, Keyword.Keyword}}}
 use Rattle.kc_language.specs.declared.statements.Block.TheVariants as block
-use Rattle.kc_language.specs.declared.statements.EntryKind.{EntryKind}
 use Rattle.kc_language.specs.declared.statements.EntryKind.TheVariants as entry
-use Rattle.kc_language.specs.declared.statements.Keyword.{Keyword}
 use Rattle.kc_language.specs.declared.statements.Keyword.TheVariants as key
-use Rattle.kc_language.specs.Statements.{Statement, Named, InputPrompt, ConfigLine, IfLine, EndIfLine, CommentLine, SourceLine, MenuLine, EndMenuLine, ChoiceLine, EndChoiceLine, MainMenuLine, TypeLine, PromptLine, DefaultLine, DefLine, DependsLine, VisibleLine, SelectLine, ImplyLine, RangeLine, HelpLine, ModulesLine, IgnoredLine, Cause, LineContext, placement_cause, closing_cause, unless_placed, type_placement, is_choice_entry, is_config, After, finish, ReadsLine, ReadsRest, ReadsWhole, ReadsCondition, ReadsTextLine, ReadsSource, ReadsPrompt, ReadsValue, option_line, is_good_name, begins_with, text_of, plain_text, word_of, named_target, operand_of, keyword_of}
-use Rattle.kc_read.specs.PartsOfStatements.{is_entry, is_menu, ReadsConfig, ReadsType, ReadsTarget, choice_line, expected}
-use Rattle.kc_language.specs.Statements.{keyword_or_refusal, in_place}
-use Rattle.kc_read.specs.PartsOfStatements.{ReadsPlaced, ReadsDepends, ReadsVisible, ReadsRange, good_name}
-use Rattle.kc_language.specs.Expansion.{is_attribute, is_modules}
+use Rattle.kc_entries.specs.PartsOfStatements.{ReadsConfig, ReadsDepends, ReadsPlaced, ReadsRange, ReadsTarget, ReadsType, ReadsVisible, choice_line, expected, good_name, is_entry, is_menu}
 
 -- What a line asks: that no enclosing block is a choice; that the innermost is of this kind; that its
 -- entry is a `config` entry; that it has an entry.

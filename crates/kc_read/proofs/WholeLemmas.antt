@@ -1,40 +1,15 @@
 -- What holds of every tree.
-use Rattle.std.proofs.Common.{◌≡◌, ◌≢◌, ℕ, zero, suc, ◌<◌, nat_le, get_or, Bool, true, false, ◌&&◌, ◌||◌, if◌then◌else◌, List, [], ◌∷◌, ◌++◌, length, map, Option, Some, None, Ok, refl, ap, sym, ◌∙◌, subst, arith}
-use Rattle.std.specs.Prelude.{All, Contains, option_map}
-use Rattle.std.specs.List.{slice_get, list_any, list_all, flat_map, AllByRecursion, IsDistinct}
-use Rattle.std.proofs.lemmas.Bool.Decides.{nat_tests}
-use Rattle.std.proofs.lemmas.List.Elements.{All-nil, All-cons, All-head, All-from_recursion, Contains-get_or, filter_passes}
-use Rattle.std.proofs.lemmas.Option.{slice_get-map, slice_get_within}
-use Rattle.kc_language.specs.declared.expressions.SymId.{SymId}
-use Rattle.kc_expr.specs.Names.{AreDistinct}
-use Rattle.kc_language.specs.Expressions.{number_of, same_name, symbol, if_word, is_name_byte}
-use Rattle.kc_expr.specs.PartsOfExpressions.{is_tristate_constant}
-use Rattle.kc_expr.specs.PartsOfSymbols.{stands_in}
-use Rattle.kc_language.specs.Symbols.{Condition, EndShown, MenuShown, SymbolFacts, TreeFacts, listed, enclosing_choice, choice_of, type_of, of_block, symbol_facts, indices, facts_with, modules_symbol, is_first_definition_at, bad_members, bad_defaults, entry_name, menu_entry_at, entry_symbol, refused_at}
-use Rattle.kc_read.specs.PartsOfSymbols.{entries, whole_list_refusals}
-use Rattle.kc_read.specs.PartsOfSymbols.{symbol_if, is_bad_member}
+use Rattle.std.proofs.{Common.{Bool, List, None, Ok, Option, Some, [], ap, arith, false, get_or, if◌then◌else◌, length, map, nat_le, refl, subst, suc, sym, true, zero, ℕ, ◌&&◌, ◌++◌, ◌<◌, ◌||◌, ◌∙◌, ◌∷◌, ◌≡◌, ◌≢◌}, lemmas.{Bool.Decides.nat_tests, List.Elements.{All-cons, All-from_recursion, All-head, All-nil, Contains-get_or, filter_passes}, Option.{slice_get-map, slice_get_within}}}
+use Rattle.std.specs.{List.{AllByRecursion, IsDistinct, flat_map, list_all, list_any, slice_get}, Prelude.{All, Contains, option_map}}
+use Rattle.kc_language.specs.{Expansion.{Expands, Files, ReadSoFar, Refused, definitions, mentioned_names, numbered_lines, refusal_at}, Expressions.{if_word, is_name_byte, number_of, same_name, symbol}, Statements.{Cause, Located, Named, Numbered, is_good_name, statements}, Symbols.{Condition, EndShown, MenuShown, SymbolFacts, TreeFacts, bad_defaults, bad_members, choice_of, enclosing_choice, entry_name, entry_symbol, facts_with, indices, is_first_definition_at, listed, menu_entry_at, modules_symbol, of_block, refused_at, symbol_facts, type_of}, declared.expressions.SymId.SymId}
+use Rattle.kc_expr.specs.{Names.AreDistinct, PartsOfExpressions.is_tristate_constant, PartsOfSymbols.stands_in}
+use Rattle.kc_entries.specs.{PartsOfExpansion.defined, PartsOfSymbols.{entries, is_bad_member, symbol_if, whole_list_refusals}, WellFormed.{IsMentioned, IsSymbolName, IsWellFormed}}
 use Rattle.kc_expr.proofs.NamesLemmas.{same_name-refl}
 use Rattle.kc_language.specs.declared.expressions.SymbolType.TheVariants as symbol_type
-use Rattle.kc_language.specs.Statements.{Cause, is_good_name, Named, Numbered, Located, statements}
 use Rattle.kc_language.specs.declared.diagnostics.Cause.TheVariants as cause
 use Rattle.kc_language.specs.declared.statements.Block.TheVariants as block
-use Rattle.kc_language.specs.Expansion.{Files, Expands, ReadSoFar, Refused, refusal_at, definitions, mentioned_names, numbered_lines}
-use Rattle.kc_read.specs.PartsOfExpansion.{defined}
-use Rattle.kc_read.proofs.NameLemmas.{known_at}
-use Rattle.kc_tree.specs.TreeFacts.{IsMentioned, IsSymbolName, IsWellFormed}
-use Rattle.kc_read.proofs.DefinedLemmas.{AreNames}
-use Rattle.kc_read.proofs.ElementLemmas.{All-at, found_is}
-use Rattle.kc_read.proofs.EntrySoundLemmas.{entries_sound}
-use Rattle.kc_read.proofs.FormedLemmas.{all_sound, facts_at, mentioned_if}
-use Rattle.kc_read.proofs.MemberSoundLemmas.{all_listed, choices_sound}
-use Rattle.kc_read.proofs.NumberingLemmas.{as_many_defined, config_of, defined_at, mentioned_known, numbered_below}
-use Rattle.kc_read.proofs.ListShape.{choices_alone, ends_name_menus}
-use Rattle.kc_read.proofs.PlaceLemmas.{length-map_numbers}
-use Rattle.kc_read.proofs.ReadTextLemmas.{IsInLines, expanded_lines}
-use Rattle.kc_read.proofs.ShownLemmas.{shows_each}
-use Rattle.kc_read.proofs.SymbolListLemmas.{defined-once, defined_line, prompted_is_defined, typed_is_defined}
-use Rattle.kc_read.proofs.TreeTextLemmas.{line_texts}
-use Rattle.kc_read.proofs.BlockLemmas.{first_nil}
+use Rattle.kc_read.proofs.{BlockLemmas.first_nil, DefinedLemmas.AreNames, EntrySoundLemmas.entries_sound, FormedLemmas.{all_sound, facts_at, mentioned_if}, ListShape.{choices_alone, ends_name_menus}, MemberSoundLemmas.{all_listed, choices_sound}, NameLemmas.known_at, NumberingLemmas.{as_many_defined, config_of, defined_at, mentioned_known, numbered_below}, ReadTextLemmas.{IsInLines, expanded_lines}, ShownLemmas.shows_each, TreeTextLemmas.line_texts}
+use Rattle.kc_entries.proofs.{ElementLemmas.{All-at, found_is}, PlaceLemmas.length-map_numbers, SymbolListLemmas.{defined-once, defined_line, prompted_is_defined, typed_is_defined}}
 
 -- Names that differ stand at one place each.
 apart_at : (x name : List ℕ) (xs : List (List ℕ)) (i : ℕ) → AllByRecursion (λ y. same_name x y ≡ false) xs → slice_get xs i ≡ Some name → same_name x name ≡ false

@@ -1,11 +1,7 @@
--- For proofs: The expressions that are one of the constants n, m and y alone.
-use Rattle.std.specs.Prelude.{Bool, true, false}
-use Rattle.kc_language.specs.declared.expressions.Tri.{Tri}
-use Rattle.kc_language.specs.declared.expressions.Tri.TheVariants.{N, M, Y}
-use Rattle.kc_expr.specs.declared.expression.Operand.{Operand}
-use Rattle.kc_expr.specs.declared.expression.Operand.TheVariants.{TristateConstant}
-use Rattle.kc_expr.specs.declared.expression.Expr.{Expr}
-use Rattle.kc_expr.specs.declared.expression.Expr.TheVariants.{One}
+-- For proofs: The expressions that are only one of the constants n, m and y.
+use Rattle.std.specs.Prelude.{Bool, false, true}
+use Rattle.kc_language.specs.declared.expressions.Tri.{TheVariants.{M, N, Y}, Tri}
+use Rattle.kc_expr.specs.declared.expression.{Expr.{Expr, TheVariants.One}, Operand.{Operand, TheVariants.TristateConstant}}
 
 -- both are the same constant
 abbrev pub same_tri : Tri → Tri → Bool
@@ -19,7 +15,7 @@ abbrev pub is_tri : Tri → Operand → Bool
 is_tri t (TristateConstant u) = same_tri t u
 is_tri t _ = false
 
--- an expression is this constant alone
+-- an expression is only this constant
 abbrev pub is_constant : Tri → Expr → Bool
 is_constant t (One o) = is_tri t o
 is_constant t _ = false

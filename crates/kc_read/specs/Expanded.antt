@@ -1,17 +1,11 @@
 -- Trusted: The expanded list that was read.
-use Rattle.std.specs.Prelude.{◌≡◌, ℕ, List, map, Option, Some, None}
-use Rattle.std.specs.List.{flat_map}
-use Rattle.kc_language.specs.declared.expressions.SymId.{SymId}
-use Rattle.kc_language.specs.Expressions.{all_mentioned, symbol}
+use Rattle.std.specs.{List.flat_map, Prelude.{List, None, Option, Some, map, ℕ, ◌≡◌}}
+use Rattle.kc_language.specs.{Expansion.{ReadSoFar, modules_of}, Expressions.{all_mentioned, symbol}, Statements.{names_in_statement, statements}, declared.expressions.SymId.SymId}
 use Rattle.kc_expr.specs.Names.{IsNumber}
 use Rattle.kc_read.specs.declared.expansion.Expansion.{Expansion}
-use Rattle.kc_language.specs.Expansion.{modules_of, ReadSoFar}
-use Rattle.kc_read.specs.PartsOfExpansion.{defined, located_numbered}
-use Rattle.kc_read.specs.Entries.{lines_in}
-use Rattle.kc_read.specs.StatementViews.{ForLater}
-use Rattle.kc_language.specs.Statements.{names_in_statement, statements}
+use Rattle.kc_entries.specs.{Entries.lines_in, PartsOfExpansion.{defined, located_numbered}, StatementViews.ForLater}
 
--- the number of a name, where there is a name
+-- the number of a name, if there is a name
 abbrev pub IsNamed : List (List ℕ) → Option SymId → Option (List ℕ) → Type 0
 IsNamed names None None = Unit {0}
 IsNamed names None (Some n) = ⊥
@@ -22,7 +16,7 @@ IsNamed names (Some id) (Some n) = IsNumber names n id
 abbrev pub AreNumbers : List (List ℕ) → List SymId → List (List ℕ) → Type 0
 AreNumbers names ids ns = ForLater names (λ number. ids ≡ map (λ n. symbol (number n)) ns)
 
--- the expanded list that was read: the names stood at first, and are names now
+-- the expanded list that was read; `first` are the names before, and `names` those after
 pub record IsExpansion (first : List (List ℕ)) (names : List (List ℕ)) (log : ReadSoFar) (e : Expansion) : Type 0 where
   pub lines : ForLater names (λ number. lines_in e.entries ≡ map (located_numbered number) log.lines)
   pub mentions : names ≡ all_mentioned first (flat_map names_in_statement (statements log.lines))

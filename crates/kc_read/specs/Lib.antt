@@ -1,23 +1,16 @@
--- The definitions that the contracts speak in.
+-- The definitions that the contracts use.
 pub mod Constants
-pub mod Entries
-pub mod EntryStarts
 pub mod Existing
 pub mod Expanded
 pub mod Expansion
 pub mod Files
 pub mod LineReads
 pub mod Lines
-pub mod ListFacts
 pub mod NextStep
 pub mod OpenedFiles
-pub mod PartsOfExpansion
-pub mod PartsOfStatements
-pub mod PartsOfSymbols
 pub mod Progress
 pub mod QuietFiles
 pub mod RefusalView
 pub mod Replaced
 pub mod Scopes
 pub mod SourceSteps
-pub mod StatementViews

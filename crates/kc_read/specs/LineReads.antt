@@ -1,40 +1,31 @@
--- For proofs: What the calls that read a line answer.
-use Rattle.std.specs.Borrow.{Bor}
-use Rattle.std.specs.Prelude.{◌≡◌, ◌≢◌, ℕ, ◌+◌, ◌<◌, List, [], ◌∷◌, length, drop, Bool, true, false, Option, Some, None, Result, Ok, Err, option_map}
-use Rattle.kc_language.specs.Expressions.{Form, Leaf, Disjunction, Atom, leaf, names_in, names_in_atom, all_mentioned}
-use Rattle.kc_expr.specs.PartsOfExpressions.{meaning_or}
-use Rattle.kc_expr.specs.declared.parse.ExprFault.{ExprFault}
+-- For proofs: The results of the calls that read a line.
+use Rattle.std.specs.{Borrow.Bor, Prelude.{Bool, Err, List, None, Ok, Option, Result, Some, [], drop, false, length, option_map, true, ℕ, ◌+◌, ◌<◌, ◌∷◌, ◌≡◌, ◌≢◌}}
+use Rattle.kc_language.specs.{Expressions.{Atom, Disjunction, Form, Leaf, all_mentioned, leaf, names_in, names_in_atom}, Statements.{Cause, IsCondition, Named, StartsExpression, names_in_condition, names_in_statement, numbered}, Text.unescape, Tokens.Lexeme}
+use Rattle.kc_expr.specs.{PartsOfExpressions.meaning_or, declared.parse.ExprFault.ExprFault}
 use Rattle.kc_expr.specs.declared.parse.ExprFault.TheVariants as expr
-use Rattle.kc_language.specs.Text.{unescape}
-use Rattle.kc_language.specs.Tokens.{Lexeme}
-use Rattle.kc_text.specs.Lexemes.{lexeme, lexemes}
-use Rattle.kc_text.specs.declared.tokens.Token.{Token}
+use Rattle.kc_text.specs.{Lexemes.{lexeme, lexemes}, declared.tokens.Token.Token}
 use Rattle.kc_language.specs.declared.diagnostics.Cause.TheVariants as cause
-use Rattle.kc_read.specs.declared.statement.Statement.{Statement}
-use Rattle.kc_language.specs.Statements.{Named, numbered, names_in_statement, names_in_condition, Cause, StartsExpression, IsCondition}
-use Rattle.kc_read.specs.PartsOfStatements.{IsWhole}
-use Rattle.kc_read.specs.PartsOfStatements.{front}
+use Rattle.kc_entries.specs.{PartsOfStatements.{IsWhole, front}, StatementViews.{ForLater, statement_view}, declared.statement.Statement.Statement}
 use Rattle.kc_diagnostics.specs.Causes.{shown_cause}
 use Rattle.kc_language.specs.declared.diagnostics.Cause as declared
-use Rattle.kc_read.specs.StatementViews.{ForLater, statement_view}
 
--- the tokens from a place on
+-- the tokens from a position on
 abbrev pub lexemes_from : List Token → ℕ → List Lexeme
 lexemes_from tokens at = lexemes (drop at tokens)
 
--- why a line is refused, with what is borrowed from it
+-- why a line is refused, with names borrowed from the line
 abbrev pub LineFault : Type 0
 LineFault = declared.Cause (Bor (List ℕ))
 
--- what a refusal of a line says, unless memory ran out
+-- the cause of a line's fault
 abbrev pub cause_of : LineFault → Cause
 cause_of f = shown_cause f
 
--- memory ran out, or the line is refused for this cause
+-- if the fault is not out of memory, its cause satisfies P
 abbrev pub IsFault : LineFault → (Cause → Type 0) → Type 0
 IsFault f P = f ≢ cause.Memory → P (cause_of f)
 
--- the token at a place, if there is one
+-- the token at a position, if there is one
 abbrev pub IsToken : Option Token → List Token → ℕ → Type 0
 IsToken None tokens at = lexemes_from tokens at ≡ []
 IsToken (Some t) tokens at = (at < length tokens) × (lexemes_from tokens at ≡ lexeme t ∷ lexemes_from tokens (at + 1))
@@ -45,7 +36,7 @@ expression_cause expr.Syntax = cause.Syntax
 expression_cause expr.TooDeep = cause.TooDeep
 expression_cause expr.Memory = cause.Memory
 
--- the text that these bytes say, in quotes or as a word
+-- the text of these bytes, quoted or a word
 abbrev pub unquoted_text : Bool → List ℕ → List ℕ
 unquoted_text true t = unescape t
 unquoted_text false t = t
@@ -55,7 +46,7 @@ abbrev pub IsPart : {A B : Type 0} → Result B Cause → (A → B) → Result A
 IsPart part view (Ok a) = part ≡ Ok (view a)
 IsPart part view (Err f) = IsFault f (λ c. part ≡ Err c)
 
--- the statement that was made of what is written, and the names that it mentioned
+-- the statement was made from x, whose names were added to the old ones
 pub record IsMade (old names : List (List ℕ)) (s : Statement) (x : Named) : Type 0 where
   pub mentions : names ≡ all_mentioned old (names_in_statement x)
   pub form : ForLater names (λ number. statement_view s ≡ numbered number x)
@@ -65,7 +56,7 @@ abbrev pub IsRead : List (List ℕ) → List (List ℕ) → (Result Named Cause 
 IsRead old names Reads (Ok s) = (x : Named) × Reads (Ok x) × IsMade old names s x
 IsRead old names Reads (Err f) = IsFault f (λ c. Reads (Err c))
 
--- an expression and the place after it
+-- an expression and the position after it
 pub record IsFront (condition : Bool) (old names : List (List ℕ)) (ts rest : List Lexeme) (e : Form) : Type 0 where
   pub tree : Disjunction
   pub starts : StartsExpression ts (front tree rest)

@@ -1,8 +1,7 @@
 -- Trusted: How a line of tokens is read.
-use Rattle.std.specs.Prelude.{◌≡◌, List, Result}
-use Rattle.kc_language.specs.Statements.{Cause, Named, LineContext, ReadsLine}
-use Rattle.kc_language.specs.Tokens.{Lexeme}
+use Rattle.std.specs.Prelude.{List, Result, ◌≡◌}
+use Rattle.kc_language.specs.{Statements.{Cause, LineContext, Named, ReadsLine}, Tokens.Lexeme}
 
--- in each context a line has one outcome, a statement or a cause, and no other
+-- in each context a line has exactly one result, a statement or a cause
 abbrev pub OneStatement : Type 0
 OneStatement = (c : LineContext) (ts : List Lexeme) → (r : Result Named Cause) × ReadsLine c ts r × ((other : Result Named Cause) → ReadsLine c ts other → r ≡ other)

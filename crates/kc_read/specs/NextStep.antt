@@ -1,20 +1,10 @@
--- For proofs: What the next line of a file is.
-use Rattle.std.specs.Prelude.{◌≡◌, ◌≢◌, ℕ, Bool, true, false, List, [], Some, Ok, Err}
-use Rattle.kc_language.specs.Lines.{UnreadLines, IsTooLong}
-use Rattle.kc_read.specs.declared.refusal.Refusal.{Refusal}
+-- For proofs: The result of reading the next line of a file.
+use Rattle.std.specs.Prelude.{Bool, Err, List, Ok, Some, [], false, true, ℕ, ◌≡◌, ◌≢◌}
+use Rattle.kc_language.specs.{Expansion.{IsBlankNext, IsMarker, MarksNext, NextLine, NextStatement, refusal_at, text_cause}, Expressions.same_name, Lines.{IsTooLong, UnreadLines}, Statements.{Cause, LineContext, Named}, Tokens.Lexeme, declared.tokens.TextFault.TextFault}
+use Rattle.kc_read.specs.{LineReads.IsMade, Progress.context_in, RefusalView.refusal_view, declared.{reader.Position.Position, refusal.Refusal.Refusal, step.Step.Step}}
 use Rattle.kc_language.specs.declared.diagnostics.Cause.TheVariants as cause
-use Rattle.kc_read.specs.declared.step.Step.{Step}
 use Rattle.kc_read.specs.declared.step.Step.TheVariants as step
-use Rattle.kc_language.specs.Statements.{Named, Cause, LineContext}
-use Rattle.kc_language.specs.Expansion.{refusal_at, IsBlankNext, IsMarker, MarksNext, NextLine, NextStatement, text_cause}
-use Rattle.kc_language.specs.Expressions.{same_name}
-use Rattle.kc_read.specs.LineReads.{IsMade}
-use Rattle.kc_language.specs.Tokens.{Lexeme}
-use Rattle.kc_language.specs.declared.tokens.TextFault.{TextFault}
 use Rattle.kc_language.specs.declared.tokens.TextFault.TheVariants as fault
-use Rattle.kc_read.specs.RefusalView.{refusal_view}
-use Rattle.kc_read.specs.Progress.{context_in}
-use Rattle.kc_read.specs.declared.reader.Position.{Position}
 
 -- the number of a line that is too long
 abbrev pub long_line : TextFault → ℕ
@@ -23,7 +13,7 @@ long_line fault.BadToken = 0
 long_line fault.Macro = 0
 long_line fault.Memory = 0
 
--- what a line without tokens says in this file
+-- the meaning of a line without tokens in this file
 abbrev pub IsMarked : Bool → List ℕ → List ℕ → Step → Type 0
 IsMarked flat file text step.Blank = flat ≡ true → (n : ℕ) (name : List ℕ) → IsMarker text n name → ⊥
 IsMarked flat file text (step.Renumbered n) = (flat ≡ true) × IsMarker text n file
@@ -39,7 +29,7 @@ IsStep flat file known names c old new (step.Renumbered n) = MarksNext flat old 
 IsStep flat file known names c old new (step.Moved n name) = MarksNext flat old new n name.items × (same_name name.items file ≡ false) × (names ≡ known)
 IsStep flat file known names c old new (step.Next n s) = (x : Named) × (n ≡ old.number) × NextStatement flat old new c (Ok x) × IsMade known names s x
 
--- the same at a position: in its tree and its file, after what was read
+-- the same at a position: in its tree and its file, after what was read so far
 abbrev pub IsStepAt : Position → List (List ℕ) → List (List ℕ) → UnreadLines → UnreadLines → Step → Type 0
 IsStepAt p known names old new s = IsStep p.is_flat p.frame.now.file.value.items known names (context_in p.frame.now p.progress.now) old new s
 

@@ -1,38 +1,18 @@
--- For proofs: What the reader of files remembers of what it has read.
-use Rattle.std.specs.Prelude.{◌≡◌, ◌≢◌, ℕ, ◌+◌, ◌≤◌, List, [], ◌∷◌, ◌++◌, map, length, Bool, true, false, Option, Some, None, Result, Ok, Err, option_map, slice_get, take, ◌-◌, ◌||◌, if◌then◌else◌, is_some, nat_lt, ⊤}
-use Rattle.std.specs.List.{filter_map, flat_map, list_any}
-use Rattle.std.specs.Option.{option_or}
-use Rattle.std.specs.declared.alloc.Global.{Global}
-use Rattle.std.specs.declared.vec.Vec.{Vec}
-use Rattle.std.specs.declared.rc.Rc.{Rc}
-use Rattle.kc_language.specs.Text.{most_symbols, most_lines}
+-- For proofs: The state of the reader of files.
+use Rattle.std.specs.{List.{filter_map, flat_map, list_any}, Option.option_or, Prelude.{Bool, Err, List, None, Ok, Option, Result, Some, [], false, if◌then◌else◌, is_some, length, map, nat_lt, option_map, slice_get, take, true, ℕ, ⊤, ◌++◌, ◌+◌, ◌-◌, ◌<◌, ◌||◌, ◌∷◌, ◌≡◌, ◌≢◌, ◌≤◌}, declared.{alloc.Global.Global, rc.Rc.Rc, vec.Vec.Vec}}
+use Rattle.kc_language.specs.{Expansion.{Bracket, Closes, FileContext, Files, NoBracket, Opens, ReadSoFar, Refused, Rest, bracket, defined_name, definitions, entry_of, goes_on, is_attribute, is_choice_block, is_modules, last_of, modules_of, open_block_indices, opened, refusal_at, statement}, Expressions.{all_mentioned, mention, same_symbol}, Lines.UnreadLines, Statements.{Cause, LineContext, Located, Named, Numbered, Statement, is_config, names_in_statement, statements}, Text.{most_lines, most_symbols}, declared.{expressions.SymId.SymId, statements.{Block.Block, EntryKind.EntryKind}}}
 use Rattle.kc_text.specs.PartsOfText.{most_blocks, most_files}
-use Rattle.kc_language.specs.Lines.{UnreadLines}
-use Rattle.kc_language.specs.declared.expressions.SymId.{SymId}
-use Rattle.kc_language.specs.Expressions.{all_mentioned, mention, same_symbol}
 use Rattle.kc_expr.specs.PartsOfSymbols.{added}
-use Rattle.kc_read.specs.declared.frame.Frame.{Frame}
-use Rattle.kc_read.specs.declared.progress.Progress.{Progress}
+use Rattle.kc_read.specs.{Expanded.{AreNumbers, IsNamed}, RefusalView.refusal_view, declared.{frame.Frame.Frame, progress.Progress.Progress, refusal.Refusal.Refusal}}
 use Rattle.kc_language.specs.declared.diagnostics.Cause.TheVariants as cause
-use Rattle.kc_read.specs.declared.refusal.Refusal.{Refusal}
-use Rattle.kc_language.specs.declared.statements.Block.{Block}
-use Rattle.kc_language.specs.declared.statements.EntryKind.{EntryKind}
 use Rattle.kc_language.specs.declared.statements.EntryKind.TheVariants as entry
-use Rattle.kc_read.specs.declared.statement.OpenBlock.{OpenBlock}
-use Rattle.kc_language.specs.Expansion.{Bracket, Opens, Closes, NoBracket, bracket, opened, open_block_indices, last_of, entry_of, is_attribute, definitions, modules_of, defined_name, is_modules, FileContext, ReadSoFar, Refused, Rest, is_choice_block, refusal_at, Files}
-use Rattle.kc_read.specs.PartsOfExpansion.{last_no_attribute, defined, symbol_cause, nesting_cause, located_numbered}
-use Rattle.kc_language.specs.Statements.{Cause, LineContext, is_config, Statement, Named, Numbered, Located, names_in_statement, statements}
-use Rattle.kc_read.specs.PartsOfStatements.{is_entry}
-use Rattle.kc_read.specs.Entries.{lines_in, IsLastFile}
-use Rattle.kc_read.specs.StatementViews.{ForLater}
-use Rattle.kc_read.specs.RefusalView.{refusal_view}
-use Rattle.kc_read.specs.Expanded.{AreNumbers, IsNamed}
+use Rattle.kc_entries.specs.{Entries.{IsLastFile, lines_in}, PartsOfExpansion.{defined, last_no_attribute, located_numbered, nesting_cause, reading, symbol_cause}, PartsOfStatements.is_entry, StatementViews.ForLater, declared.statement.OpenBlock.OpenBlock}
 
 -- the last defined name after one more statement
 abbrev pub name_after : {E L S : Type 0} → Option S → Statement E L S → Option S
 name_after now s = option_or (defined_name s) now
 
--- an open block, and the place of the line that opened it
+-- an open block, with the file and line that opened it
 pub record Opener : Type 0 where
   pub block : Block
   pub file : List ℕ
@@ -58,22 +38,22 @@ open_blocks_after (Opens b) file n bs = bs ++ record { block = b; file = file; l
 open_blocks_after Closes file n bs = take (length bs - 1) bs
 open_blocks_after NoBracket file n bs = bs
 
--- the open blocks that the reader of a file remembers
+-- the open blocks in the state of a file's reader
 abbrev pub opener_of : OpenBlock → Opener
 opener_of o = record { block = o.block; file = o.file.value.items; line = o.line }
 
 abbrev pub openers : Frame → List Opener
 openers f = map opener_of f.blocks.items
 
--- the entry after one more statement
+-- the kind of the current entry after one more statement
 abbrev pub entry_after : {E L S : Type 0} → EntryKind → Statement E L S → EntryKind
 entry_after now s = if is_attribute s then now else entry_of (Some s)
 
--- no more blocks are open than there may be
+-- the number of open blocks is within the limit
 abbrev pub IsShallow : Frame → Type 0
 IsShallow f = f.depth + length f.blocks.items ≤ most_blocks
 
--- what a file's reader knows: own are the file's statements so far
+-- the state of a file's reader; own are the file's statements so far
 pub record IsFrame (a : FileContext) (own : List (Located Named)) (f : Frame) : Type 0 where
   pub file : f.file.value.items ≡ a.file
   pub depth : f.depth ≡ length a.blocks
@@ -81,7 +61,7 @@ pub record IsFrame (a : FileContext) (own : List (Located Named)) (f : Frame) : 
   pub blocks : openers f ≡ located_blocks own
   pub entry : f.entry ≡ entry_of (last_no_attribute (statements own))
 
--- whether the numbers say the same symbol
+-- whether both are the same symbol, or there is no first symbol
 abbrev pub ids_match : Option SymId → Option SymId → Bool
 ids_match None now = true
 ids_match (Some i) None = false
@@ -96,7 +76,7 @@ context_in f p = record {
   modules = ids_match p.modules p.config;
 }
 
--- what is remembered of all files: the names stood at first, and are names now
+-- the state that all files share; `first` are the names before, and `names` those now
 pub record IsProgress (first : List (List ℕ)) (names : List (List ℕ)) (log : ReadSoFar) (p : Progress) : Type 0 where
   pub lines : ForLater names (λ number. lines_in p.entries ≡ map (located_numbered number) log.lines)
   pub mentions : names ≡ all_mentioned first (flat_map names_in_statement (statements log.lines))
@@ -105,7 +85,7 @@ pub record IsProgress (first : List (List ℕ)) (names : List (List ℕ)) (log :
   pub defined_is : AreNumbers names p.defined (defined (statements log.lines))
   pub config : IsNamed names p.config (last_of (definitions (statements log.lines)))
   pub modules_is : IsNamed names p.modules (modules_of (statements log.lines))
-  -- each `modules` line stands in the entry of a symbol
+  -- each `modules` line is in the entry of a symbol
   pub marked : is_some (modules_of (statements log.lines)) ≡ list_any is_modules (statements log.lines)
 
 abbrev pub open_names : Progress → List (List ℕ)
@@ -117,20 +97,44 @@ pub record IsState (first : List (List ℕ)) (names : List (List ℕ)) (a : File
   pub files : open_names p ≡ a.open_files
   -- in the entry of a `config` line some symbol is defined
   pub entered : is_config (entry_of (last_no_attribute (statements own))) ≡ true → is_some (last_of (definitions (statements log.lines))) ≡ true
-  -- the entry that goes on is the last one
+  -- the current entry is the last one
   pub goes_on : is_entry (entry_of (last_no_attribute (statements own))) ≡ true → IsLastFile p.entries a.file
 
--- no more symbols are defined than there may be
+-- the number of defined symbols is within the limit
 abbrev pub HasSymbolsWithin : Progress → Type 0
 HasSymbolsWithin p = length p.defined ≤ most_symbols
 
--- as many physical lines, symbols and files as there may be
+-- the numbers of physical lines, symbols and open files are within their limits
 pub record IsBounded (p : Progress) : Type 0 where
   pub lines : p.total_lines ≤ most_lines
   pub symbols : HasSymbolsWithin p
   pub files : length p.open_files.items ≤ most_files
 
--- the defined names once this one is defined, where there is one, and why it may not be
+-- the line that begins an entry is taken: it may open or close a block, and the current entry changes
+abbrev pub IsTurned : {E L S : Type 0} → Statement E L S → ℕ → Frame → Frame → Type 0
+IsTurned s line old new = (openers new ≡ open_blocks_after (bracket s) old.file.value.items line (openers old)) × (new.entry ≡ entry_of (Some s))
+
+-- all limits hold in this state
+abbrev pub AreWithinLimits : Frame → Progress → Type 0
+AreWithinLimits f p = IsShallow f × IsBounded p
+
+-- one more file may be opened if this is then the number of physical lines
+abbrev pub MayEnter : ℕ → Progress → Type 0
+MayEnter total_lines p = (total_lines ≤ most_lines) × (length p.open_files.items < most_files)
+
+-- reading is back in a file: the same files are open as before, and the limits hold
+abbrev pub IsBack : Progress → Frame → Progress → Type 0
+IsBack old f new = (new.open_files.items ≡ old.open_files.items) × AreWithinLimits f new
+
+-- a line is taken from the unread lines, and there is no error
+abbrev pub IsLineTaken : UnreadLines → UnreadLines → Type 0
+IsLineTaken old new = (length new.lines < length old.lines) × (new.refusal ≡ None)
+
+-- a symbol is defined, and may get a `modules` line
+abbrev pub IsDefined : SymId → Progress → Progress → Type 0
+IsDefined id old new = (new.defined ≡ added old.defined id) × (new.config ≡ Some id)
+
+-- the defined names after this one, if there is one, is defined; and why it cannot be defined
 abbrev pub defined_after : List (List ℕ) → Option (List ℕ) → List (List ℕ)
 defined_after ds None = ds
 defined_after ds (Some n) = mention ds n
@@ -139,7 +143,7 @@ abbrev pub naming_cause : List (List ℕ) → Option (List ℕ) → Option Cause
 naming_cause ds None = None
 naming_cause ds (Some n) = symbol_cause ds n
 
--- the same of the symbols
+-- the same for symbols
 abbrev pub order_after : List SymId → Option SymId → List SymId
 order_after ids None = ids
 order_after ids (Some id) = added ids id
@@ -151,7 +155,7 @@ abbrev pub defining_cause : List SymId → Option SymId → Option Cause
 defining_cause ids None = None
 defining_cause ids (Some id) = symbol_limit_cause ids id
 
--- a statement was remembered: what it changes of the symbols
+-- a statement was recorded: what it changes in the state
 pub record IsRemembered (s : Numbered) (old new : Progress) : Type 0 where
   pub defined_is : new.defined ≡ order_after old.defined (defined_name s)
   pub config : new.config ≡ name_after old.config s
@@ -177,11 +181,11 @@ pub record IsTaken (s : Numbered) (line : ℕ) (f g : Frame) (old new : Progress
   pub blocks : openers g ≡ open_blocks_after (bracket s) f.file.value.items line (openers f)
   pub entry : g.entry ≡ entry_after f.entry s
 
--- the limit that a statement passes, where it defines a symbol too many or opens a block too many
+-- the limit that a statement exceeds, if it defines a symbol too many or opens a block too many
 abbrev pub limit_view : Numbered → Frame → Progress → Option Cause
 limit_view s f p = option_or (defining_cause p.defined (defined_name s)) (nesting_cause (f.depth + length f.blocks.items) (bracket s))
 
--- what is known inside a file that is sourced in another one
+-- the state inside a file that another file sources
 pub record IsSourcedFrame (f : Frame) (name : List ℕ) (g : Frame) : Type 0 where
   pub file : g.file.value.items ≡ name
   pub depth : g.depth ≡ f.depth + length f.blocks.items
@@ -199,7 +203,7 @@ pub record IsEntered (name : List ℕ) (total_lines : ℕ) (old new : Progress) 
   pub config : new.config ≡ old.config
   pub modules_is : new.modules ≡ old.modules
 
--- the lines that follow are those of another file
+-- the next lines are those of another file
 pub record IsMovedFrame (name : List ℕ) (f g : Frame) : Type 0 where
   pub file : g.file.value.items ≡ name
   pub kept : g ≡ record f { file = g.file; entry = entry.Nothing }
@@ -212,28 +216,28 @@ pub record IsMarkedOpened (name : List ℕ) (old new : Progress) : Type 0 where
 abbrev pub IsOpenAtEnd : Frame → Refused → Type 0
 IsOpenAtEnd f r = (o : OpenBlock) × (last_of f.blocks.items ≡ Some o) × (r ≡ refusal_at cause.Block o.file.value.items o.line)
 
--- a refusal of the rest of a file
+-- the rest of a file is refused
 abbrev pub IsRestRefusal : Files → FileContext → UnreadLines → List (Located Named) → ReadSoFar → Refusal → Type 0
-IsRestRefusal files a l own log r = r.cause ≢ cause.Memory → Rest files a l own log (Err (refusal_view r))
+IsRestRefusal files a l own log r = r.cause ≢ cause.Memory → Rest files (reading a l own log) (Err (refusal_view r))
 
 module _ (files : Files) (first : List (List ℕ)) (names : List (List ℕ)) (a : FileContext) where
-  -- the reader has advanced in a file: what its rest gives from here on is what it gave from the line before on
+  -- the reader has advanced in a file: the result of the rest of the file is the same as that of the rest before
   pub record HasAdvanced (old new : UnreadLines) (own : List (Located Named)) (log : ReadSoFar) (p : Progress) (f : Frame) : Type 0 where
     pub context_now : FileContext
     pub own_now : List (Located Named)
     pub log_now : ReadSoFar
     pub state : IsState first names context_now own_now log_now p f
-    pub follows : (r : Result ReadSoFar Refused) → Rest files context_now new own_now log_now r → Rest files a old own log r
+    pub follows : (r : Result ReadSoFar Refused) → Rest files (reading context_now new own_now log_now) r → Rest files (reading a old own log) r
 
   -- a whole file was read
   pub record IsFileRead (l : UnreadLines) (log : ReadSoFar) (p : Progress) : Type 0 where
     pub log_now : ReadSoFar
-    pub rest : Rest files a l [] log (Ok log_now)
+    pub rest : Rest files (reading a l [] log) (Ok log_now)
     pub progress : IsProgress first names log_now p
 
   -- a file has ended
   pub record IsEnded (l : UnreadLines) (own : List (Located Named)) (log : ReadSoFar) (p : Progress) : Type 0 where
-    pub rest : Rest files a l own log (Ok log)
+    pub rest : Rest files (reading a l own log) (Ok log)
     pub progress : IsProgress first names log p
 
   abbrev pub IsReading : UnreadLines → ReadSoFar → Progress → Result ⊤ Refusal → Type 0
@@ -249,7 +253,7 @@ module _ (files : Files) (first : List (List ℕ)) (names : List (List ℕ)) (a 
   IsNextRead l m own log p f (Ok false) = IsEnded l own log p
   IsNextRead l m own log p f (Err r) = IsRestRefusal files a l own log r
 
--- what is known as the root file is opened
+-- the state when the root file is opened
 pub record IsBegun (root : List ℕ) (flat : Bool) (total_lines : ℕ) (f : Frame) (p : Progress) : Type 0 where
   pub file : f.file.value.items ≡ root
   pub depth : f.depth ≡ 0
@@ -264,12 +268,12 @@ pub record IsBegun (root : List ℕ) (flat : Bool) (total_lines : ℕ) (f : Fram
   pub modules_is : p.modules ≡ None
   pub open_files : open_names p ≡ root ∷ []
 
--- what a `config` line leaves as it was
+-- what a `config` line leaves unchanged
 abbrev pub KeepsWhenDefining : Progress → Progress → Type 0
 KeepsWhenDefining old new =
     (new.entries ≡ old.entries) × (new.total_lines ≡ old.total_lines) × (new.modules ≡ old.modules) × (new.opened ≡ old.opened) × (new.open_files ≡ old.open_files)
 
--- what a `modules` line leaves as it was
+-- what a `modules` line leaves unchanged
 abbrev pub KeepsWhenMarking : Progress → Progress → Type 0
 KeepsWhenMarking old new =
     (new.entries ≡ old.entries) × (new.total_lines ≡ old.total_lines) × (new.defined ≡ old.defined) × (new.config ≡ old.config) × (new.opened ≡ old.opened)

@@ -1,22 +1,21 @@
--- Trusted: Files in which no line can be a `source` line, as it is seen without cutting one into tokens.
-use Rattle.std.specs.Prelude.{◌≡◌, ℕ, ◌<◌, ◌⊎◌, List, [], ◌∷◌, ◌++◌, length, slice_index, IsTrue}
-use Rattle.kc_language.specs.Text.{byte}
-use Rattle.kc_language.specs.Tokens.{is_blank}
-use Rattle.kc_read.specs.PartsOfStatements.{source_word}
+-- Trusted: Files in which no line can be a `source` line, as seen without cutting lines into tokens.
+use Rattle.std.specs.Prelude.{IsTrue, List, [], length, slice_index, ℕ, ◌++◌, ◌<◌, ◌∷◌, ◌≡◌, ◌⊎◌}
+use Rattle.kc_language.specs.{Text.byte, Tokens.is_blank}
+use Rattle.kc_entries.specs.PartsOfStatements.{source_word}
 
--- nothing but blanks
+-- only blanks
 abbrev pub AreAllBlank : List ℕ → Type 0
 AreAllBlank bytes = (k : ℕ) → k < length bytes → IsTrue (is_blank (slice_index bytes k))
 
--- what stands before the beginning of a line: nothing, or a line feed is its last byte
+-- the bytes before the start of a line: none, or the last byte is a line feed
 abbrev pub EndsLineBefore : List ℕ → Type 0
 EndsLineBefore start = (start ≡ []) ⊎ ((front : List ℕ) × (start ≡ front ++ byte "\n" ∷ []))
 
--- what stands before the first byte of a line that is no blank
+-- the bytes before the first byte of a line that is no blank
 abbrev pub BeginsLine : List ℕ → Type 0
 BeginsLine before = (start blanks : List ℕ) × (before ≡ start ++ blanks) × EndsLineBefore start × AreAllBlank blanks
 
--- what follows the last byte of a line
+-- the bytes after the last byte of a line
 abbrev pub EndsLine : List ℕ → Type 0
 EndsLine after = ((rest : List ℕ) × (after ≡ byte "\n" ∷ rest)) ⊎ ((rest : List ℕ) × (after ≡ byte "\r" ∷ (byte "\n" ∷ rest)))
 

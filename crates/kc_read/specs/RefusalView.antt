@@ -1,4 +1,4 @@
--- Trusted: A refusal without where it lies in memory.
+-- Trusted: A refusal, without its layout in memory.
 use Rattle.std.specs.Prelude.{◌≡◌, None, option_map}
 use Rattle.kc_read.specs.declared.refusal.Refusal.{Refusal}
 use Rattle.kc_language.specs.declared.diagnostics.Cause.TheVariants as cause
@@ -8,7 +8,7 @@ use Rattle.kc_language.specs.Expansion.{Refused}
 abbrev pub refusal_view : Refusal → Refused
 refusal_view r = record { cause = owned_cause r.cause; location = option_map (λ p. (p.0.items, p.1)) r.location }
 
--- being out of memory has no location
+-- out of memory has no location
 abbrev pub out_of_memory : Refused
 out_of_memory = record { cause = cause.Memory; location = None }
 

@@ -1,17 +1,14 @@
--- Trusted: The expanded list as one sentence: a file's own statements, with the list of its file in place of each `source`
+-- Trusted: The expanded list in one sentence: a file's own statements, with the list of the named file in place of each `source`
 -- statement.
-use Rattle.std.specs.Prelude.{◌≡◌, ℕ, Bool, List, [], ◌∷◌, ◌++◌, false, Some, Ok}
-use Rattle.kc_language.specs.Lines.{UnreadLines, unread_lines}
-use Rattle.kc_language.specs.Expansion.{ReadSoFar, Expands, IsBlankNext, MarksNext, NextStatement, Files, sourced}
-use Rattle.kc_language.specs.Expressions.{same_name}
-use Rattle.kc_read.specs.PartsOfExpansion.{is_source}
-use Rattle.kc_language.specs.Statements.{LineContext, Located, Named, SourceLine}
+use Rattle.std.specs.Prelude.{Bool, List, Ok, Some, [], false, ℕ, ◌++◌, ◌∷◌, ◌≡◌}
+use Rattle.kc_language.specs.{Expansion.{Expands, Files, IsBlankNext, MarksNext, NextStatement, ReadSoFar, sourced}, Expressions.same_name, Lines.{UnreadLines, unread_lines}, Statements.{LineContext, Located, Named, SourceLine}}
+use Rattle.kc_entries.specs.PartsOfExpansion.{is_source}
 
 abbrev pub located : List ℕ → ℕ → Named → Located Named
 located file n s = record { file = file; line = n; statement = s }
 
--- From this place of a file on these are its own statements, each with the number of its line. A line without tokens has none. Behind a marker the lines
--- have the place that it says.
+-- These are a file's own statements from here on, each with its line number. A line without tokens has none. After a marker, the lines have the file
+-- and the number that it gives.
 pub data Owns (flat : Bool) : List ℕ → UnreadLines → List (Located Named) → Type 0 where
   no_line : (file : List ℕ) (l : UnreadLines) → l.lines ≡ [] → Owns flat file l []
   no_tokens : (file : List ℕ) (l m : UnreadLines) (own : List (Located Named)) → IsBlankNext flat l m → Owns flat file m own → Owns flat file l own
@@ -22,8 +19,8 @@ pub data Owns (flat : Bool) : List ℕ → UnreadLines → List (Located Named) 
   one_more : (file : List ℕ) (l m : UnreadLines) (c : LineContext) (s : Named) (own : List (Located Named)) → NextStatement flat l m c (Ok s) → Owns flat file m own →
       Owns flat file l (located file l.number s ∷ own)
 
--- Each `source` statement is replaced by the statements of the file that it names, in which the same was done, and each other
--- one stays.
+-- Each `source` statement is replaced by the statements of the file that it names, after the same replacement there. Each other
+-- statement stays.
 pub data Replaces (files : Files) : List (Located Named) → List (Located Named) → Type 0 where
   nothing : Replaces files [] []
   kept : (s : Located Named) (own list : List (Located Named)) → is_source s.statement ≡ false → Replaces files own list → Replaces files (s ∷ own) (s ∷ list)

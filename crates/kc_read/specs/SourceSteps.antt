@@ -1,12 +1,11 @@
--- For proofs: What the next line of a file names.
+-- For proofs: The name in the next line of a file.
 use Rattle.std.specs.Prelude.{[]}
-use Rattle.kc_language.specs.Lines.{UnreadLines}
+use Rattle.kc_language.specs.{Expansion.{IsSource, SourceNames}, Lines.UnreadLines}
 use Rattle.kc_read.specs.declared.sources.NextSource.{NextSource}
 use Rattle.kc_read.specs.declared.sources.NextSource.TheVariants as found
-use Rattle.kc_language.specs.Expansion.{IsSource, SourceNames}
-use Rattle.kc_read.specs.PartsOfExpansion.{IsOther}
+use Rattle.kc_entries.specs.PartsOfExpansion.{IsOther}
 
--- what the next line says: no more names, none, or this one
+-- the meaning of the next line: no name is left, this line has none, or this name
 abbrev pub IsFound : UnreadLines → UnreadLines → NextSource → Type 0
 IsFound l m found.Nothing = SourceNames l []
 IsFound l m found.Other = IsOther l m

@@ -12,7 +12,7 @@ use kc_expr::expression::{Expr, Operand, Tri};
 use std::alloc::{AllocError, Global};
 use std::rc::Rc;
 
-/// The expressions `n`, `m` and `y`, each made once: very many defaults are one of them (our own).
+/// The expressions `n`, `m` and `y`, each created once, since very many defaults are one of them (our own).
 #[derive(Drop)]
 pub(crate) struct Constants {
     no: Rc<Expr>,
@@ -23,7 +23,7 @@ pub(crate) struct Constants {
     ghost yes_is: { is_constant Y yes.value ≡ true },
 }
 
-// The expression that is this constant alone.
+// The expression that is only this constant.
 fn constant(alloc: Global, value: Tri) -> Result<Rc<Expr>, AllocError>
     ensures { IfOk result (λ e. e.value ≡ One (TristateConstant value)) }
 {
@@ -31,7 +31,7 @@ fn constant(alloc: Global, value: Tri) -> Result<Rc<Expr>, AllocError>
 }
 
 impl Constants {
-    /// Makes the three expressions. Fails only when it is out of memory.
+    /// Creates the three expressions. Fails only if memory runs out.
     pub(crate) fn new(alloc: Global) -> Result<Constants, AllocError> {
         let no = constant(alloc, Tri::N)?;
         let modular = constant(alloc, Tri::M)?;
@@ -50,8 +50,8 @@ impl Constants {
         }
     }
 
-    /// Returns an expression that may be shared: of a constant alone the one that is made already, which allocates
-    /// nothing. Fails only when it is out of memory.
+    /// Returns an expression that may be shared. For a constant alone it is the existing one, which allocates
+    /// nothing. Fails only if memory runs out.
     pub(crate) fn shared(&self, alloc: Global, value: Expr) -> Result<Rc<Expr>, AllocError>
         ensures { IfOk result (λ e. form_of e.value ≡ form_of value) }
     {

@@ -11,14 +11,14 @@ ghost use Rattle.kc_read.specs.RefusalView.{IsMemory, refusal_view};
 ghost use Rattle.kc_language.specs.declared.diagnostics.Cause.TheVariants.{Memory};
 
 use crate::constants::Constants;
-use crate::entries::Entries;
 use crate::file_map::FileMap;
 use crate::files::{Reader, open, read_file};
 use crate::frame::Frame;
 use crate::progress::Progress;
 use crate::refusal::Refusal;
 use crate::refuse::refuse;
-use crate::statement::{EntryKind, LineFault};
+use kc_entries::entries::Entries;
+use kc_entries::statement::{EntryKind, LineFault};
 use kc_expr::distinct_symbols::DistinctSymbols;
 use kc_expr::expression::SymId;
 use kc_expr::names::Names;
@@ -26,8 +26,8 @@ use std::alloc::Global;
 use std::rc::Rc;
 
 /// The expanded list of a root file: its entries, the defined symbols in order of their first definition, the symbol
-/// in whose entry the first `modules` line stands, and the names of the files that were opened, each once, in the order of
-/// their first opening.
+/// whose entry has the first `modules` line, and the names of the opened files, each once, in the order of their first
+/// opening.
 #[derive(Drop)]
 pub struct Expansion {
     pub entries: Entries,
@@ -36,7 +36,7 @@ pub struct Expansion {
     pub opened: Names,
 }
 
-// What is known as the root file is opened.
+// The state of reading when the root file is opened.
 fn begin(
     alloc: Global,
     root: &[u8],
@@ -76,16 +76,16 @@ fn begin(
     Ok((frame, progress))
 }
 
-/// The expanded list of the root file: the statements of the file, each `source` line replaced by the statements of
-/// its file, each with its file and line; or the first refusal.
+/// Returns the expanded list of the root file, or the first refusal. The list has the statements of the file, each with
+/// its file and line. Each `source` line is replaced by the statements of its file.
 ///
-/// On `Ok` the names are the old ones and then each new one at its first mention.
+/// On `Ok` each new name follows the old names, in the order of its first mention.
 ///
-/// Each of the refusals E1 to E12 and E16 comes exactly for its cause, at the first line with a fault: E1 where a file
-/// is not in the map, E2 where it is open now, E3 where the physical lines of the files opened so far are more than
-/// 1,000,000, each file counted as often as it is sourced, E12 for the 65th block, file or level open at once, E16 for
-/// the 65,536th defined symbol; a refusal of the root file itself stands at its line 0. E20, which has no location, is out
-/// of memory. After a refusal the names are the old ones, after which further ones may have been added.
+/// Each of the refusals E1 to E12 and E16 is returned exactly for its cause, at the first faulty line. E1: a file is not in
+/// the map. E2: a file is already open. E3: the files opened so far have more than 1,000,000 physical lines, each file counted as
+/// often as it is sourced. E12: a 65th block, file or level is open at once. E16: a 65,536th symbol is defined. A refusal
+/// of the root file itself has line 0. E20, which has no location: memory ran out. After a refusal some new names may
+/// have been added to the old ones.
 ///
 /// The statements are those of the kernel's kconfig-language document; the limits and the order of checks are our own.
 pub fn expand(

@@ -1,4 +1,4 @@
-//! The files that a tree may be made of.
+//! The files of a tree.
 
 ghost use Rattle.std.specs.Prelude.{◌≡◌, [], OnOk, OnErr, option_map, None};
 ghost use Rattle.kc_language.specs.Expansion.{bytes_in};
@@ -10,7 +10,7 @@ use kc_text::FileText;
 use std::alloc::{AllocError, Global};
 use std::marker::Model;
 
-/// Files by their names, and whether the root file is a flat one.
+/// Files by name, and whether the root file is flat.
 #[derive(Drop)]
 pub struct FileMap {
     alloc: Global,
@@ -29,14 +29,14 @@ impl Model for FileMap {
 }
 
 impl FileMap {
-    /// No files. The root file is to be a flat one, or not. The key of their table is known.
+    /// Returns a map without files. `is_flat` says whether the root file is flat. The table has the fixed key.
     pub fn new(alloc: Global, is_flat: bool) -> Self
         ensures { result ≡ record { entries = []; flat = is_flat } }
     {
         FileMap::keyed(alloc, is_flat, HashKey::known())
     }
 
-    /// No files, in a table with this key.
+    /// Returns a map without files, in a table with this key.
     pub fn keyed(alloc: Global, is_flat: bool, key: HashKey) -> Self
         ensures { result ≡ record { entries = []; flat = is_flat } }
     {
@@ -48,20 +48,20 @@ impl FileMap {
         }
     }
 
-    /// The key of the table, for other tables of names of the same tree.
+    /// The key of the table, for other tables with names of the same tree.
     pub fn key(&self) -> HashKey {
         self.key
     }
 
-    /// Whether the root file is a flat one.
+    /// Whether the root file is flat.
     pub(crate) fn is_flat(&self) -> bool
         ensures { result ≡ self.now.flat }
     {
         self.is_flat
     }
 
-    /// Gives the name these bytes, in place of those that it had. Its only error is to be out of memory, which no name that
-    /// has bytes answers, and after which the map is as it was.
+    /// Sets the bytes of a name, and drops its old bytes. The only error is that memory runs out, which never happens for a name
+    /// that has bytes. Then the map is unchanged.
     pub fn insert(&mut self, name: Vec<u8>, bytes: Vec<u8>) -> Result<(), AllocError>
         ensures ok { OnOk result (Puts (files_in self.old) (files_in self.new) name.items bytes.items) }
         ensures err { OnErr result (self.new ≡ self.old) }

@@ -10,15 +10,15 @@ ghost use Rattle.kc_language.specs.Expressions.{same_name};
 ghost use Rattle.kc_language.specs.declared.diagnostics.Cause.TheVariants.{Memory};
 ghost use Rattle.kc_language.specs.Expansion as spec;
 ghost use Rattle.kc_language.specs.Expansion.{FileContext, ReadSoFar, NextStatement, bytes_in, sourced, sourcing_cause};
-ghost use Rattle.kc_read.specs.Progress.{IsBounded, IsEntered, IsMarkedOpened, IsMovedFrame, IsSourcedFrame, IsNextRead, IsOpenAtEnd, IsReading, IsShallow, IsState, IsStatementRead, IsTaken, limit_view, open_names};
-ghost use Rattle.kc_read.specs.Entries.{IsLastFile};
+ghost use Rattle.kc_read.specs.Progress.{AreWithinLimits, IsBack, IsBounded, IsEntered, IsLineTaken, IsMarkedOpened, IsMovedFrame, IsSourcedFrame, IsNextRead, IsOpenAtEnd, IsReading, IsState, IsStatementRead, IsTaken, MayEnter, limit_view, open_names};
+ghost use Rattle.kc_entries.specs.Entries.{IsLastFile};
 ghost use Rattle.kc_read.specs.Files.{files_in};
-ghost use Rattle.kc_read.specs.StatementViews.{attribute_view, head_view};
+ghost use Rattle.kc_entries.specs.StatementViews.{attribute_view, head_view};
 ghost use Rattle.kc_read.specs.declared.frame.Frame.{Frame};
 ghost use Rattle.kc_read.specs.LineReads.{IsFault, IsMade, cause_of};
 ghost use Rattle.kc_language.specs.Statements.{Located, Named, SourceLine};
 ghost use Rattle.kc_read.specs.RefusalView.{IsMemory, refusal_view};
-ghost use Rattle.kc_read.specs.PartsOfExpansion.{lines_of};
+ghost use Rattle.kc_entries.specs.PartsOfExpansion.{lines_of};
 
 use crate::constants::Constants;
 use crate::file_map::FileMap;
@@ -27,22 +27,22 @@ use crate::progress::Progress;
 use crate::reader::Position;
 use crate::refusal::Refusal;
 use crate::refuse::refuse;
-use crate::statement::{Attribute, EntryKind, Head, LineFault, Statement};
 use crate::step::{Step, next_step};
 use kc_diagnostics::Cause;
+use kc_entries::statement::{Attribute, EntryKind, Head, LineFault, Statement};
 use kc_expr::expression::SymId;
 use kc_expr::names::Names;
 use kc_text::{FileText, LogicalLines, Token};
 use std::alloc::{AllocError, Global};
 use std::rc::Rc;
 
-/// The most physical lines that the files of a tree may have, each file counted as often as it is opened (our own limit).
+/// The most physical lines of all files of a tree, each file counted as often as it is opened (our own limit).
 pub const MOST_LINES: usize = 1_000_000;
 
 // The most files that may be open at once.
 const MOST_FILES: usize = 64;
 
-/// What stays the same while files are read: the files, and the expressions of the constants.
+/// What does not change while files are read: the files, and the expressions of the constants.
 #[derive(Drop)]
 pub(crate) struct Reader<'a> {
     pub alloc: Global,
@@ -50,7 +50,7 @@ pub(crate) struct Reader<'a> {
     pub constants: Constants,
 }
 
-/// The text of a file, and the total of physical lines with those of the file.
+/// The text of a file, and the number of physical lines including those of the file.
 pub(crate) fn open<'a, 'b>(
     map: &'a FileMap,
     name: &'b [u8],
@@ -72,21 +72,21 @@ pub(crate) fn open<'a, 'b>(
     Ok((file, total_lines + lines))
 }
 
-// Whether the open file has this name.
+// Whether this open file has this name.
 fn is_named(file: &Rc<Vec<u8>>, name: &[u8]) -> bool
     ensures { result ≡ same_name name.now file.now.value.items }
 {
     name == file.as_slice()
 }
 
-// Whether the file is open.
+// Whether the file of this name is open.
 fn is_open(progress: &Progress, name: &[u8]) -> bool
     ensures { result ≡ list_any (same_name name.now) (open_names progress.now) }
 {
     progress.open_files.iter().any(|file| is_named(file, name))
 }
 
-// The text of a sourced file, and the total of physical lines with those of the file.
+// The text of a sourced file, and the number of physical lines including those of the file.
 fn open_source<'a, 'b>(
     map: &'a FileMap,
     name: &'b [u8],
@@ -118,16 +118,14 @@ fn take_head(
     frame: &mut Frame,
     progress: &mut Progress,
 ) -> Result<(), LineFault<'static>>
-    requires shallow { IsShallow frame.old }
-    requires bounded { IsBounded progress.old }
+    requires within { AreWithinLimits frame.old progress.old }
     ensures taken { OnOk result (IsTaken (head_view head) line frame.old frame.new progress.old progress.new) }
-    ensures shallow { OnOk result (IsShallow frame.new) }
+    ensures within { OnOk result (AreWithinLimits frame.new progress.new) }
     ensures file { frame.new.file ≡ frame.old.file }
-    ensures bounded { OnOk result (IsBounded progress.new) }
     ensures allowed { OnOk result (limit_view (head_view head) frame.old progress.old ≡ None) }
     ensures fault { IfErr result (λ f. IsFault f (λ c. limit_view (head_view head) frame.old progress.old ≡ Some c)) }
 {
-    // Each early end drops the line by a call: `?` would write out the drop of every kind of line at each.
+    // Each early return drops the line by a call: `?` would expand the drop of every kind of line each time.
     if let Err(fault) = progress.remember(&head) {
         drop(head);
         return Err(fault);
@@ -145,7 +143,7 @@ fn take_head(
     }
 }
 
-// Takes an attribute of the entry that goes on.
+// Takes an attribute of the current entry.
 fn take_attribute(
     attribute: Attribute,
     line: u32,
@@ -161,7 +159,7 @@ fn take_attribute(
     Ok(())
 }
 
-// What is known inside a file that is opened in another one.
+// The state inside a file that another file sources.
 fn enter(
     alloc: Global,
     name: Vec<u8>,
@@ -169,14 +167,11 @@ fn enter(
     frame: &Frame,
     progress: &mut Progress,
 ) -> Result<Frame, LineFault<'static>>
-    requires shallow { IsShallow frame.now }
-    requires bounded { IsBounded progress.old }
-    requires total_lines { total_lines ≤ most_lines }
-    requires fewer { length progress.old.open_files.items < most_files }
+    requires within { AreWithinLimits frame.now progress.old }
+    requires may_enter { MayEnter total_lines progress.old }
     ensures frame { IfOk result (λ f. IsSourcedFrame frame.now name.items f) }
     ensures progress { OnOk result (IsEntered name.items total_lines progress.old progress.new) }
-    ensures shallow { IfOk result IsShallow }
-    ensures bounded { OnOk result (IsBounded progress.new) }
+    ensures within { IfOk result (λ f. AreWithinLimits f progress.new) }
     ensures memory { IfErr result (λ f. f ≡ Memory) }
 {
     progress.opened.id(&name)?;
@@ -192,7 +187,7 @@ fn enter(
     })
 }
 
-// The end of a file, where no block of its own may be open.
+// Checks the end of a file: none of its own blocks may be open.
 fn end(alloc: Global, frame: &Frame) -> Result<(), Refusal>
     ensures closed { OnOk result (frame.now.blocks.items ≡ []) }
     ensures open { IfErr result (λ r. r.cause ≢ Memory → IsOpenAtEnd frame.now (refusal_view r)) }
@@ -207,19 +202,17 @@ fn end(alloc: Global, frame: &Frame) -> Result<(), Refusal>
     }
 }
 
-// The lines that follow are those of this file. As behind a `source` line, no entry goes on.
+// The next lines are those of this file. As after a `source` line, there is no current entry.
 fn move_to(
     alloc: Global,
     marked: Vec<u8>,
     frame: &mut Frame,
     progress: &mut Progress,
 ) -> Result<(), AllocError>
-    requires shallow { IsShallow frame.old }
-    requires bounded { IsBounded progress.old }
+    requires within { AreWithinLimits frame.old progress.old }
     ensures frame { OnOk result (IsMovedFrame marked.items frame.old frame.new) }
     ensures progress { OnOk result (IsMarkedOpened marked.items progress.old progress.new) }
-    ensures shallow { OnOk result (IsShallow frame.new) }
-    ensures bounded { OnOk result (IsBounded progress.new) }
+    ensures within { OnOk result (AreWithinLimits frame.new progress.new) }
 {
     progress.opened.id(&marked)?;
     frame.file = Rc::new(alloc, marked)?;
@@ -227,7 +220,7 @@ fn move_to(
     Ok(())
 }
 
-/// Reads a file to its end. The caller gives what is known inside it, and the file as an open one.
+/// Reads a file to its end. The caller passes the state inside it, and has marked it as open.
 #[cycle(files)]
 pub(crate) fn read_file(
     reader: &Reader,
@@ -236,8 +229,7 @@ pub(crate) fn read_file(
     progress: &mut Progress,
     names: &mut Names,
 ) -> Result<(), Refusal>
-    requires shallow { IsShallow frame }
-    requires bounded { IsBounded progress.old }
+    requires within { AreWithinLimits frame progress.old }
     ensures read { (first : List (List ℕ)) (a : FileContext) (log : ReadSoFar) → IsState first names.old a [] log progress.old frame
         → IsReading (files_in reader.now.map.now) first names.new a (unread_lines file.now 1) log progress.new result }
     ensures open { OnOk result (progress.new.open_files.items ≡ progress.old.open_files.items) }
@@ -261,7 +253,7 @@ pub(crate) fn read_file(
     Ok(())
 }
 
-// Reads one line of a file; false at its end. `text` and `tokens` hold it while it is read, in place of what they held.
+// Reads one line of a file; returns false at its end. `text` and `tokens` are buffers, whose old contents are dropped.
 #[cycle(files)]
 fn read_next<'a>(
     reader: &Reader,
@@ -272,17 +264,12 @@ fn read_next<'a>(
     progress: &mut Progress,
     names: &mut Names,
 ) -> Result<bool, Refusal>
-    requires clear { lines.old.refusal ≡ None }
-    requires shallow { IsShallow frame.old }
-    requires bounded { IsBounded progress.old }
+    requires ready { (lines.old.refusal ≡ None) × AreWithinLimits frame.old progress.old }
     ensures read { (first : List (List ℕ)) (a : FileContext) (own : List (Located Named)) (log : ReadSoFar)
         → IsState first names.old a own log progress.old frame.old
         → IsNextRead (files_in reader.now.map.now) first names.new a lines.old lines.new own log progress.new frame.new result }
-    ensures less { IfOk result (λ more. IsTrue more → length lines.new.lines < length lines.old.lines) }
-    ensures clear { IfOk result (λ more. IsTrue more → lines.new.refusal ≡ None) }
-    ensures open { OnOk result (progress.new.open_files.items ≡ progress.old.open_files.items) }
-    ensures shallow { OnOk result (IsShallow frame.new) }
-    ensures bounded { OnOk result (IsBounded progress.new) }
+    ensures taken { IfOk result (λ more. IsTrue more → IsLineTaken lines.old lines.new) }
+    ensures back { OnOk result (IsBack progress.old frame.new progress.new) }
     ensures memory { IfErr result IsMemory }
     ensures names { Extends names.old names.new }
 {
@@ -327,15 +314,12 @@ fn read_statement(
     progress: &mut Progress,
     names: &mut Names,
 ) -> Result<(), Refusal>
-    requires shallow { IsShallow frame.old }
-    requires bounded { IsBounded progress.old }
+    requires within { AreWithinLimits frame.old progress.old }
     ensures read { (first known : List (List ℕ)) (a : FileContext) (own : List (Located Named)) (log : ReadSoFar) (x : Named) (l m : UnreadLines)
         → IsState first known a own log progress.old frame.old → IsMade known names.old statement x
         → NextStatement reader.now.map.now.flat l m (spec.context_of a own log) (Ok x) → line ≡ l.number
         → IsStatementRead (files_in reader.now.map.now) first names.new a l m own log progress.new frame.new result }
-    ensures open { OnOk result (progress.new.open_files.items ≡ progress.old.open_files.items) }
-    ensures shallow { OnOk result (IsShallow frame.new) }
-    ensures bounded { OnOk result (IsBounded progress.new) }
+    ensures back { OnOk result (IsBack progress.old frame.new progress.new) }
     ensures memory { IfErr result IsMemory }
     ensures names { Extends names.old names.new }
 {
@@ -362,15 +346,12 @@ fn source(
     progress: &mut Progress,
     names: &mut Names,
 ) -> Result<(), Refusal>
-    requires shallow { IsShallow frame.old }
-    requires bounded { IsBounded progress.old }
+    requires within { AreWithinLimits frame.old progress.old }
     ensures read { (first : List (List ℕ)) (a : FileContext) (own : List (Located Named)) (log : ReadSoFar) (l m : UnreadLines)
         → IsState first names.old a own log progress.old frame.old
         → NextStatement reader.now.map.now.flat l m (spec.context_of a own log) (Ok (SourceLine name.items)) → line ≡ l.number
         → IsStatementRead (files_in reader.now.map.now) first names.new a l m own log progress.new frame.new result }
-    ensures open { OnOk result (progress.new.open_files.items ≡ progress.old.open_files.items) }
-    ensures shallow { OnOk result (IsShallow frame.new) }
-    ensures bounded { OnOk result (IsBounded progress.new) }
+    ensures back { OnOk result (IsBack progress.old frame.new progress.new) }
     ensures memory { IfErr result IsMemory }
     ensures names { Extends names.old names.new }
 {

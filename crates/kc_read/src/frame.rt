@@ -1,22 +1,22 @@
-//! What is known inside a file: the entry that goes on, and the blocks that are open.
+//! The state inside a file: the current entry and the open blocks.
 
 ghost use Rattle.std.specs.Prelude.{◌≡◌, ◌+◌, ◌||◌, IfErr, OnOk, None, Some, length, option_map};
 ghost use Rattle.std.specs.List.{list_any};
 ghost use Rattle.kc_language.specs.Expansion as blocks;
-ghost use Rattle.kc_read.specs.PartsOfExpansion as expansion_parts;
-ghost use Rattle.kc_read.specs.Progress.{IsShallow, is_closer, open_blocks_after, openers};
-ghost use Rattle.kc_read.specs.StatementViews.{head_view};
+ghost use Rattle.kc_entries.specs.PartsOfExpansion as expansion_parts;
+ghost use Rattle.kc_read.specs.Progress.{IsShallow, IsTurned, is_closer};
+ghost use Rattle.kc_entries.specs.StatementViews.{head_view};
 ghost use Rattle.kc_read.specs.LineReads.{IsFault};
 
-use crate::statement::{Block, EntryKind, Head, LineFault, OpenBlock};
 use kc_diagnostics::Cause;
+use kc_entries::statement::{Block, EntryKind, Head, LineFault, OpenBlock};
 use std::rc::Rc;
 
 // The most blocks that may be open at once.
 const MOST_BLOCKS: usize = 64;
 
-/// What is known inside a file: its name, how many blocks are open in the files that source it and whether one of
-/// them is a choice, its own open blocks, the innermost last, and the entry that the next line may add to.
+/// The state inside a file: its name, how many blocks are open in the files that source it and whether one of them is a
+/// choice, its own open blocks (the innermost last), and the entry that the next line may add to.
 #[derive(Drop)]
 pub(crate) struct Frame {
     pub file: Rc<Vec<u8>>,
@@ -90,12 +90,11 @@ impl Frame {
         self.innermost().map(|opener| opener.block)
     }
 
-    /// Takes the line that begins an entry: a block is opened or closed, and another entry goes on. The 65th open block is
-    /// refused.
+    /// Takes the line that begins an entry: it may open or close a block, and changes the current entry. The 65th open block
+    /// is refused.
     pub(crate) fn take(&mut self, head: &Head, line: u32) -> Result<(), LineFault<'static>>
         requires { IsShallow self.old }
-        ensures blocks { OnOk result (openers self.new ≡ open_blocks_after (blocks.bracket (head_view head.now)) self.old.file.value.items line (openers self.old)) }
-        ensures entry { OnOk result (self.new.entry ≡ blocks.entry_of (Some (head_view head.now))) }
+        ensures turned { OnOk result (IsTurned (head_view head.now) line self.old self.new) }
         ensures kept { (self.new.file ≡ self.old.file) × (self.new.depth ≡ self.old.depth) × (self.new.in_choice ≡ self.old.in_choice) }
         ensures shallow { IsShallow self.new }
         ensures allowed { OnOk result (expansion_parts.nesting_cause (self.old.depth + length self.old.blocks.items) (blocks.bracket (head_view head.now)) ≡ None) }

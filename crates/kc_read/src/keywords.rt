@@ -3,12 +3,12 @@
 ghost use Rattle.std.specs.Prelude.{◌≡◌};
 ghost use Rattle.kc_language.specs.Expressions.{same_name};
 ghost use Rattle.kc_language.specs.Statements as spec;
-ghost use Rattle.kc_read.specs.PartsOfStatements as spec_parts;
+ghost use Rattle.kc_entries.specs.PartsOfStatements as spec_parts;
 
-use crate::statement::Keyword;
+use kc_entries::statement::Keyword;
 use kc_expr::expression::SymbolType;
 
-/// Whether two words are the same. Their lengths are compared first: most words differ in them.
+/// Whether two words are the same. Their lengths are compared first: most words differ in length.
 #[inline(always)]
 pub(crate) fn same_word(word: &[u8], other: &[u8]) -> bool
     ensures { result ≡ same_name word.now other.now }
@@ -146,7 +146,7 @@ fn long_word(word: &[u8]) -> Option<Keyword>
     }
 }
 
-/// What a first word says. Its length leaves few words that it may be.
+/// The keyword of a first word. Its length leaves few candidates.
 pub(crate) fn keyword_of(word: &[u8]) -> Option<Keyword>
     ensures { result ≡ spec.keyword_of word.now }
 {

@@ -7,15 +7,15 @@ ghost use Rattle.kc_expr.specs.PartsOfExpressions.{is_tristate_constant};
 ghost use Rattle.kc_expr.specs.Names.{IsNumber, Extends};
 ghost use Rattle.kc_language.specs.declared.diagnostics.Cause.TheVariants.{Memory, Syntax};
 ghost use Rattle.kc_language.specs.Statements as spec;
-ghost use Rattle.kc_read.specs.PartsOfStatements as spec_parts;
+ghost use Rattle.kc_entries.specs.PartsOfStatements as spec_parts;
 ghost use Rattle.kc_language.specs.Statements.{IsMore, ExpressionFault, WholeFault, ConditionFault};
 ghost use Rattle.kc_expr.specs.When.{when_view};
 ghost use Rattle.kc_read.specs.LineReads.{IsToken, IsFault, IsPart, IsFront, IsWholeForm, IsConditionForm, IsOperand, cause_of, expression_cause, unquoted_text, lexemes_from};
 
 use crate::constants::Constants;
 use crate::keywords::same_word;
-use crate::statement::LineFault;
 use kc_diagnostics::Cause;
+use kc_entries::statement::LineFault;
 use kc_expr::expression::{Expr, Operand, SymId};
 use kc_expr::names::{Names, are_name_bytes};
 use kc_expr::parse::{ExprFault, parse};
@@ -27,7 +27,7 @@ use std::rc::Rc;
 // The most bytes of a symbol's name.
 const LONGEST_NAME: usize = 255;
 
-/// The token at a place, if there is one.
+/// The token at a position, if there is one.
 pub(crate) fn next<'a>(tokens: &[Token<'a>], at: usize) -> Option<Token<'a>>
     ensures { IsToken result tokens.now at }
 {
@@ -38,7 +38,7 @@ pub(crate) fn next<'a>(tokens: &[Token<'a>], at: usize) -> Option<Token<'a>>
     }
 }
 
-/// Whether this word stands at a place.
+/// Whether this word is at a position.
 #[inline(always)]
 pub(crate) fn begins_with(tokens: &[Token], at: usize, word: &[u8]) -> bool
     ensures word { result ≡ spec.begins_with word.now (lexemes_from tokens.now at) }
@@ -50,28 +50,28 @@ pub(crate) fn begins_with(tokens: &[Token], at: usize, word: &[u8]) -> bool
     }
 }
 
-/// The word `if`.
+/// Whether a word is `if`.
 pub(crate) fn is_if(word: &[u8]) -> bool
     ensures { result ≡ same_name word.now if_word }
 {
     same_word(word, b"if")
 }
 
-/// The words n, m and y.
+/// Whether a word is n, m or y.
 pub(crate) fn is_tristate_constant(word: &[u8]) -> bool
     ensures { result ≡ is_tristate_constant word.now }
 {
     tristate_constant(word).is_some()
 }
 
-/// The refusal of a line that is no statement.
+/// The fault of a line that is no statement.
 pub(crate) fn syntax() -> LineFault<'static>
     ensures { cause_of result ≡ Syntax }
 {
     Cause::Syntax
 }
 
-/// The line ends at a place.
+/// Checks that the line ends at a position.
 pub(crate) fn end<'a>(tokens: &[Token<'a>], at: usize) -> Result<(), LineFault<'a>>
     ensures end { OnOk result (lexemes_from tokens.now at ≡ []) }
     ensures more { IfErr result (λ f. IsMore (lexemes_from tokens.now at) × (cause_of f ≡ Syntax)) }
@@ -82,7 +82,7 @@ pub(crate) fn end<'a>(tokens: &[Token<'a>], at: usize) -> Result<(), LineFault<'
     }
 }
 
-/// The word at a place.
+/// The word at a position.
 pub(crate) fn word_at<'a>(tokens: &[Token<'a>], at: usize) -> Result<&'a [u8], LineFault<'a>>
     ensures part { IsPart (spec.word_of (lexemes_from tokens.now at)) (λ w. w.now) result }
     ensures within { OnOk result (at < length tokens.now) }
@@ -93,7 +93,7 @@ pub(crate) fn word_at<'a>(tokens: &[Token<'a>], at: usize) -> Result<&'a [u8], L
     }
 }
 
-/// The text at a place as it is written, and whether it is quoted.
+/// The text at a position as it is written, and whether it is quoted.
 pub(crate) fn raw_text<'a>(
     tokens: &[Token<'a>],
     at: usize,
@@ -113,7 +113,7 @@ pub(crate) fn raw_text<'a>(
     }
 }
 
-/// The text at a place.
+/// The text at a position.
 pub(crate) fn text_at<'a>(
     alloc: Global,
     tokens: &[Token<'a>],
@@ -131,7 +131,7 @@ pub(crate) fn text_at<'a>(
     Ok(out)
 }
 
-/// The name that a select or an imply names.
+/// The name after `select` or `imply`.
 pub(crate) fn target_at<'a>(tokens: &[Token<'a>], at: usize) -> Result<&'a [u8], LineFault<'a>>
     ensures part { IsPart (spec.named_target (lexemes_from tokens.now at)) (λ w. w.now) result }
     ensures within { OnOk result (at < length tokens.now) }
@@ -148,7 +148,7 @@ pub(crate) fn target_at<'a>(tokens: &[Token<'a>], at: usize) -> Result<&'a [u8],
     }
 }
 
-/// The refusal of a line whose expression is refused.
+/// The fault of a line whose expression is refused.
 pub(crate) fn fault_of<'a>(fault: ExprFault) -> LineFault<'a>
     ensures { cause_of result ≡ expression_cause fault }
 {
@@ -159,7 +159,7 @@ pub(crate) fn fault_of<'a>(fault: ExprFault) -> LineFault<'a>
     }
 }
 
-/// The expression at a place, and the place after it.
+/// The expression at a position, and the position after it.
 #[inline(always)]
 pub(crate) fn front<'a>(
     alloc: Global,
@@ -180,7 +180,7 @@ pub(crate) fn front<'a>(
     }
 }
 
-/// The value of a default at a place, and the place after it. It is shared with what is made of the line.
+/// The value of a default at a position, and the position after it. The expression is shared.
 #[inline(always)]
 pub(crate) fn value_at<'a>(
     alloc: Global,
@@ -200,7 +200,7 @@ pub(crate) fn value_at<'a>(
     Ok((shared, after))
 }
 
-/// A condition up to the end of the line. It is shared with what is made of the line.
+/// A condition up to the end of the line. The expression is shared.
 #[inline(always)]
 pub(crate) fn whole<'a>(
     alloc: Global,
@@ -218,7 +218,7 @@ pub(crate) fn whole<'a>(
     Ok(Rc::new(alloc, expr)?)
 }
 
-/// Nothing, or `if` and an expression, up to the end of the line.
+/// A condition: nothing, or `if` and an expression, up to the end of the line.
 #[inline(always)]
 pub(crate) fn condition<'a>(
     alloc: Global,
@@ -239,7 +239,7 @@ pub(crate) fn condition<'a>(
     Ok(None)
 }
 
-/// The number of a name, which stays its number.
+/// The number of a name. A name keeps its number.
 pub(crate) fn name_number<'a>(names: &mut Names, word: &[u8]) -> Result<SymId, LineFault<'a>>
     ensures number { IfOk result (λ id. IsNumber names.new word.now id) }
     ensures mentions { OnOk result (names.new ≡ mention names.old word.now) }
@@ -250,7 +250,7 @@ pub(crate) fn name_number<'a>(names: &mut Names, word: &[u8]) -> Result<SymId, L
     Ok(id)
 }
 
-/// The operand at a place.
+/// The operand at a position.
 #[inline(always)]
 pub(crate) fn operand_at<'a>(
     alloc: Global,
@@ -283,7 +283,7 @@ pub(crate) fn operand_at<'a>(
     }
 }
 
-/// Whether a symbol may have the name.
+/// Whether the name is allowed for a symbol.
 pub(crate) fn is_good_name(word: &[u8]) -> bool
     ensures { result ≡ spec.is_good_name word.now }
 {
@@ -294,7 +294,7 @@ pub(crate) fn is_good_name(word: &[u8]) -> bool
     1 <= length && length <= LONGEST_NAME && are_name_bytes(word)
 }
 
-/// `*`, `?` or `[` stands in the text.
+/// Whether the text has a `*`, `?` or `[`.
 pub(crate) fn is_pattern(text: &[u8]) -> bool
     ensures { result ≡ spec_parts.is_pattern text.now }
 {

@@ -1,4 +1,4 @@
-//! Whether a line stands in a right place.
+//! Whether a line is allowed where it is.
 
 ghost use Rattle.std.specs.Prelude.{◌≡◌, option_map};
 ghost use Rattle.kc_language.specs.declared.diagnostics.Cause.TheVariants.{LeftOut};
@@ -10,12 +10,12 @@ ghost use Rattle.kc_read.specs.LineReads.{cause_of, lexemes_from};
 use crate::frame::Frame;
 use crate::line_parts::begins_with;
 use crate::progress::Progress;
-use crate::statement::{Block, EntryKind, Keyword, LineFault};
 use kc_diagnostics::Cause;
+use kc_entries::statement::{Block, EntryKind, Keyword, LineFault};
 use kc_expr::expression::SymbolType;
 use kc_text::Token;
 
-/// What is wrong with the placement of a line.
+/// Why a line is not allowed here, if it is not.
 pub(crate) fn placement_fault<'a>(
     frame: &Frame,
     progress: &Progress,
@@ -55,21 +55,21 @@ pub(crate) fn placement_fault<'a>(
     }
 }
 
-/// The refusal of what is left out of the language: a word, or what `word` names.
+/// The fault of an unsupported construct: a word, or what `word` names.
 pub(crate) fn left_out(word: &[u8]) -> LineFault<'_>
     ensures { cause_of result ≡ LeftOut word.now }
 {
     Cause::LeftOut(word)
 }
 
-// A misplaced line, unless it stands in a right place.
+// A misplaced line, unless the line is allowed here.
 fn unless_placed<'a>(placed: bool) -> Option<LineFault<'a>>
     ensures { option_map cause_of result ≡ spec.unless_placed placed }
 {
     if placed { None } else { Some(Cause::Misplaced) }
 }
 
-// What is wrong with a closer: it closes the innermost open block of its file.
+// The fault of a closing line, unless it closes the innermost open block of its file.
 fn closing_fault<'a>(block: Block, own: Option<Block>) -> Option<LineFault<'a>>
     ensures { option_map cause_of result ≡ spec.closing_cause block own }
 {
@@ -81,7 +81,7 @@ fn closing_fault<'a>(block: Block, own: Option<Block>) -> Option<LineFault<'a>>
     }
 }
 
-// A type may stand in a config, and in a choice bool alone.
+// A type line is allowed in a `config` entry. In a choice only the type bool is allowed.
 fn type_placement<'a>(entry: EntryKind, symbol_type: SymbolType) -> Option<LineFault<'a>>
     ensures { option_map cause_of result ≡ spec.type_placement entry symbol_type }
 {

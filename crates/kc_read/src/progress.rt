@@ -1,16 +1,16 @@
-//! What is remembered of all files read so far.
+//! The state of reading that all files share.
 
 ghost use Rattle.std.specs.Prelude.{◌≡◌, IfErr, OnOk, None, Some};
 ghost use Rattle.std.specs.Option.{option_or};
 ghost use Rattle.kc_expr.specs.PartsOfSymbols.{added};
-ghost use Rattle.kc_read.specs.Progress.{defining_cause, ids_match, HasSymbolsWithin, IsRemembered, symbol_limit_cause, KeepsWhenDefining, KeepsWhenMarking};
-ghost use Rattle.kc_read.specs.StatementViews.{attribute_view, head_view};
+ghost use Rattle.kc_read.specs.Progress.{defining_cause, ids_match, HasSymbolsWithin, IsDefined, IsRemembered, symbol_limit_cause, KeepsWhenDefining, KeepsWhenMarking};
+ghost use Rattle.kc_entries.specs.StatementViews.{attribute_view, head_view};
 ghost use Rattle.kc_read.specs.LineReads.{IsFault};
 ghost use Rattle.kc_language.specs.Expansion.{defined_name};
 
-use crate::entries::Entries;
-use crate::statement::{Attribute, Head, LineFault};
 use kc_diagnostics::Cause;
+use kc_entries::entries::Entries;
+use kc_entries::statement::{Attribute, Head, LineFault};
 use kc_expr::distinct_symbols::DistinctSymbols;
 use kc_expr::expression::SymId;
 use kc_expr::names::Names;
@@ -19,9 +19,9 @@ use std::rc::Rc;
 // The most symbols that may be defined.
 const MOST_SYMBOLS: usize = 65535;
 
-/// What is remembered of all files read so far: their entries, the sum of their physical lines, the defined symbols in
-/// order of their first definition, the symbol defined last, the symbol of the first `modules` line, the names of all files
-/// that were opened, in the order of their first opening, and the files that are open now, the innermost last.
+/// The state of reading that all files share: their entries, the number of their physical lines, the defined symbols in
+/// order of their first definition, the symbol defined last, the symbol of the first `modules` line, the names of all opened
+/// files in the order of their first opening, and the files that are open now, the innermost last.
 #[derive(Drop)]
 pub(crate) struct Progress {
     pub entries: Entries,
@@ -45,11 +45,10 @@ impl Progress {
         }
     }
 
-    // The symbol is defined. The 65,536th is refused.
+    // Defines the symbol. The 65,536th is refused.
     fn define(&mut self, id: SymId) -> Result<(), LineFault<'static>>
         requires { HasSymbolsWithin self.old }
-        ensures defined { OnOk result (self.new.defined ≡ added self.old.defined id) }
-        ensures config { OnOk result (self.new.config ≡ Some id) }
+        ensures defined { OnOk result (IsDefined id self.old self.new) }
         ensures kept { KeepsWhenDefining self.old self.new }
         ensures within { OnOk result (HasSymbolsWithin self.new) }
         ensures allowed { OnOk result (symbol_limit_cause self.old.defined id ≡ None) }
@@ -63,7 +62,7 @@ impl Progress {
         Ok(())
     }
 
-    // The symbol that was defined last has a `modules` line.
+    // Records that the symbol defined last has a `modules` line.
     fn note_modules(&mut self)
         ensures modules { self.new.modules ≡ option_or self.old.modules self.old.config }
         ensures kept { KeepsWhenMarking self.old self.new }
@@ -73,7 +72,7 @@ impl Progress {
         }
     }
 
-    /// Remembers the line that begins an entry: a config line defines its symbol, of which the 65,536th is refused.
+    /// Records the line that begins an entry. A `config` line defines its symbol; the 65,536th symbol is refused.
     pub(crate) fn remember(&mut self, head: &Head) -> Result<(), LineFault<'static>>
         requires { HasSymbolsWithin self.old }
         ensures remembered { OnOk result (IsRemembered (head_view head.now) self.old self.new) }
@@ -87,7 +86,7 @@ impl Progress {
         }
     }
 
-    /// Remembers an attribute: the first `modules` line is remembered.
+    /// Records an attribute: only the first `modules` line is kept.
     pub(crate) fn remember_attribute(&mut self, attribute: &Attribute)
         ensures { IsRemembered (attribute_view attribute.now) self.old self.new }
     {

@@ -4,11 +4,11 @@ ghost use Rattle.std.specs.Prelude.{◌≡◌, ◌≤◌, ℕ, length, IfOk, IfE
 ghost use Rattle.kc_expr.specs.Names.{Extends};
 ghost use Rattle.kc_language.specs.Statements as spec;
 ghost use Rattle.kc_language.specs.Statements.{finish, ReadsLine, ReadsRest, ReadsWhole, ReadsValue, ReadsPrompt, ReadsSource, ReadsTextLine, Named, SourceLine, IfLine, CommentLine, DefaultLine, PromptLine, SelectLine, ImplyLine, MenuLine, MainMenuLine, DefLine, TypeLine};
-ghost use Rattle.kc_read.specs.PartsOfStatements.{ReadsType, ReadsTarget, ReadsConfig};
-ghost use Rattle.kc_read.specs.PartsOfStatements.{ReadsRange, ReadsDepends, ReadsVisible};
+ghost use Rattle.kc_entries.specs.PartsOfStatements.{ReadsType, ReadsTarget, ReadsConfig};
+ghost use Rattle.kc_entries.specs.PartsOfStatements.{ReadsRange, ReadsDepends, ReadsVisible};
 ghost use Rattle.kc_read.specs.LineReads.{IsFault, IsRead, IsMade, lexemes_from};
 ghost use Rattle.kc_read.specs.Progress.{context_in};
-ghost use Rattle.kc_read.specs.PartsOfStatements.{choice_line as spec_choice_line};
+ghost use Rattle.kc_entries.specs.PartsOfStatements.{choice_line as spec_choice_line};
 
 use crate::constants::Constants;
 use crate::frame::Frame;
@@ -19,15 +19,16 @@ use crate::line_parts::{
 };
 use crate::placement::{left_out, placement_fault};
 use crate::progress::Progress;
-use crate::statement::{Attribute, Head, Keyword, LineFault, Prompt, Statement};
 use kc_diagnostics::Cause;
+use kc_entries::statement::{
+    Attribute, Head, Keyword, LineFault, Prompt, Statement, SymbolDefault, SymbolRange,
+};
 use kc_expr::expression::{SymId, SymbolType};
 use kc_expr::names::Names;
 use kc_text::Token;
-use kc_tree::rows::{SymbolDefault, SymbolRange};
 use std::alloc::Global;
 
-/// Where the next line stands: in a file that is open, behind what was read so far.
+/// The position of the next line: in an open file, after what was read so far.
 #[derive(Drop)]
 pub(crate) struct Position<'p> {
     pub alloc: Global,
@@ -138,7 +139,7 @@ fn depends_line<'a>(
 fn end_line<'a>(tokens: &[Token<'a>], statement: Statement) -> Result<Statement, LineFault<'a>>
     ensures { (x : Named) (names : List (List ℕ)) → IsMade names names statement x → IsRead names names (λ r. r ≡ finish x (lexemes_from tokens.now 1)) result }
 {
-    // The call drops the statement once, where `?` would write out the drop of every kind of it.
+    // The call drops the statement once, while `?` would expand the drop of every kind of statement.
     if let Err(fault) = end(tokens, 1) {
         drop(statement);
         return Err(fault);
@@ -295,7 +296,7 @@ fn type_line<'a>(
     }
 }
 
-// What follows the first word.
+// Reads what follows the first word.
 fn rest_of_line<'a>(
     position: &Position<'_>,
     tokens: &[Token<'a>],
@@ -336,7 +337,7 @@ fn rest_of_line<'a>(
     }
 }
 
-/// The statement of a line that has tokens, or why it is refused.
+/// Returns the statement of a line that has tokens, or why the line is refused.
 pub(crate) fn read_line<'a>(
     position: &Position<'_>,
     tokens: &[Token<'a>],

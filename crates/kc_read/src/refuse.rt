@@ -7,11 +7,11 @@ ghost use Rattle.kc_read.specs.LineReads.{cause_of};
 ghost use Rattle.kc_read.specs.RefusalView.{IsMemory, refusal_view};
 
 use crate::refusal::Refusal;
-use crate::statement::LineFault;
 use kc_diagnostics::Cause;
+use kc_entries::statement::LineFault;
 use std::alloc::Global;
 
-/// The refusal for a fault at a line, or out of memory. It is inlined, and so is all that it calls: the compiler then keeps
+/// The refusal for a fault at a line, or out of memory. It is inlined, and so is all that it calls: then the compiler keeps
 /// the parts of a result that may be a refusal in registers.
 #[inline(always)]
 pub(crate) fn refuse(alloc: Global, fault: LineFault, file: &[u8], line: u32) -> Refusal

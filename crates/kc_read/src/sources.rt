@@ -16,7 +16,7 @@ use kc_diagnostics::Cause;
 use kc_text::{LogicalLines, TextFault, Token, lex};
 use std::alloc::{AllocError, Global};
 
-/// What the next line says: no name and none after it, none, or this one.
+/// The name in the next line: no name is left, this line has none, or this name.
 #[derive(Debug, Drop)]
 pub(crate) enum NextSource {
     Nothing,
@@ -24,7 +24,7 @@ pub(crate) enum NextSource {
     Name(Vec<u8>),
 }
 
-// A line that is too long or cannot be cut is followed by no name.
+// After a line that is too long or cannot be cut, no name is left.
 fn ended(fault: TextFault) -> Result<NextSource, AllocError>
     ensures { IfOk result (λ f. (f ≡ Nothing) × (fault ≢ Memory)) }
 {
@@ -36,7 +36,7 @@ fn ended(fault: TextFault) -> Result<NextSource, AllocError>
     }
 }
 
-// What a line that was taken says; `tokens` holds the line's while it is read, in place of what it held.
+// The name in a line that was taken. `tokens` is a buffer, whose old content is dropped.
 #[inline(always)]
 fn source_of_line<'l>(
     alloc: Global,
@@ -45,7 +45,7 @@ fn source_of_line<'l>(
     lines: &mut LogicalLines,
 ) -> Result<NextSource, AllocError>
     requires { lines.old.refusal ≡ None }
-    // Whatever the lines were before.
+    // This holds for any lines before.
     ensures { IfOk result (λ f. (before : UnreadLines) → TakesLine before lines.old line.now → IsFound before lines.new f) }
 {
     match lex(line, false, tokens) {
@@ -67,8 +67,8 @@ fn source_of_line<'l>(
     }
 }
 
-// What the next line of a file says. `tokens` holds those of a line that is lent from the file while it is read, and
-// `text` the bytes of one that is joined, each in place of what it held.
+// The name in the next line of a file. `tokens` is a buffer for the tokens of a line that is borrowed from the file, and
+// `text` one for the bytes of a joined line. Their old contents are dropped.
 fn next_source<'a>(
     alloc: Global,
     lines: &mut LogicalLines<'a>,
@@ -92,7 +92,7 @@ fn next_source<'a>(
     source_of_line(alloc, text, &mut own, lines)
 }
 
-// Whether nothing but blanks stands between a place and the beginning of its line; `before` is what stands before the place.
+// Whether there are only blanks between the start of a line and a position; `before` is all bytes before that position.
 fn begins_line(before: &[u8]) -> bool
     ensures begun { result ≡ true → BeginsLine before.now }
     ensures not_begun { result ≡ false → BeginsLine before.now → ⊥ }
@@ -103,7 +103,7 @@ fn begins_line(before: &[u8]) -> bool
     }
 }
 
-// Whether these bytes begin with the end of a line.
+// Whether these bytes begin with the end of their line.
 fn ends_line(after: &[u8]) -> bool
     ensures ended { result ≡ true → EndsLine after.now }
     ensures not_ended { result ≡ false → EndsLine after.now → ⊥ }
@@ -129,7 +129,7 @@ fn has_source(file: &[u8]) -> bool
     }
 }
 
-// Whether a line ends with a `\`, which joins it with the next one.
+// Whether a line ends with a `\`, which joins it to the next one.
 fn has_join(file: &[u8]) -> bool
     ensures silent { result ≡ false → HasNoJoin file.now }
     ensures heard { result ≡ true → HasNoJoin file.now → ⊥ }
@@ -146,7 +146,7 @@ fn has_join(file: &[u8]) -> bool
     }
 }
 
-// Whether a file may have a `source` line, seen without cutting it into tokens. A `\` may join the parts of the word.
+// Whether a file may have a `source` line, without cutting it into tokens. A `\` may join the parts of the word.
 fn may_source(file: &[u8]) -> bool
     ensures silent { result ≡ false → IsQuiet file.now }
     ensures heard { result ≡ true → IsQuiet file.now → ⊥ }
@@ -154,11 +154,11 @@ fn may_source(file: &[u8]) -> bool
     has_source(file) || has_join(file)
 }
 
-/// The names of the file's `source` lines in order, up to the first line that is too long or cannot be cut into tokens,
-/// or to the first `source` line whose rest is refused, whichever comes first. Help lines are passed over.
+/// Returns the names of the file's `source` lines in order, up to the first line that is too long or cannot be cut into
+/// tokens, or the first `source` line that is refused, whichever comes first. Help lines are skipped.
 ///
-/// Its only error is to be out of memory, which no file answers in which no line begins with the text `source` and none
-/// ends with a `\`.
+/// The only error is that memory runs out. That never happens for a file in which no line begins with the text `source` and
+/// none ends with a `\`.
 pub fn sources_of(alloc: Global, file: &[u8]) -> Result<Vec<Vec<u8>>, AllocError>
     ensures names { IfOk result (λ names. spec.SourceNames (unread_lines file.now 1) (map (λ n. n.items) names.items)) }
     ensures heard { OnErr result (IsQuiet file.now → ⊥) }

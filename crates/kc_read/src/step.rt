@@ -5,7 +5,7 @@ ghost use Rattle.kc_expr.specs.Names.{Extends};
 ghost use Rattle.kc_language.specs.Lines.{UnreadLines, TakesLine};
 ghost use Rattle.kc_text.specs.Lexemes.{lexemes};
 ghost use Rattle.kc_language.specs.Expansion.{text_cause};
-ghost use Rattle.kc_read.specs.PartsOfExpansion.{is_help};
+ghost use Rattle.kc_entries.specs.PartsOfExpansion.{is_help};
 ghost use Rattle.kc_read.specs.LineReads.{cause_of};
 ghost use Rattle.kc_read.specs.RefusalView.{IsMemory, out_of_memory, refusal_view};
 ghost use Rattle.kc_read.specs.NextStep.{IsMarked, IsStepAt, IsStepRefusalAt, long_line};
@@ -14,20 +14,20 @@ use crate::line_parts::begins_with;
 use crate::reader::{Position, read_line};
 use crate::refusal::Refusal;
 use crate::refuse::refuse;
-use crate::statement::{LineFault, Statement};
 use kc_diagnostics::Cause;
+use kc_entries::statement::{LineFault, Statement};
 use kc_expr::names::Names;
 use kc_text::{LogicalLines, TextFault, Token, lex, marker_of};
 use std::alloc::{AllocError, Global};
 
-/// What stands next in a file.
+/// The result of reading the next line of a file.
 #[derive(Debug, Drop)]
 pub(crate) enum Step {
     End,
     Blank,
-    /// The next line is the one of this number.
+    /// The next line has this number.
     Renumbered(u32),
-    /// The next line is the one of this number of this other file.
+    /// The next line has this number in this other file.
     Moved(u32, Vec<u8>),
     Next(u32, Statement),
 }
@@ -53,10 +53,10 @@ fn long_line(fault: TextFault) -> u32
     }
 }
 
-// How many tokens get room at once: nearly no line has more.
+// The number of tokens that get room at once: nearly no line has more.
 const TOKENS: usize = 8;
 
-/// No tokens yet, with room for those of the line where it has a byte.
+/// Returns an empty list of tokens, with room for those of the line unless the line is empty.
 pub(crate) fn token_list<'a>(alloc: Global, line: &[u8]) -> Result<Vec<Token<'a>>, AllocError>
     ensures { IfOk result (λ v. v.items ≡ []) }
 {
@@ -73,7 +73,7 @@ pub(crate) fn begins_help(tokens: &[Token]) -> bool
     begins_with(tokens, 0, b"help") || begins_with(tokens, 0, b"---help---")
 }
 
-// What a line without tokens says.
+// The meaning of a line without tokens.
 fn marked(position: &Position<'_>, line: &[u8]) -> Result<Step, Refusal>
     ensures marked { IfOk result (IsMarked position.now.is_flat position.now.frame.now.file.value.items line.now) }
     ensures memory { IfErr result (λ r. refusal_view r ≡ out_of_memory) }
@@ -93,7 +93,7 @@ fn marked(position: &Position<'_>, line: &[u8]) -> Result<Step, Refusal>
     }
 }
 
-// What a line that was taken says; `tokens` holds the line's while it is read, in place of what it held.
+// The meaning of a line that was taken. `tokens` is a buffer, whose old content is dropped.
 #[inline(always)]
 fn step_of_line<'l>(
     position: &Position<'_>,
@@ -104,7 +104,7 @@ fn step_of_line<'l>(
     names: &mut Names,
 ) -> Result<Step, Refusal>
     requires { lines.old.refusal ≡ None }
-    // Whatever the lines were before.
+    // This holds for any lines before.
     ensures step { IfOk result (λ s. (before : UnreadLines) → number ≡ before.number → TakesLine before lines.old line.now
         → IsStepAt position.now names.old names.new before lines.new s) }
     ensures refused { IfErr result (λ r. (before : UnreadLines) → number ≡ before.number → TakesLine before lines.old line.now
@@ -133,8 +133,8 @@ fn step_of_line<'l>(
     }
 }
 
-// What stands next in a file that has no line to lend next: a line that is joined, or one that is too long, or its end.
-// `text` holds the bytes of the joined line, in place of what it held.
+// The next step in a file if no line can be borrowed from it: a joined line, a line that is too long, or the end. `text` is a
+// buffer for the bytes of the joined line, whose old content is dropped.
 fn next_joined(
     position: &Position<'_>,
     lines: &mut LogicalLines,
@@ -166,8 +166,8 @@ fn next_joined(
     step_of_line(position, number, text, &mut own, lines, names)
 }
 
-/// What stands next in a file. `tokens` holds those of a line that is lent from the file while it is read, and `text` the
-/// bytes of one that is joined, each in place of what it held.
+/// Reads the next line of a file. `tokens` is a buffer for the tokens of a line that is borrowed from the file, and `text` one
+/// for the bytes of a joined line. Their old contents are dropped.
 pub(crate) fn next_step<'a>(
     position: &Position<'_>,
     lines: &mut LogicalLines<'a>,

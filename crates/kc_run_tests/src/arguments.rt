@@ -1,6 +1,6 @@
 //! Arguments of the command line, and what they request (kc_words).
-use kc_conf::{Delivery, Options};
-use kc_words::{Each, Request, UsageError, request_of};
+use kc_conf::{Delivery, Options, Output, WantedOutput};
+use kc_words::{DeadList, Each, Request, UsageError, request_of};
 use std::alloc::{AllocError, Global};
 
 // Adds the arguments between the `|` of a line.
@@ -18,15 +18,9 @@ fn words_into(alloc: Global, line: &str, words: &mut Vec<String>) -> Result<(), 
 struct Want {
     root: &'static str,
     config: &'static str,
-    out: Option<&'static str>,
+    outputs: &'static [(Output, &'static str)],
     kconfig: &'static str,
-    header: Option<&'static str>,
-    minimal: Option<&'static str>,
-    list_new: Option<&'static str>,
-    list_gone: Option<&'static str>,
     include: Option<&'static str>,
-    depfile: Option<&'static str>,
-    explanation: Option<&'static str>,
     explain: &'static [&'static str],
     explain_depth: usize,
     prefix: &'static [u8],
@@ -38,15 +32,9 @@ struct Want {
 const PLAIN: Want = Want {
     root: ".",
     config: ".config",
-    out: Some(".config"),
+    outputs: &[(Output::Config, ".config")],
     kconfig: "Kconfig",
-    header: None,
-    minimal: None,
-    list_new: None,
-    list_gone: None,
     include: None,
-    depfile: None,
-    explanation: None,
     explain: &[],
     explain_depth: 3,
     prefix: b"CONFIG_",
@@ -56,8 +44,7 @@ const PLAIN: Want = Want {
 
 // The same if three symbols are to be explained.
 const EXPLAINED: Want = Want {
-    out: None,
-    explanation: Some("/dev/stdout"),
+    outputs: &[(Output::Explanation, "/dev/stdout")],
     explain: &["A", "CONFIG_B", ""],
     ..PLAIN
 };
@@ -77,6 +64,16 @@ fn are_names(names: &[String], want: &[&str]) -> bool {
         }
     }
     names.len() == want.len()
+}
+
+// Whether these are the outputs, in this order.
+fn are_outputs(outputs: &[WantedOutput], want: &[(Output, &str)]) -> bool {
+    for (output, (kind, file)) in outputs.iter().zip(want) {
+        if output.kind != *kind || output.file.as_str() != *file {
+            return false;
+        }
+    }
+    outputs.len() == want.len()
 }
 
 // Adds the flags that are set.
@@ -113,15 +110,9 @@ fn are_flags(alloc: Global, options: &Options, want: &str) -> bool {
 fn are_options(alloc: Global, options: &Options, want: &Want) -> bool {
     options.root.as_str() == want.root
         && options.config.as_str() == want.config
-        && is_name(&options.out, want.out)
+        && are_outputs(&options.outputs, want.outputs)
         && options.kconfig.as_str() == want.kconfig
-        && is_name(&options.header, want.header)
-        && is_name(&options.minimal, want.minimal)
-        && is_name(&options.list_new, want.list_new)
-        && is_name(&options.list_gone, want.list_gone)
         && is_name(&options.include, want.include)
-        && is_name(&options.depfile, want.depfile)
-        && is_name(&options.explanation, want.explanation)
         && are_names(&options.explain, want.explain)
         && options.explain_depth == want.explain_depth
         && options.prefix.as_bytes() == want.prefix
@@ -132,7 +123,7 @@ fn are_options(alloc: Global, options: &Options, want: &Want) -> bool {
 fn words_give(alloc: Global, words: &[String], want: &Want) -> bool {
     match request_of(alloc, words) {
         Ok(Request::One(options)) => are_options(alloc, &options, want),
-        Ok(Request::Each(_each)) => false,
+        Ok(Request::Each(_) | Request::Dead(_)) => false,
         Err(_usage) => false,
     }
 }
@@ -151,19 +142,21 @@ const OPTIONS: &[(&str, Want)] = &[
         Want {
             root: "d",
             config: "a",
-            out: Some("a"),
+            outputs: &[(Output::Config, "a")],
             ..PLAIN
         },
     ),
     (
         "Kconfig|--out=b|--header=h|--savedefconfig|m|--list-new=n|--list-gone=o|--depfile=d",
         Want {
-            out: Some("b"),
-            header: Some("h"),
-            minimal: Some("m"),
-            list_new: Some("n"),
-            list_gone: Some("o"),
-            depfile: Some("d"),
+            outputs: &[
+                (Output::Config, "b"),
+                (Output::Header, "h"),
+                (Output::Minimal, "m"),
+                (Output::NewSymbols, "n"),
+                (Output::GoneLines, "o"),
+                (Output::DependencyFile, "d"),
+            ],
             ..PLAIN
         },
     ),
@@ -171,7 +164,7 @@ const OPTIONS: &[(&str, Want)] = &[
         "--config=|--prefix=|Kconfig",
         Want {
             config: "",
-            out: Some(""),
+            outputs: &[(Output::Config, "")],
             prefix: b"",
             ..PLAIN
         },
@@ -289,7 +282,7 @@ struct WantEach {
 // The options of each configuration for a command line with only one name, `Kconfig`, and `--each`.
 const EACH: Want = Want {
     config: "",
-    out: None,
+    outputs: &[],
     flags: "must-exist names-config ",
     ..PLAIN
 };
@@ -303,7 +296,7 @@ fn is_each(alloc: Global, each: &Each, want: &WantEach) -> bool {
 fn words_give_each(alloc: Global, words: &[String], want: &WantEach) -> bool {
     match request_of(alloc, words) {
         Ok(Request::Each(each)) => is_each(alloc, &each, want),
-        Ok(Request::One(_options)) => false,
+        Ok(Request::One(_) | Request::Dead(_)) => false,
         Err(_usage) => false,
     }
 }
@@ -330,7 +323,7 @@ const CONFIGURATIONS: &[(&str, WantEach)] = &[
             configurations: &["a", "b"],
             list: None,
             options: Want {
-                minimal: Some("m/{/}"),
+                outputs: &[(Output::Minimal, "m/{/}")],
                 fragments: &["c"],
                 ..EACH
             },
@@ -342,7 +335,7 @@ const CONFIGURATIONS: &[(&str, WantEach)] = &[
             configurations: &["a"],
             list: None,
             options: Want {
-                list_new: Some("{}.new"),
+                outputs: &[(Output::NewSymbols, "{}.new")],
                 explain_depth: 1,
                 flags: "must-exist explain-lost with-help names-config ",
                 ..EACH
@@ -367,10 +360,12 @@ const CONFIGURATIONS: &[(&str, WantEach)] = &[
             configurations: &["a"],
             list: Some("l"),
             options: Want {
-                out: Some("{}.full"),
-                list_new: Some("{}.new"),
-                list_gone: Some("{}.gone"),
-                depfile: Some("{}.d"),
+                outputs: &[
+                    (Output::Config, "{}.full"),
+                    (Output::NewSymbols, "{}.new"),
+                    (Output::GoneLines, "{}.gone"),
+                    (Output::DependencyFile, "{}.d"),
+                ],
                 flags: "must-exist replace names-config ",
                 ..EACH
             },
@@ -382,6 +377,59 @@ const CONFIGURATIONS: &[(&str, WantEach)] = &[
 fn each_argument_is_a_configuration_with_each(rt: HostRuntime) {
     for (line, want) in CONFIGURATIONS {
         assert!(rt; gives_each(rt.alloc(), line, want), "{line}");
+    }
+}
+
+fn is_dead_list(alloc: Global, dead: &DeadList, file: &str, want: &Want) -> bool {
+    dead.file.as_str() == file && are_options(alloc, &dead.options, want)
+}
+
+fn words_give_dead(alloc: Global, words: &[String], file: &str, want: &Want) -> bool {
+    match request_of(alloc, words) {
+        Ok(Request::Dead(dead)) => is_dead_list(alloc, &dead, file, want),
+        Ok(Request::One(_) | Request::Each(_)) => false,
+        Err(_usage) => false,
+    }
+}
+
+// Whether the arguments between the `|` request a list of dead prompts in this file.
+fn gives_dead(alloc: Global, line: &str, file: &str, want: &Want) -> bool {
+    let mut words = Vec::new(alloc);
+    words_into(alloc, line, &mut words).is_ok() && words_give_dead(alloc, &words, file, want)
+}
+
+// The options of a list of dead prompts for a command line with only one name, `Kconfig`.
+const DEAD: Want = Want {
+    outputs: &[],
+    ..PLAIN
+};
+
+// Arguments, the file of the list that they request, and its options.
+const DEAD_LISTS: &[(&str, &str, Want)] = &[
+    ("--list-dead|f|Kconfig", "f", DEAD),
+    ("Kconfig|--list-dead=", "", DEAD),
+    (
+        "--out=b|--header=h|--savedefconfig|m|--list-new=n|--list-gone=o|--list-dead=f|--depfile=d|Kconfig|a|--fragment|c|--must-exist",
+        "f",
+        DEAD,
+    ),
+    (
+        "--root=d|--config=a|--list-dead|/dev/stdout|Kconfig|--prefix=|--raw-strings|--quiet-tree|--strict-tree|--check",
+        "/dev/stdout",
+        Want {
+            root: "d",
+            config: "a",
+            prefix: b"",
+            flags: "strict-tree raw-strings quiet-tree check ",
+            ..DEAD
+        },
+    ),
+];
+
+#[test]
+fn a_list_of_dead_prompts_has_no_other_output(rt: HostRuntime) {
+    for (line, file, want) in DEAD_LISTS {
+        assert!(rt; gives_dead(rt.alloc(), line, file, want), "{line}");
     }
 }
 
@@ -447,6 +495,12 @@ const OTHERS: &[(&str, &str)] = &[
     ("--explain-depth=9223372036854775808|K", "bad"),
     ("--explain|A|--check|--replace|K", "bad"),
     ("--explain|A|--each|K", "bad"),
+    ("--list-dead|K", "bad"),
+    ("--list-dead=a|--list-dead=b|K", "bad"),
+    ("--list-dead|f|--each|K", "bad"),
+    ("--list-dead|f|--each-from|l|K", "bad"),
+    ("--list-dead|f|--explain|A|K", "bad"),
+    ("--list-dead|f|--prefix|9X|K", "bad"),
     ("--depfile|K", "bad"),
     ("--depfile=a|--depfile=b|K", "bad"),
     ("--replace=1|K", "bad"),
@@ -511,6 +565,18 @@ const USAGES: &[(&str, &str)] = &[
     (
         "--each|K|--depfile|d|--explain=A|--explain-depth=x",
         "error: the argument '--explain <NAME>' cannot be used with '--each'\n",
+    ),
+    (
+        "--each|--list-dead|f|K|--explain=A|--prefix|9X",
+        "error: the argument '--explain <NAME>' cannot be used with '--each'\n",
+    ),
+    (
+        "--each-from|l|K|--list-dead=f|--depfile|d|--prefix|9X",
+        "error: the argument '--list-dead <FILE>' cannot be used with '--each'\n",
+    ),
+    (
+        "--list-dead|f|K|--explain=A|--explain-depth=x",
+        "error: the argument '--list-dead <FILE>' cannot be used with '--explain'\n",
     ),
     (
         "--explain-depth|x|--prefix|9X|K",

@@ -1,24 +1,10 @@
 -- The selection of one more choice, and the flags of one more symbol.
-use Rattle.std.proofs.Common.{◌≡◌, ℕ, ◌+◌, ◌<◌, ◌&&◌, not, Bool, false, Some, List, [], ◌∷◌, ◌++◌, map, length, Option, None, refl, sym, ◌∙◌, ap, arith}
-use Rattle.std.specs.List.{range_with_len}
-use Rattle.std.proofs.lemmas.List.FromFn.{map-range_with_len_more}
-use Rattle.kc_language.specs.declared.expressions.SymId.{SymId}
-use Rattle.kc_language.specs.declared.expressions.Tri.{Tri}
-use Rattle.kc_language.specs.Symbols.{TreeFacts, SymbolFacts, is_symbol_of}
-use Rattle.std.specs.Prelude.{slice_get, slice_index_or}
-use Rattle.std.proofs.lemmas.List.FromFn.{get_or-map-range_with_len}
-use Rattle.kc_language.specs.Expressions.{symbol, SymbolValue}
-use Rattle.kc_language.specs.Values.{facts, choice_at, Solves, UserPlace, SymbolPlace, ChoicePlace, GivenValue, name_count, user_place, rhs, equations, selection, default_selection, differs, differs_at, selected, equation, by_type, is_n, visibility, written}
-use Rattle.kc_values.specs.PartsOfValues.{by_choice}
-use Rattle.kc_values.specs.PartsOfValues.{user_place_by, user_place_of, same_value}
-use Rattle.std.specs.Option.{is_some}
-use Rattle.kc_values.proofs.SameValue.{same_value_itself}
-use Rattle.kc_values.proofs.Uncounted.{uncounted}
-use Rattle.kc_values.specs.declared.table.Value.{Value}
-use Rattle.kc_solve.specs.Answers.{visibility_by}
-use Rattle.kc_solve.specs.Flags.{differs_by, is_written, visibility_at, IsSolvedOwn}
-use Rattle.kc_solve.specs.Kept.{valuation}
-use Rattle.kc_values.specs.Table.{known_in}
+use Rattle.std.proofs.{Common.{Bool, List, None, Option, Some, [], ap, arith, false, length, map, not, refl, sym, ℕ, ◌&&◌, ◌++◌, ◌+◌, ◌<◌, ◌∙◌, ◌∷◌, ◌≡◌}, lemmas.List.FromFn.{get_or-map-range_with_len, map-range_with_len_more}}
+use Rattle.std.specs.{List.range_with_len, Option.is_some, Prelude.{slice_get, slice_index_or}}
+use Rattle.kc_language.specs.{Expressions.{SymbolValue, symbol}, Symbols.{SymbolFacts, TreeFacts, is_symbol_of}, Values.{ChoicePlace, GivenValue, Solves, SymbolPlace, UserPlace, by_type, choice_at, default_selection, differs, differs_at, equation, equations, facts, is_n, name_count, rhs, selected, selection, user_place, visibility, written}, declared.expressions.{SymId.SymId, Tri.Tri}}
+use Rattle.kc_values.specs.{PartsOfValues.{by_choice, same_value, user_place_by, user_place_of}, Table.known_in, declared.table.Value.Value}
+use Rattle.kc_values.proofs.{SameValue.same_value_itself, Uncounted.uncounted}
+use Rattle.kc_solve.specs.{Answers.visibility_by, Flags.{IsSolvedOwn, differs_by, is_written, visibility_at}, Kept.valuation}
 use Rattle.kc_solve.proofs.WarningSteps.{tables_known}
 
 one_more : {X : Type 0} (f : ℕ → X) (i : ℕ) (x : X) (old new : List X) → old ≡ map f (range_with_len 0 i) → new ≡ old ++ x ∷ [] → x ≡ f i → new ≡ map f (range_with_len 0 (i + 1))

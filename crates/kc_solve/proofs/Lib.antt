@@ -8,5 +8,4 @@ pub mod MemberSteps
 pub mod OrderSteps
 pub mod SequenceSteps
 pub mod SolvedSteps
-pub mod ShownSteps
 pub mod SourceSteps

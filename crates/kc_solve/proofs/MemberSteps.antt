@@ -1,19 +1,10 @@
 -- A visible member that is not the default selection of its choice is another that could be selected.
-use Rattle.std.proofs.Common.{◌≡◌, ◌≢◌, ◌&&◌, ℕ, Bool, true, false, not, Some, None, refl, sym, ◌∙◌, ap}
-use Rattle.std.specs.List.{list_any}
-use Rattle.std.specs.Option.{option_map_or}
-use Rattle.std.proofs.lemmas.Bool.{and_from, false_from_ne_true, not_from_false, true≢false}
-use Rattle.std.proofs.lemmas.List.Folds.{list_any_at}
-use Rattle.kc_language.specs.Expressions.{SymbolValue, same_symbol}
-use Rattle.kc_language.specs.Symbols.{SymbolFacts, TreeFacts}
+use Rattle.std.proofs.{Common.{Bool, None, Some, ap, false, not, refl, sym, true, ℕ, ◌&&◌, ◌∙◌, ◌≡◌, ◌≢◌}, lemmas.{Bool.{and_from, false_from_ne_true, not_from_false, true≢false}, List.Folds.list_any_at}}
+use Rattle.std.specs.{List.list_any, Option.option_map_or}
+use Rattle.kc_language.specs.{Expressions.{SymbolValue, same_symbol}, Symbols.{SymbolFacts, TreeFacts}, declared.expressions.{SymId.SymId, SymbolType.SymbolType, Tri.{TheVariants.{M, N, Y}, Tri}}}
 use Rattle.kc_language.specs.Values as v
-use Rattle.kc_language.specs.declared.expressions.SymId.{SymId}
-use Rattle.kc_language.specs.declared.expressions.SymbolType.{SymbolType}
-use Rattle.kc_language.specs.declared.expressions.Tri.{Tri}
-use Rattle.kc_language.specs.declared.expressions.Tri.TheVariants.{M, N, Y}
-use Rattle.kc_tree.specs.TreeFacts.{IsWellFormed}
-use Rattle.kc_values.proofs.Same.{same_symbol-true}
-use Rattle.kc_values.proofs.UpgradeLemmas.{n_stays}
+use Rattle.kc_entries.specs.WellFormed.{IsWellFormed}
+use Rattle.kc_values.proofs.{Same.same_symbol-true, UpgradeLemmas.n_stays}
 
 module _ (tree : TreeFacts) (known : SymId → SymbolValue) where
   abbrev is_other : SymId → SymId → Bool

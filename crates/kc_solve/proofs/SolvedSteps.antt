@@ -1,35 +1,14 @@
 -- What a full table tells, as a solution.
-use Rattle.std.proofs.Common.{◌≡◌, ℕ, ◌<◌, ◌≤◌, Bool, false, not, ◌&&◌, cond, List, [], length, map, Option, None, Some, is_some, refl, sym, ◌∙◌, ap, subst, inl, inr, arith}
-use Rattle.std.specs.Prelude.{slice_index_or}
-use Rattle.std.specs.List.{flat_map, range_with_len}
-use Rattle.std.proofs.lemmas.Bool.{cases_Bool, ltb-false, ltb-true}
-use Rattle.std.proofs.lemmas.List.{get_or_past}
-use Rattle.std.proofs.lemmas.List.FromFn.{get_or-map-range_with_len, length-map-range_with_len}
-use Rattle.std.proofs.lemmas.Option.{slice_get_past}
-use Rattle.kc_language.specs.Symbols.{Warning, SymbolFacts, TreeFacts, is_symbol_of}
-use Rattle.kc_language.specs.Expressions.{symbol, SymbolValue, TextValue, truth_of_value}
-use Rattle.kc_expr.specs.PartsOfExpressions.{text_of_value}
-use Rattle.kc_expr.specs.Value.{value_by_type}
-use Rattle.kc_language.specs.declared.expressions.SymId.{SymId}
-use Rattle.kc_language.specs.declared.expressions.Tri.{Tri}
-use Rattle.kc_language.specs.declared.expressions.Tri.TheVariants.{N}
-use Rattle.kc_language.specs.declared.expressions.SymbolType.{SymbolType}
-use Rattle.kc_language.specs.declared.expressions.SymbolType.TheVariants.{Undefined, Bool as IsBool, Tristate, Str, Int, Hex}
-use Rattle.kc_language.specs.Values.{Solves, IsOnlySolution, GivenValue, UserPlace, SymbolPlace, ChoicePlace, differs, differs_at, is_new, is_new_by, selection, default_selection, choice_at, facts, name, type_in, equations, rhs, known_from, user_place, name_count, equation, selected}
-use Rattle.kc_values.specs.PartsOfValues.{is_mentioned}
-use Rattle.kc_values.specs.PartsOfValues.{same_value}
-use Rattle.kc_tree.specs.TreeFacts.{IsWellFormed}
-use Rattle.kc_language.specs.ConfigFile.{Places, place_at}
-use Rattle.kc_values.specs.Laws.{MinimalRestores, MinimalHasNothingToSpare, IdempotentWhere as Law}
-use Rattle.kc_values.specs.Table.{value_in, tri_in, text_in, known_in}
-use Rattle.kc_language.specs.Texts.{warnings_of, IsSolution, Solution, known, value_of, value_warnings}
+use Rattle.std.proofs.{Common.{Bool, List, None, Option, Some, [], ap, arith, cond, false, inl, inr, is_some, length, map, not, refl, subst, sym, ℕ, ◌&&◌, ◌<◌, ◌∙◌, ◌≡◌, ◌≤◌}, lemmas.{Bool.{cases_Bool, ltb-false, ltb-true}, List.{FromFn.{get_or-map-range_with_len, length-map-range_with_len}, get_or_past}, Option.slice_get_past}}
+use Rattle.std.specs.{List.{flat_map, range_with_len}, Prelude.slice_index_or}
+use Rattle.kc_language.specs.{ConfigFile.{Places, place_at}, Expressions.{SymbolValue, TextValue, symbol, truth_of_value}, Symbols.{SymbolFacts, TreeFacts, Warning, is_symbol_of}, Texts.{IsSolution, Solution, known, value_of, value_warnings, warnings_of}, Values.{ChoicePlace, GivenValue, IsOnlySolution, Solves, SymbolPlace, UserPlace, choice_at, default_selection, differs, differs_at, equation, equations, facts, is_new, is_new_by, known_from, name, name_count, rhs, selected, selection, type_in, user_place}, declared.expressions.{SymId.SymId, SymbolType.{SymbolType, TheVariants.{Bool as IsBool, Hex, Int, Str, Tristate, Undefined}}, Tri.{TheVariants.N, Tri}}}
+use Rattle.kc_expr.specs.{PartsOfExpressions.text_of_value, Value.value_by_type}
+use Rattle.kc_values.specs.{Laws.{IdempotentWhere as Law, MinimalHasNothingToSpare, MinimalRestores}, PartsOfValues.{is_mentioned, same_value}, Table.{known_in, text_in, tri_in, value_in}, declared.table.{Table.Table, Value.Value}}
+use Rattle.kc_entries.specs.WellFormed.{IsWellFormed}
 use Rattle.kc_values.specs.PartsOfValues as writing
-use Rattle.kc_values.specs.declared.table.Value.{Value}
 use Rattle.kc_solve.proofs.WarningSteps.{tables_known}
 use Rattle.kc_solve.specs.Answers as solved
-use Rattle.kc_solve.specs.Kept.{IsSolved, solution_in, valuation}
-use Rattle.kc_solve.specs.SolvedLaws.{IsMinimal, IdempotentWhere}
-use Rattle.kc_solve.specs.Answers.{TellsKnown}
+use Rattle.kc_solve.specs.{Answers.TellsKnown, Kept.{IsSolved, solution_in, valuation}, SolvedLaws.{IdempotentWhere, IsMinimal}, Tables.IsTableOf}
 
 -- what is known, by its type, truth value and text
 shape : (k : SymbolType) (t : Tri) (x : List ℕ) → value_by_type k (truth_of_value (value_by_type k t x)) (text_of_value (value_by_type k t x)) ≡ value_by_type k t x
@@ -205,8 +184,7 @@ module _ (tree : TreeFacts) (places : Places) (values : List (Option Value)) whe
       pub written_is : (i : SymId) → slice_index_or written i.0 false ≡ solved.written s i
       written_is i = subst (λ (x : Solution). slice_index_or written i.0 false ≡ solved.written x i) e (written_at i)
 
--- a solution is the only one for its tree and places
-pub only_here : (s : Solution) (t : TreeFacts) (u : Places) → IsSolution s → s.tree ≡ t → s.places ≡ u → IsOnlySolution (name_count t) (equations t (place_at u)) (value_of s)
-only_here s t u is e f =
-    subst (λ (x : TreeFacts). IsOnlySolution (name_count x) (equations x (place_at u)) (value_of s)) e
-    (subst (λ (p : Places). IsOnlySolution (name_count s.tree) (equations s.tree (place_at p)) (value_of s)) f is.only)
+-- the table of a solution
+pub table_is : (t : Table) (places : Places) (s : Solution) → solution_in t.tree.now places t.values ≡ s → length t.values ≡ name_count t.tree.now → IsTableOf s t
+table_is t places s e full =
+    subst (λ (y : Solution). IsTableOf y t) e (record { tree = refl; full = full; known_is = table_tells t.tree.now places t.values full })

@@ -1,29 +1,11 @@
 -- Where the value of a symbol comes from, by its row and at a solution; and its prompts, by its row.
-use Rattle.std.proofs.Common.{◌≡◌, ℕ, List, [], length, Option, None, Some, refl, sym, ◌∙◌, ap, subst, append-nil, flat_map}
-use Rattle.std.proofs.Math.Logic.{∥∥₁_elim}
-use Rattle.std.specs.Prelude.{slice_get}
-use Rattle.std.specs.Coded.{Coded-set, coded_option}
-use Rattle.kc_language.specs.ConfigFile.{Places, place_at}
-use Rattle.kc_language.specs.Explanations.{member_source, source, source_by, source_by_type}
-use Rattle.kc_language.specs.Expressions.{SymbolValue}
-use Rattle.kc_language.specs.Symbols.{Condition, SymbolFacts, TreeFacts, listed}
-use Rattle.kc_language.specs.Texts.{Solution}
-use Rattle.kc_language.specs.Values.{GivenValue, UserPlace, choice_at, facts, name_count, user_place}
-use Rattle.kc_language.specs.declared.explanations.Source.{Source}
-use Rattle.kc_language.specs.declared.expressions.SymId.{SymId}
-use Rattle.kc_tree.specs.TreeCode.{symbol_code}
-use Rattle.kc_tree.specs.declared.rows.Symbol.{Symbol}
-use Rattle.kc_values.proofs.Laid.{symbol_found}
-use Rattle.kc_values.specs.AtTable.{own_lines}
-use Rattle.kc_values.specs.PartsOfValues.{user_place_by, user_place_of}
-use Rattle.kc_values.specs.Table.{known_in}
-use Rattle.kc_values.specs.TableFacts.{IsRowOf}
-use Rattle.kc_values.specs.declared.table.Table.{Table}
-use Rattle.kc_values.specs.declared.table.Value.{Value}
-use Rattle.kc_solve.specs.Kept.{solution_in}
-use Rattle.kc_solve.specs.Sources.{source_by_choice}
-use Rattle.kc_solve.proofs.SolvedSteps.{table_tells}
-use Rattle.kc_solve.proofs.TableSteps.{row_facts}
+use Rattle.std.proofs.Common.{List, None, Option, Some, [], ap, append-nil, flat_map, length, refl, subst, sym, ℕ, ◌∙◌, ◌≡◌}
+use Rattle.std.specs.Prelude.{option_map, slice_get}
+use Rattle.kc_language.specs.{ConfigFile.{Places, place_at}, Expressions.SymbolValue, Sources.{member_source, source, source_by, source_by_type}, Symbols.{Condition, SymbolFacts, TreeFacts, listed}, Texts.Solution, Values.{GivenValue, UserPlace, choice_at, facts, name_count, user_place}, declared.{expressions.SymId.SymId, sources.Source.Source}}
+use Rattle.kc_tree.specs.{Layouts.facts_of, declared.rows.Symbol.Symbol}
+use Rattle.kc_values.specs.{PartsOfValues.{user_place_by, user_place_of}, Table.known_in, TableFacts.{IsRowOf, facts_in}, declared.table.{Table.Table, Value.Value}}
+use Rattle.kc_solve.specs.{Kept.solution_in, Sources.source_by_choice}
+use Rattle.kc_solve.proofs.{SolvedSteps.table_tells, TableSteps.row_facts}
 
 module _ (tree : TreeFacts) (known : SymId → SymbolValue) (user : UserPlace → Option GivenValue) (id : SymId) (f : SymbolFacts) where
   abbrev by_place : Option ℕ → Option GivenValue → Source
@@ -56,14 +38,13 @@ abbrev pub prompts_at : Table → SymId → List Condition
 prompts_at t id = flat_map (λ (f : SymbolFacts). f.prompts) (listed (facts t.tree.now id))
 
 -- they are those of its row
-pub prompts_of_row : (t : Table) (id : SymId) (s : Symbol) → IsRowOf t id s → prompts_at t id ≡ (own_lines t s).prompts
+pub prompts_of_row : (t : Table) (id : SymId) (s : Symbol) → IsRowOf t id s → prompts_at t id ≡ (facts_in t id s).prompts
 prompts_of_row t id s row =
-    ap (λ o. flat_map (λ (f : SymbolFacts). f.prompts) (listed o)) (row_facts t id s row) ∙ append-nil (own_lines t s).prompts
+    ap (λ o. flat_map (λ (f : SymbolFacts). f.prompts) (listed o)) (row_facts t id s row) ∙ append-nil (facts_in t id s).prompts
 
 -- and none where there is no row
 pub no_facts : (t : Table) (id : SymId) → slice_get t.layout.now.symbols.items id.0 ≡ None → facts t.tree.now id ≡ None
-no_facts t id none =
-    ∥∥₁_elim t.laid (Coded-set (coded_option symbol_code) _ _) (λ laid. sym (symbol_found t.tree.now t.layout.now laid id.0 None (sym none)))
+no_facts t id none = t.laid.symbols id.0 ∙ ap (option_map (facts_of t.layout.now id.0)) none
 
 pub no_prompts : (t : Table) (id : SymId) → slice_get t.layout.now.symbols.items id.0 ≡ None → prompts_at t id ≡ []
 no_prompts t id none = ap (λ o. flat_map (λ (f : SymbolFacts). f.prompts) (listed o)) (no_facts t id none)

@@ -1,53 +1,19 @@
 -- What a table holds: the facts of a row, and one place written.
-use Rattle.std.proofs.Common.{◌≡◌, ℕ, ◌<◌, ◌≤◌, List, [], ◌∷◌, length, Option, Some, None, cond, sym, ◌∙◌, ap, inl, inr, refl, subst, arith, get_or, get_or-set_same, get_or-set_other}
-use Rattle.std.proofs.Math.Logic.{∥∥₁_elim}
-use Rattle.std.proofs.Math.Bridge.{le_prop}
-use Rattle.std.proofs.Math.Nat.{ℕ_set}
-use Rattle.std.specs.Prelude.{slice_index_or, slice_set, slice_get, IfSome, option_map}
-use Rattle.std.specs.Coded.{coded_list, coded_option}
-use Rattle.std.specs.Borrow.{Bor}
-use Rattle.std.specs.Option.{option_copied}
-use Rattle.std.specs.List.{All, AllByRecursion}
-use Rattle.std.proofs.lemmas.Bool.{cases_Bool, ltb-false}
-use Rattle.std.proofs.lemmas.List.{get_or_past, length-set}
-use Rattle.std.proofs.lemmas.List.Elements.{All-get_or}
-use Rattle.std.proofs.lemmas.Option.{slice_get_past, slice_get_within}
+use Rattle.std.proofs.{Common.{List, None, Option, Some, [], ap, arith, cond, get_or, get_or-set_other, get_or-set_same, inl, inr, length, refl, subst, sym, ℕ, ◌<◌, ◌∙◌, ◌∷◌, ◌≡◌, ◌≤◌}, Math.{Bridge.le_prop, Logic.∥∥₁_elim}, lemmas.{Bool.{cases_Bool, ltb-false}, List.{Elements.All-get_or, get_or_past, length-set}, Option.{slice_get_past, slice_get_within}}}
+use Rattle.std.specs.{Borrow.Bor, List.{All, AllByRecursion}, Option.option_copied, Prelude.{IfSome, option_map, slice_get, slice_index_or, slice_set}}
 use base.Stored.{Coded-set}
-use Rattle.kc_language.specs.Expressions.{symbol, SymbolValue, Truth, TextValue}
+use Rattle.kc_language.specs.{Expressions.{SymbolValue, TextValue, Truth, symbol}, Needs.named_by, Symbols.{SymbolFacts, TreeFacts}, Values.{GivenValue, SymbolPlace, by_type, equation, equations, facts, known_from, name, name_count, type_in, user_place}, declared.{expressions.{SymId.SymId, SymbolType.{SymbolType, TheVariants.{Bool as IsBool, Hex, Int, Str, Tristate, Undefined}}, Tri.Tri}, symbols.ChoiceId.ChoiceId}}
 use Rattle.kc_expr.specs.Value.{value_by_type}
 use Rattle.kc_language.specs.contracts.expressions.SymbolType as type_row
-use Rattle.kc_language.specs.contracts.expressions.SymId as sym_row
-use Rattle.kc_language.specs.declared.expressions.SymId.{SymId}
-use Rattle.kc_language.specs.declared.expressions.Tri.{Tri}
-use Rattle.kc_language.specs.declared.expressions.SymbolType.{SymbolType}
-use Rattle.kc_language.specs.declared.expressions.SymbolType.TheVariants.{Undefined, Bool as IsBool, Tristate, Str, Int, Hex}
 use Rattle.kc_expr.proofs.AgreeLemmas.{depends_on_symbols}
 use Rattle.kc_order.specs.Solution.{IsUpdate}
-use Rattle.kc_tree.specs.Contexts.{mode_view}
-use Rattle.kc_tree.specs.Layouts.{facts_of}
-use Rattle.kc_tree.specs.TreeCode.{symbol_code}
-use Rattle.kc_tree.specs.TreeFacts.{IsMentioned, IsWellFormed}
-use Rattle.kc_language.specs.Symbols.{SymbolFacts, TreeFacts}
-use Rattle.kc_language.specs.declared.symbols.ChoiceId.{ChoiceId}
-use Rattle.kc_tree.specs.declared.rows.Symbol.{Symbol}
-use Rattle.kc_tree.proofs.TreeLemmas.{symbols-length, symbols-at}
-use Rattle.kc_language.specs.Values.{GivenValue, SymbolPlace, facts, name, type_in, name_count, known_from, user_place, equations, equation, by_type}
-use Rattle.kc_values.specs.PartsOfValues.{is_mentioned, by_choice}
-use Rattle.kc_values.specs.PartsOfValues.{user_place_by, user_place_of}
+use Rattle.kc_tree.specs.{Layouts.facts_of, Places.mode_view, declared.rows.Symbol.Symbol}
+use Rattle.kc_entries.specs.WellFormed.{IsMentioned, IsWellFormed}
+use Rattle.kc_values.specs.{PartsOfValues.{by_choice, is_mentioned, user_place_by, user_place_of}, Selections.given_for, Table.{known_in, known_value, text_in, tri_in, value_in}, TableFacts.{IsRowOf, known_at}, User.given_in, declared.table.{Table.Table, Value.Value}}
 use Rattle.kc_user.specs.declared.value.UserValue.{UserValue}
-use Rattle.kc_values.specs.TableFacts.{IsRowOf, known_at}
-use Rattle.kc_language.specs.Needs.{named_by}
-use Rattle.kc_values.specs.Selections.{given_for}
-use Rattle.kc_values.specs.Table.{value_in, tri_in, text_in, known_value, known_in}
-use Rattle.kc_values.specs.User.{given_in}
-use Rattle.kc_values.specs.declared.table.Table.{Table}
-use Rattle.kc_values.specs.declared.table.Value.{Value}
 use Rattle.kc_values.specs.declared.table.Value.TheVariants as value
-use Rattle.kc_values.proofs.ModeLaws.{members_are_bools}
-use Rattle.kc_values.proofs.OnlyNamed.{same_equation}
-use Rattle.kc_solve.specs.Computing.{equation_at, place_value, AreComputedValues}
-use Rattle.kc_solve.specs.PlaceLists.{given_at, places}
-use Rattle.kc_solve.specs.Kept.{valuation}
+use Rattle.kc_values.proofs.{ModeLaws.members_are_bools, OnlyNamed.same_equation}
+use Rattle.kc_solve.specs.{Computing.{AreComputedValues, equation_at, place_value}, Kept.valuation, PlaceLists.{given_at, places}}
 
 pub each : {X : Type 0} (P : X → Type 0) → ((x : X) → P x) → (xs : List X) → AllByRecursion P xs
 each P h [] = tt
@@ -55,17 +21,15 @@ each P h (x ∷ xs) = (h x, each P h xs)
 
 -- the facts of a symbol, by its row
 pub row_facts : (t : Table) (id : SymId) (s : Symbol) → IsRowOf t id s → facts t.tree.now id ≡ Some (facts_of t.layout.now id.0 s)
-row_facts t id s e =
-    ∥∥₁_elim t.laid (Coded-set (coded_option symbol_code) _ _) (λ laid.
-    ap (λ xs. slice_get xs id.0) laid.symbols ∙ symbols-at t.layout.now id.0 ∙ ap (option_map (facts_of t.layout.now id.0)) e)
+row_facts t id s e = t.laid.symbols id.0 ∙ ap (option_map (facts_of t.layout.now id.0)) e
 
 -- as many rows as symbols
 pub row_count : (t : Table) → length t.layout.now.symbols.items ≡ name_count t.tree.now
-row_count t = ∥∥₁_elim t.laid (ℕ_set _ _) (λ laid. sym (ap length laid.symbols ∙ symbols-length t.layout.now))
+row_count t = sym t.laid.symbol_count
 
 -- the defined symbols are those of the layout
 pub defined_are : (t : Table) → t.layout.now.defined.items ≡ t.tree.now.defined
-defined_are t = ∥∥₁_elim t.laid (Coded-set (coded_list sym_row.the_row.coded) _ _) (λ laid. sym laid.defined)
+defined_are t = sym t.laid.defined
 
 -- each of them has a row
 pub defined_below : (t : Table) (ids : List SymId) (i : ℕ) → ids ≡ t.layout.now.defined.items → i < length ids → (get_or ids i (symbol 0)).0 < length t.layout.now.symbols.items

@@ -1,18 +1,9 @@
 -- A user's places, as lists of values and as they are told.
-use Rattle.std.proofs.Common.{◌≡◌, ℕ, List, [], ◌∷◌, length, map, Option, Some, None, refl, sym, ◌∙◌, ap}
-use Rattle.std.specs.Prelude.{slice_index_or, option_map}
-use Rattle.std.specs.Borrow.{Bor}
-use Rattle.std.proofs.Math.ListN.{get_or-map}
-use Rattle.std.proofs.lemmas.List.{length-map}
-use Rattle.kc_language.specs.Expressions.{SymbolValue}
-use Rattle.kc_language.specs.declared.expressions.SymId.{SymId}
-use Rattle.kc_language.specs.Values.{Solves, GivenValue, UserPlace, SymbolPlace, ChoicePlace, name_count, equations, rhs, user_place}
-use Rattle.kc_language.specs.Symbols.{TreeFacts}
-use Rattle.kc_language.specs.ConfigFile.{Places, place_at}
-use Rattle.kc_user.specs.ValueView.{given_of_value}
-use Rattle.kc_user.specs.declared.value.UserValue.{UserValue}
-use Rattle.kc_values.specs.Selections.{member_given}
-use Rattle.kc_values.specs.User.{given_in}
+use Rattle.std.proofs.{Common.{List, None, Option, Some, [], ap, length, map, refl, sym, ℕ, ◌∙◌, ◌∷◌, ◌≡◌}, Math.ListN.get_or-map, lemmas.List.length-map}
+use Rattle.std.specs.{Borrow.Bor, Prelude.{option_map, slice_index_or}}
+use Rattle.kc_language.specs.{ConfigFile.{Places, place_at}, Expressions.SymbolValue, Symbols.TreeFacts, Values.{ChoicePlace, GivenValue, Solves, SymbolPlace, UserPlace, equations, name_count, rhs, user_place}, declared.expressions.SymId.SymId}
+use Rattle.kc_user.specs.{ValueView.given_of_value, declared.value.UserValue.UserValue}
+use Rattle.kc_values.specs.{Selections.member_given, User.given_in}
 use Rattle.kc_solve.specs.PlaceLists.{given_at, places}
 
 -- the value in a place

@@ -1,23 +1,9 @@
 -- The kept visibility of a symbol, and the warnings of one more symbol.
-use Rattle.std.proofs.Common.{◌≡◌, ℕ, ◌+◌, ◌<◌, List, [], ◌++◌, length, map, Option, Some, sym, ◌∙◌, ap, get_or, take, arith}
-use Rattle.std.specs.Prelude.{slice_index_or}
-use Rattle.std.specs.List.{flat_map, range_with_len}
-use Rattle.std.proofs.lemmas.List.{flat_map_more, take_more}
-use Rattle.std.proofs.lemmas.List.FromFn.{get_or-map-range_with_len}
-use Rattle.kc_language.specs.Symbols.{Warning, SymbolFacts, TreeFacts}
-use Rattle.kc_language.specs.Expressions.{symbol}
-use Rattle.kc_language.specs.declared.expressions.SymId.{SymId}
-use Rattle.kc_language.specs.declared.expressions.Tri.{Tri}
-use Rattle.kc_language.specs.declared.expressions.Tri.TheVariants.{N}
-use Rattle.kc_language.specs.Values.{facts, name, SymbolPlace, GivenValue, name_count, known_from, visibility}
-use Rattle.kc_language.specs.Texts.{warnings_of}
-use Rattle.kc_values.specs.PartsOfTexts.{warnings_at}
-use Rattle.kc_values.specs.declared.table.Value.{Value}
-use Rattle.kc_solve.specs.Answers.{visibility_by}
-use Rattle.kc_solve.specs.Flags.{visibility_at}
-use Rattle.kc_solve.specs.Kept.{valuation}
-use Rattle.kc_values.specs.Table.{known_in}
-use Rattle.kc_language.specs.ConfigFile.{Places, place_at}
+use Rattle.std.proofs.{Common.{List, Option, Some, [], ap, arith, get_or, length, map, sym, take, ℕ, ◌++◌, ◌+◌, ◌<◌, ◌∙◌, ◌≡◌}, lemmas.List.{FromFn.get_or-map-range_with_len, flat_map_more, take_more}}
+use Rattle.std.specs.{List.{flat_map, range_with_len}, Prelude.slice_index_or}
+use Rattle.kc_language.specs.{ConfigFile.{Places, place_at}, Expressions.symbol, Symbols.{SymbolFacts, TreeFacts, Warning}, Texts.warnings_of, Values.{GivenValue, SymbolPlace, facts, known_from, name, name_count, visibility}, declared.expressions.{SymId.SymId, Tri.{TheVariants.N, Tri}}}
+use Rattle.kc_values.specs.{PartsOfTexts.warnings_at, Table.known_in, declared.table.Value.Value}
+use Rattle.kc_solve.specs.{Answers.visibility_by, Flags.visibility_at, Kept.valuation}
 use Rattle.kc_solve.proofs.TableSteps.{known_seen}
 
 -- what a full table tells of each symbol and name is what its valuation says

@@ -1,18 +1,8 @@
 -- Trusted: What a solution returns for symbols, conditions, entries and choices.
-use Rattle.std.specs.Prelude.{◌≡◌, ℕ, Bool, List, Option, Some, None}
-use Rattle.std.specs.List.{flat_map}
-use Rattle.kc_language.specs.Expressions.{SymbolValue, truth_of_value}
-use Rattle.kc_expr.specs.PartsOfExpressions.{text_of_value}
-use Rattle.kc_expr.specs.Value.{values_by}
-use Rattle.kc_language.specs.declared.expressions.SymId.{SymId}
-use Rattle.kc_language.specs.declared.expressions.Tri.{Tri}
-use Rattle.kc_language.specs.declared.expressions.Tri.TheVariants.{N, Y}
-use Rattle.kc_language.specs.declared.expressions.SymbolType.{SymbolType}
-use Rattle.kc_language.specs.Symbols.{Condition, SymbolFacts, TreeFacts, Shown, SymbolShown, MenuShown, EndShown, CommentShown, listed}
-use Rattle.kc_language.specs.ConfigFile.{place_at}
+use Rattle.std.specs.{List.flat_map, Prelude.{Bool, List, None, Option, Some, ℕ, ◌≡◌}}
+use Rattle.kc_language.specs.{ConfigFile.place_at, Expressions.{SymbolValue, truth_of_value}, Symbols.{SymbolFacts, TreeFacts, listed}, Texts.{Solution, known, value_of}, Values.{conditions, facts, type_in}, declared.expressions.{SymId.SymId, SymbolType.SymbolType, Tri.{TheVariants.N, Tri}}}
+use Rattle.kc_expr.specs.{PartsOfExpressions.text_of_value, Value.values_by}
 use Rattle.kc_language.specs.Values as values
-use Rattle.kc_language.specs.Values.{conditions, facts, type_in}
-use Rattle.kc_language.specs.Texts.{Solution, known, value_of}
 
 -- the type of a symbol, its truth value and its text, as values that expressions read
 abbrev pub type_of : Solution → SymId → SymbolType
@@ -43,18 +33,6 @@ visibility s id = visibility_by s.tree (known s) (facts s.tree id)
 -- the same for any type, but m stays m
 abbrev pub prompts_condition : Solution → SymId → Tri
 prompts_condition s id = conditions s.tree (known s) (flat_map (λ f. f.prompts) (listed (facts s.tree id)))
-
--- the value of a condition
-abbrev pub truth : Solution → Condition → Tri
-truth s when = values.condition s.tree (known s) when
-
--- whether an entry is shown: the condition of a menu or comment
-abbrev pub shown : Solution → Option Shown → Tri
-shown s None = Y
-shown s (Some (SymbolShown id)) = Y
-shown s (Some (MenuShown text when)) = truth s when
-shown s (Some (EndShown menu)) = Y
-shown s (Some (CommentShown text when)) = truth s when
 
 -- whether a symbol has a line in the .config
 abbrev pub written : Solution → SymId → Bool

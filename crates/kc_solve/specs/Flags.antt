@@ -1,19 +1,9 @@
 -- For proofs: The visibility of a symbol, whether it differs given the selections of the choices, and whether it is written.
-use Rattle.std.specs.Prelude.{◌≡◌, ℕ, Bool, not, ◌&&◌, List, map, length, Option, Some, None, is_some, slice_index_or}
-use Rattle.std.specs.List.{range_with_len}
-use Rattle.kc_language.specs.Expressions.{symbol, SymbolValue}
-use Rattle.kc_language.specs.declared.expressions.SymId.{SymId}
-use Rattle.kc_language.specs.declared.expressions.Tri.{Tri}
+use Rattle.std.specs.{List.range_with_len, Prelude.{Bool, List, None, Option, Some, is_some, length, map, not, slice_index_or, ℕ, ◌&&◌, ◌≡◌}}
+use Rattle.kc_language.specs.{ConfigFile.{Places, place_at}, Expressions.{SymbolValue, symbol}, Symbols.{SymbolFacts, TreeFacts, is_symbol_of}, Values.{ChoicePlace, GivenValue, SymbolPlace, by_type, default_selection, differs, facts, is_chosen, is_new_by, known_from, name_count, selection, written}, declared.expressions.{SymId.SymId, Tri.Tri}}
 use Rattle.kc_tree.specs.declared.rows.Symbol.{Symbol}
-use Rattle.kc_language.specs.Symbols.{SymbolFacts, TreeFacts, is_symbol_of}
-use Rattle.kc_language.specs.Values.{ChoicePlace, GivenValue, SymbolPlace, by_type, facts, default_selection, differs, is_chosen, is_new_by, selection, known_from, name_count, written}
-use Rattle.kc_values.specs.AtTable.{has_other, is_visible, selected}
-use Rattle.kc_values.specs.PartsOfValues.{same_value}
-use Rattle.kc_language.specs.ConfigFile.{Places, place_at}
-use Rattle.kc_values.specs.TableFacts.{facts_in, known_at}
-use Rattle.kc_values.specs.declared.table.Table.{Table}
-use Rattle.kc_solve.specs.Answers.{visibility_by}
-use Rattle.kc_solve.specs.Kept.{valuation}
+use Rattle.kc_values.specs.{AtTable.{has_other, is_visible, selected}, PartsOfValues.same_value, TableFacts.{facts_in, known_at}, declared.table.Table.Table}
+use Rattle.kc_solve.specs.{Answers.visibility_by, Kept.valuation}
 
 abbrev pub differs_by : TreeFacts → (SymId → SymbolValue) → SymId → SymbolFacts → Option ℕ → List (Option SymId) → List (Option SymId) → Bool
 differs_by tree known s f None selections defaults = not (same_value (known s) (by_type tree known s f f.symbol_type None))
@@ -34,9 +24,9 @@ abbrev pub IsSolvedRow : Table → SymId → Symbol → Option GivenValue → Ty
 IsSolvedRow t id row given = IsSolvedOwn t.tree.now (known_at t) id (facts_in t id row) (facts_in t id row).choice given
 
 -- whether a member without a user value is new; whether a symbol is new, read from its row
-abbrev pub member_is_new : Table → Places → Symbol → ℕ → Bool
-member_is_new t user row c =
-    is_visible t row && (not (is_chosen (selected t c (place_at user (ChoicePlace c))) (place_at user (ChoicePlace c))) && has_other t c)
+abbrev pub member_is_new : Table → Places → SymId → Symbol → ℕ → Bool
+member_is_new t user id row c =
+    is_visible t id row && (not (is_chosen (selected t c (place_at user (ChoicePlace c))) (place_at user (ChoicePlace c))) && has_other t c)
 
 abbrev pub row_is_new : Table → Places → SymId → Symbol → Bool
 row_is_new t user id row =

@@ -1,19 +1,10 @@
 -- Trusted: The parts of a solution that are stored: the table of its values, and what was computed from them.
-use Rattle.std.specs.Prelude.{◌≡◌, ℕ, Bool, List, map, length, Option}
-use Rattle.std.specs.List.{range_with_len}
-use Rattle.kc_language.specs.Symbols.{Warning, TreeFacts}
-use Rattle.kc_language.specs.Expressions.{symbol, SymbolValue}
-use Rattle.kc_language.specs.declared.expressions.SymId.{SymId}
-use Rattle.kc_language.specs.declared.expressions.Tri.{Tri}
-use Rattle.kc_language.specs.Values.{Solves, IsOnlySolution, facts, equations, known_from, name_count}
-use Rattle.kc_language.specs.ConfigFile.{ArePlacesOf, Places, place_at}
+use Rattle.std.specs.{List.range_with_len, Prelude.{Bool, List, Option, length, map, ℕ, ◌≡◌}}
+use Rattle.kc_language.specs.{ConfigFile.{ArePlacesOf, Places, place_at}, Expressions.{SymbolValue, symbol}, Needs.IsAccepted, Symbols.{TreeFacts, Warning}, Texts.Solution, Values.{IsOnlySolution, Solves, equations, facts, known_from, name_count}, declared.expressions.{SymId.SymId, Tri.Tri}}
 use Rattle.kc_language.specs.Values as values
-use Rattle.kc_language.specs.Needs.{IsAccepted}
-use Rattle.kc_values.specs.Table.{known_in}
+use Rattle.kc_values.specs.{Table.known_in, declared.table.Value.Value}
 use Rattle.kc_values.specs.PartsOfTexts as warning
-use Rattle.kc_values.specs.declared.table.Value.{Value}
 use Rattle.kc_solve.specs.Answers.{visibility_by}
-use Rattle.kc_language.specs.Texts.{Solution}
 
 -- the valuation in a table, by symbol number
 abbrev pub valuation : TreeFacts → List (Option Value) → ℕ → SymbolValue

@@ -2,11 +2,13 @@ pub mod PlaceLists
 pub mod Refused
 pub mod LoopFaults
 pub mod Flags
+pub mod FlagLists
 pub mod Answers
 pub mod SolvedLaws
 pub mod Kept
 pub mod SolutionCode
 pub mod Computing
-pub mod Graphs
-pub mod Titles
+pub mod Orders
+pub mod Busy
+pub mod Tables
 pub mod Sources

@@ -1,8 +1,6 @@
 -- For proofs: Why there is no order.
-use Rattle.kc_language.specs.Symbols.{TreeFacts}
-use Rattle.kc_language.specs.Needs.{IsLoopText}
-use Rattle.kc_solve.specs.declared.evaluation_order.LoopFault.{LoopFault}
-use Rattle.kc_solve.specs.declared.evaluation_order.LoopFault.TheVariants.{Loop, Memory}
+use Rattle.kc_language.specs.{Needs.IsLoopText, Symbols.TreeFacts}
+use Rattle.kc_solve.specs.declared.evaluation_order.LoopFault.{LoopFault, TheVariants.{Loop, Memory}}
 
 -- if memory is not the cause, the fault names the loop
 abbrev pub NamesTheLoop : TreeFacts → LoopFault → Type 0

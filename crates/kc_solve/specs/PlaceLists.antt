@@ -1,10 +1,8 @@
 -- For proofs: A user's values as lists.
-use Rattle.std.specs.Prelude.{List, Option, Some, None, slice_index_or}
-use Rattle.kc_language.specs.declared.expressions.SymId.{SymId}
-use Rattle.kc_language.specs.Values.{GivenValue, UserPlace, SymbolPlace, ChoicePlace}
-use Rattle.kc_user.specs.ValueView.{given_of_value}
+use Rattle.std.specs.Prelude.{List, None, Option, Some, slice_index_or}
+use Rattle.kc_language.specs.{Values.{ChoicePlace, GivenValue, SymbolPlace, UserPlace}, declared.expressions.SymId.SymId}
+use Rattle.kc_user.specs.{ValueView.given_of_value, declared.value.UserValue.UserValue}
 use Rattle.kc_values.specs.Selections.{member_given}
-use Rattle.kc_user.specs.declared.value.UserValue.{UserValue}
 
 abbrev pub given_at : Option UserValue → Option GivenValue
 given_at None = None

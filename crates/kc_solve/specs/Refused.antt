@@ -1,9 +1,7 @@
 -- Trusted: Why a tree has no order.
-use Rattle.std.specs.Prelude.{◌≡◌, ◌≢◌, ℕ, List}
-use Rattle.kc_language.specs.Needs.{IsLoopText, loop_refused}
-use Rattle.kc_language.specs.Symbols.{TreeFacts}
-use Rattle.kc_read.specs.RefusalView.{refusal_view}
-use Rattle.kc_read.specs.declared.refusal.Refusal.{Refusal}
+use Rattle.std.specs.Prelude.{List, ℕ, ◌≡◌, ◌≢◌}
+use Rattle.kc_language.specs.{Needs.{IsLoopText, loop_refused}, Symbols.TreeFacts}
+use Rattle.kc_read.specs.{RefusalView.refusal_view, declared.refusal.Refusal.Refusal}
 use Rattle.kc_language.specs.declared.diagnostics.Cause.TheVariants as cause
 
 -- if memory is not the cause, the refusal names the loop

@@ -1,13 +1,9 @@
 -- For proofs: How the logic stores a solution, so that a model can have it as its value.
-use Rattle.std.specs.Prelude.{List, refl}
-use Rattle.std.specs.Coded.{Coded, code_by, coded×, coded_list}
+use Rattle.std.specs.{Coded.{Coded, code_by, coded_list, coded×}, Prelude.{List, refl}}
 use Rattle.kc_expr.specs.SymbolValueCode.{symbol_value_code}
-use Rattle.kc_language.specs.Expressions.{SymbolValue}
+use Rattle.kc_language.specs.{ConfigFile.Places, Expressions.SymbolValue, Symbols.TreeFacts, Texts.Solution}
 use Rattle.kc_tree.specs.TreeCode.{tree_code}
-use Rattle.kc_language.specs.Symbols.{TreeFacts}
-use Rattle.kc_language.specs.ConfigFile.{Places}
 use Rattle.kc_user.specs.contracts.user.User as user
-use Rattle.kc_language.specs.Texts.{Solution}
 
 abbrev pub solution_code : Coded Solution
 solution_code =

@@ -1,11 +1,9 @@
 -- Trusted: Laws of every solution: what its minimal lines restore, and when its written lines restore it.
-use Rattle.std.specs.Prelude.{◌≡◌, ℕ, ◌<◌, ◌↔◌, Bool, false}
-use Rattle.kc_order.specs.Minimal.{Restores, NothingCanGo}
-use Rattle.kc_language.specs.Values.{Solves, UserPlace, changes_on_reread, equations, rhs, name_count, user_place}
+use Rattle.std.specs.Prelude.{Bool, false, ℕ, ◌<◌, ◌↔◌, ◌≡◌}
+use Rattle.kc_order.specs.Minimal.{NothingCanGo, Restores}
+use Rattle.kc_language.specs.{ConfigFile.place_at, Texts.{Solution, value_of}, Values.{Solves, UserPlace, changes_on_reread, equations, name_count, rhs, user_place}}
 use Rattle.kc_user.specs.Places.{AllowedPlaces}
-use Rattle.kc_language.specs.ConfigFile.{place_at}
 use Rattle.kc_values.specs.GivenLines.{TellsDiffering, minimal_line, reread_places}
-use Rattle.kc_language.specs.Texts.{Solution, value_of}
 
 -- The lines of the symbols that differ restore exactly the same values. If any nonempty set of these lines is left out, the solution is different.
 pub record IsMinimal (s : Solution) : Type 0 where

@@ -1,15 +1,8 @@
 -- For proofs: Where the value of a symbol comes from, read from its row.
-use Rattle.std.specs.Prelude.{ℕ, Option, Some, None}
-use Rattle.kc_language.specs.ConfigFile.{Places, place_at}
-use Rattle.kc_language.specs.Explanations.{member_source, source_by_type}
-use Rattle.kc_language.specs.Expressions.{SymbolValue}
-use Rattle.kc_language.specs.Symbols.{SymbolFacts, TreeFacts}
-use Rattle.kc_language.specs.Values.{ChoicePlace, GivenValue, SymbolPlace, UserPlace, choice_at}
-use Rattle.kc_language.specs.declared.explanations.Source.{Source}
-use Rattle.kc_language.specs.declared.expressions.SymId.{SymId}
+use Rattle.std.specs.Prelude.{None, Option, Some, ℕ}
+use Rattle.kc_language.specs.{ConfigFile.{Places, place_at}, Expressions.SymbolValue, Sources.{member_source, source_by_type}, Symbols.{SymbolFacts, TreeFacts}, Values.{ChoicePlace, GivenValue, SymbolPlace, UserPlace, choice_at}, declared.{expressions.SymId.SymId, sources.Source.Source}}
 use Rattle.kc_tree.specs.declared.rows.Symbol.{Symbol}
-use Rattle.kc_values.specs.TableFacts.{facts_in, known_at}
-use Rattle.kc_values.specs.declared.table.Table.{Table}
+use Rattle.kc_values.specs.{TableFacts.{facts_in, known_at}, declared.table.Table.Table}
 
 -- by the symbol's choice, if it is a member
 abbrev pub source_by_choice : TreeFacts → (SymId → SymbolValue) → (UserPlace → Option GivenValue) → SymId → SymbolFacts → Option ℕ → Source

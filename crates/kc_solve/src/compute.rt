@@ -1,10 +1,10 @@
 //! The table of values, computed once in an order of the nodes.
 
 ghost use Rattle.std.specs.Prelude.{◌≡◌, ◌<◌, length, slice_get, Some, IfOk, OnOk};
-ghost use Rattle.kc_language.specs.Values.{Solves, name_count, equations};
-ghost use Rattle.kc_solve.specs.Computing.{equation_at, place_value, IsComputedSymbol, IsNodeOrder, IsComputedContext, IsComputedSelection, IsUnread};
+ghost use Rattle.kc_language.specs.Values.{name_count};
+ghost use Rattle.kc_solve.specs.Computing.{equation_at, place_value, IsComputedSymbol, IsComputedVisible, IsComputedContext, IsComputedDependency, IsComputedSelection, IsSolvedTable, IsUnread};
+ghost use Rattle.kc_solve.specs.Orders.{IsNodeOrder};
 ghost use Rattle.kc_solve.specs.PlaceLists.{places};
-ghost use Rattle.kc_solve.specs.Kept.{valuation};
 ghost use Rattle.kc_language.specs.Values as lookup;
 ghost use Rattle.kc_values.specs.TableFacts.{AreSelected, IsRowOf};
 ghost use Rattle.kc_values.specs.User.{given_in};
@@ -12,11 +12,11 @@ ghost use Rattle.kc_values.specs.User.{given_in};
 use kc_expr::expression::{SymId, SymbolType};
 use kc_tree::laid_tree::LaidTree;
 use kc_tree::layout::Layout;
-use kc_tree::rows::{ChoiceId, ContextId, Symbol};
+use kc_tree::rows::{ChoiceId, EntryId, Symbol, VisibleId};
 use kc_user::sparse::SparseVec;
 use kc_user::value::UserValue;
 use kc_values::choices::selected_in;
-use kc_values::conditions::context;
+use kc_values::conditions::{choice_dependency, context, visible_context};
 use kc_values::equation::equation;
 use kc_values::nodes::{Node, node_of};
 use kc_values::table::{Table, Value};
@@ -76,8 +76,17 @@ fn compute_symbol(
     Ok(())
 }
 
-// Computes the value of the next context.
-fn compute_context(table: &mut Table<'_>, id: ContextId)
+// Computes what the next menu asks of what is visible.
+fn compute_visible(table: &mut Table<'_>, id: VisibleId)
+    requires { id.0 < length table.old.visibles.items }
+    ensures { IsComputedVisible id.0 table.old table.new }
+{
+    let value = visible_context(table, id);
+    table.visibles[id.0 as usize] = Some(value);
+}
+
+// Computes what the next entry depends on.
+fn compute_context(table: &mut Table<'_>, id: EntryId)
     requires { id.0 < length table.old.contexts.items }
     ensures { IsComputedContext id.0 table.old table.new }
 {
@@ -85,7 +94,16 @@ fn compute_context(table: &mut Table<'_>, id: ContextId)
     table.contexts[id.0 as usize] = Some(value);
 }
 
-// Computes the selection of the next choice.
+// Computes what the next choice depends on itself.
+fn compute_dependency(table: &mut Table<'_>, id: ChoiceId)
+    requires { id.0 < length table.old.dependencies.items }
+    ensures { IsComputedDependency id.0 table.old table.new }
+{
+    let value = choice_dependency(table, id);
+    table.dependencies[id.0 as usize] = Some(value);
+}
+
+// Computes what the next choice selects.
 fn compute_selection(table: &mut Table<'_>, id: ChoiceId, chosen: &[Option<SymId>])
     requires there { id.0 < length table.old.selections.items }
     requires chosen { id.0 < length chosen.now }
@@ -108,16 +126,15 @@ pub(crate) fn compute<'t>(
     requires order { IsNodeOrder laid.now.tree.now laid.now.layout.now nodes.now }
     requires given { length given.now ≡ name_count laid.now.tree.now }
     requires chosen { length chosen.now ≡ length laid.now.tree.now.choices }
-    ensures tree { IfOk result (λ t. t.tree.now ≡ laid.now.tree.now) }
-    ensures count { IfOk result (λ t. length t.values ≡ name_count laid.now.tree.now) }
-    ensures selected { IfOk result (λ t. AreSelected t chosen.now) }
-    ensures solves { IfOk result (λ t. Solves (name_count laid.now.tree.now) (equations laid.now.tree.now (places given.now chosen.now)) (valuation laid.now.tree.now t.values)) }
+    ensures { IfOk result (IsSolvedTable laid.now.tree.now (places given.now chosen.now) chosen.now) }
 {
     let mut table = Table::empty(alloc, laid)?;
     for node in nodes {
         match node_of(table.layout, *node) {
             Node::Symbol(id) => compute_symbol(alloc, &mut table, id, given, chosen)?,
+            Node::Visible(id) => compute_visible(&mut table, id),
             Node::Context(id) => compute_context(&mut table, id),
+            Node::Dependency(id) => compute_dependency(&mut table, id),
             Node::Choice(id) => compute_selection(&mut table, id, chosen),
         }
     }

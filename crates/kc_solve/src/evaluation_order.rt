@@ -1,12 +1,12 @@
 //! An order of a tree's symbols, or the reported dependency loop.
 
-ghost use Rattle.std.specs.Prelude.{◌≡◌, ◌≢◌, ◌<◌, ◌++◌, length, map, All, IfOk, IfErr, OnOk};
+ghost use Rattle.std.specs.Prelude.{◌≡◌, ◌≢◌, ◌<◌, ◌++◌, filter, length, map, All, IfOk, IfErr, OnOk};
 ghost use Rattle.kc_language.specs.Needs.{needs_in, arrows, loop_text, needs, IsAccepted};
 ghost use Rattle.kc_order.specs.Needs.{SomeUnordered};
-ghost use Rattle.kc_order.specs.Order.{Orders};
 ghost use Rattle.kc_read.specs.RefusalView.{IsMemory, refusal_view};
 ghost use Rattle.kc_language.specs.declared.diagnostics.Cause.TheVariants.{Memory};
-ghost use Rattle.kc_solve.specs.Graphs.{IsGraphOf};
+ghost use Rattle.kc_solve.specs.Orders.{IsNodeOrder, IsOrderOf};
+ghost use Rattle.kc_solve.specs.Busy as busy;
 ghost use Rattle.kc_language.specs.Needs as refused;
 ghost use Rattle.kc_solve.specs.Refused.{NamesLoop};
 ghost use Rattle.kc_solve.specs.LoopFaults.{NamesTheLoop};
@@ -20,24 +20,25 @@ use kc_tree::layout::Layout;
 use kc_tree::tree::Tree;
 use kc_values::laws::needs_are_symbols;
 use kc_values::needs::tree_needs;
+use kc_values::nodes::{Node, node_of};
 use kc_values::table::name;
 use std::alloc::{AllocError, Global};
 use std::marker::Model;
 
-/// All symbols of a tree, in an order in which each comes after all that it needs, with the contexts and choices
-/// between them. Its visible content is the graph of needs that it orders (our own; the kernel's kconfig-language
-/// document forbids recursive dependencies).
+/// All defined symbols of a tree in an order in which what each needs stands before it, with the contexts and choices between
+/// them for which something is computed: a list of nodes, by number (our own; the kernel's kconfig-language document asks of a
+/// tree that its dependencies don't recur).
 #[derive(Drop)]
 pub struct EvaluationOrder {
-    inner: kc_order::Order,
+    nodes: Vec<u32>,
 }
 
 impl Model for EvaluationOrder {
-    ghost use Rattle.kc_order.specs.Graph.{Nodes};
+    ghost use Rattle.std.specs.Prelude.{ℕ, List};
 
-    ghost Value = { Nodes };
+    ghost Value = { List ℕ };
 
-    ghost view = { λ o. o.inner };
+    ghost view = { λ o. o.nodes.items };
 }
 
 impl EvaluationOrder {
@@ -51,25 +52,24 @@ impl EvaluationOrder {
     /// first unordered symbol that is needed. The first of several symbols is the one that is defined first (our own
     /// rule). `Memory` if there is not enough memory.
     pub fn of(alloc: Global, laid: &LaidTree<'_>) -> Result<EvaluationOrder, Refusal>
-        ensures same { IfOk result (IsGraphOf laid.now) }
+        ensures order { IfOk result (IsOrderOf laid.now) }
         ensures accepted { OnOk result (IsAccepted laid.now.tree.now) }
         ensures unordered { IfErr result (λ r. r.cause ≢ Memory → SomeUnordered (length (needs laid.now.tree.now)) (needs_in (needs laid.now.tree.now))) }
         ensures refused { IfErr result (NamesLoop laid.now.tree.now) }
         ensures memory { IfErr result IsMemory }
     {
         match tree_order(alloc, laid) {
-            Ok(inner) => Ok(EvaluationOrder { inner }),
+            Ok(nodes) => Ok(EvaluationOrder { nodes }),
             Err(LoopFault::Loop(text)) => Err(loop_refusal(text)),
             Err(LoopFault::Memory) => Err(Refusal::out_of_memory()),
         }
     }
 
-    /// The numbers of the nodes of the graph of needs, in order: the symbols, and the contexts and choices between
-    /// them.
+    /// The nodes in order, by number.
     pub fn nodes(&self) -> &[u32]
-        ensures { Orders self.now.rows result.now }
+        ensures { result.now ≡ self.now }
     {
-        self.inner.nodes()
+        &self.nodes
     }
 }
 
@@ -141,10 +141,45 @@ fn first_numbers(alloc: Global, layout: &Layout) -> Result<Vec<u32>, AllocError>
     Ok(numbers)
 }
 
-// An order of the symbols of a tree in which each symbol comes after all that it needs. Fails if some symbol is
-// unordered, with the text of the reported loop, or if there is not enough memory.
-fn tree_order(alloc: Global, laid: &LaidTree<'_>) -> Result<kc_order::Order, LoopFault>
-    ensures same { IfOk result (IsGraphOf laid.now) }
+// Whether a symbol is defined.
+fn is_defined(layout: &Layout, id: SymId) -> bool
+    ensures { result ≡ busy.is_defined layout.now id.0 }
+{
+    match layout.symbol(id) {
+        Some(symbol) => symbol.first.is_some(),
+        None => false,
+    }
+}
+
+// Whether anything is computed for a node: not for a name that is not defined, the top, or an entry that asks for nothing.
+fn is_busy(layout: &Layout, node: u32) -> bool
+    ensures { result ≡ busy.is_busy layout.now node }
+{
+    match node_of(layout, node) {
+        Node::Symbol(id) => is_defined(layout, id),
+        Node::Visible(id) => id.is_some(),
+        Node::Context(at) => at.is_some() && layout.place(at).context.0 == at.0,
+        Node::Dependency(_) | Node::Choice(_) => true,
+    }
+}
+
+// The nodes for which something is computed.
+fn busy_nodes(alloc: Global, layout: &Layout, nodes: &[u32]) -> Result<Vec<u32>, AllocError>
+    ensures { IfOk result (λ v. v.items ≡ filter (busy.is_busy layout.now) nodes.now) }
+{
+    let mut busy = Vec::with_capacity(alloc, layout.defined().len())?;
+    for node in nodes {
+        if is_busy(layout, *node) {
+            busy.push(*node)?;
+        }
+    }
+    Ok(busy)
+}
+
+// An order of the symbols of a tree in which what each needs stands before it. Fails where some symbol is unordered, with
+// the text of the loop that is named, and for being out of memory.
+fn tree_order(alloc: Global, laid: &LaidTree<'_>) -> Result<Vec<u32>, LoopFault>
+    ensures order { IfOk result (λ v. IsNodeOrder laid.now.tree.now laid.now.layout.now v.items) }
     ensures accepted { OnOk result (IsAccepted laid.now.tree.now) }
     ensures refused { IfErr result (NamesTheLoop laid.now.tree.now) }
 {
@@ -154,7 +189,7 @@ fn tree_order(alloc: Global, laid: &LaidTree<'_>) -> Result<kc_order::Order, Loo
     let all = tree_needs(alloc, laid)?;
     let sequence = first_numbers(alloc, laid.layout)?;
     match order_of(alloc, all, &sequence) {
-        Ok(order) => Ok(order),
+        Ok(order) => Ok(busy_nodes(alloc, laid.layout, order.nodes())?),
         Err(NoOrder::Loop(symbols)) => {
             let text = loop_text(alloc, laid.tree, &symbols)?;
             Err(LoopFault::Loop(text))

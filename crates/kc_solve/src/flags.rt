@@ -5,6 +5,7 @@ ghost use Rattle.kc_language.specs.declared.expressions.Tri.TheVariants.{N};
 ghost use Rattle.kc_language.specs.Values.{ChoicePlace, Solves, is_chosen, name_count, equations};
 ghost use Rattle.kc_solve.specs.Flags as flag;
 ghost use Rattle.kc_solve.specs.Flags.{row_differs, visibilities_in, IsSolvedRow};
+ghost use Rattle.kc_solve.specs.FlagLists.{AreFlagsOf, AreSelectionsOf};
 ghost use Rattle.kc_language.specs.ConfigFile.{ArePlacesOf, place_at};
 ghost use Rattle.kc_user.specs.PartsOfConfigFile.{member_place};
 ghost use Rattle.kc_values.specs.AtTable as at;
@@ -61,6 +62,26 @@ pub(crate) struct ChoiceSelections {
     pub default: Vec<Option<SymId>>,
 }
 
+impl ChoiceSelections {
+    ghost use Rattle.std.specs.Prelude.{◌≡◌, ◌<◌, None, length, slice_index_or};
+
+    /// The selection of a choice.
+    pub(crate) fn selected(&self, choice: ChoiceId) -> Option<SymId>
+        requires { choice.0 < length self.now.selected.items }
+        ensures { result ≡ slice_index_or self.now.selected.items choice.0 None }
+    {
+        at_choice(&self.selected, choice)
+    }
+
+    /// The default selection of a choice.
+    pub(crate) fn default(&self, choice: ChoiceId) -> Option<SymId>
+        requires { choice.0 < length self.now.default.items }
+        ensures { result ≡ slice_index_or self.now.default.items choice.0 None }
+    {
+        at_choice(&self.default, choice)
+    }
+}
+
 /// Returns the selection of each choice under the values of a full table and the user values of that tree. Uses what
 /// the table has computed.
 pub(crate) fn selections(
@@ -71,8 +92,7 @@ pub(crate) fn selections(
     requires full { length table.now.values ≡ name_count table.now.tree.now }
     requires user { ArePlacesOf table.now.tree.now user.now }
     requires selected { AreSelected table.now user.now.choices }
-    ensures selected { IfOk result (λ s. s.selected.items ≡ flag.selected_by table.now user.now) }
-    ensures default { IfOk result (λ s. s.default.items ≡ flag.selected_by_default table.now) }
+    ensures { IfOk result (AreSelectionsOf table.now user.now) }
 {
     let count = choice_count(table.tree);
     let mut selected = Vec::with_capacity(alloc, count)?;
@@ -112,33 +132,38 @@ pub(crate) fn visibility_at(visibilities: &[Tri], id: SymId) -> Tri
     }
 }
 
+/// A symbol and its row, with the table that says what it is worth.
+#[derive(Clone, Copy)]
+pub(crate) struct TableRow<'t> {
+    pub table: &'t Table<'t>,
+    pub id: SymId,
+    pub symbol: &'t Symbol,
+}
+
 // Whether a symbol differs. A symbol whose user value has no effect does not: its equation gives its value without it.
 fn symbol_differs(
     alloc: Global,
-    table: &Table,
-    id: SymId,
-    symbol: &Symbol,
+    row: &TableRow<'_>,
     user: Option<&UserValue>,
     visibility: Tri,
-    selections: &[Option<SymId>],
-    defaults: &[Option<SymId>],
+    selections: &ChoiceSelections,
 ) -> Result<bool, AllocError>
-    requires row { IsRowOf table.now id symbol.now }
-    requires selections { IfSome symbol.now.choice (λ c. c.0 < length selections.now) }
-    requires defaults { IfSome symbol.now.choice (λ c. c.0 < length defaults.now) }
-    requires visibility { visibility ≡ at.visibility table.now symbol.now }
-    requires solved { IsSolvedRow table.now id symbol.now (given_in user) }
-    ensures { IfOk result (λ b. b ≡ row_differs table.now id symbol.now selections.now defaults.now) }
+    requires row { IsRowOf row.now.table.now row.now.id row.now.symbol.now }
+    requires selections { IfSome row.now.symbol.now.choice (λ c. c.0 < length selections.now.selected.items) }
+    requires defaults { IfSome row.now.symbol.now.choice (λ c. c.0 < length selections.now.default.items) }
+    requires visibility { visibility ≡ at.visibility row.now.table.now row.now.id row.now.symbol.now }
+    requires solved { IsSolvedRow row.now.table.now row.now.id row.now.symbol.now (given_in user) }
+    ensures { IfOk result (λ b. b ≡ row_differs row.now.table.now row.now.id row.now.symbol.now selections.now.selected.items selections.now.default.items) }
 {
-    match symbol.choice.get() {
+    match row.symbol.choice.get() {
         Some(choice) => Ok(member_differs(
-            at_choice(selections, choice),
-            at_choice(defaults, choice),
-            id,
+            selections.selected(choice),
+            selections.default(choice),
+            row.id,
         )),
         None => {
             if can_count(user, visibility) {
-                own_differs(alloc, table, id, symbol)
+                own_differs(alloc, row.table, row.id, row.symbol)
             } else {
                 Ok(false)
             }
@@ -148,22 +173,16 @@ fn symbol_differs(
 
 // Whether the choice of this visible member has a visible member other than the given default selection. Any other
 // member is one itself. So the members are searched only for the default selection: once for each choice.
-fn has_other_by(
-    table: &Table,
-    id: SymId,
-    symbol: &Symbol,
-    choice: ChoiceId,
-    default: Option<SymId>,
-) -> bool
-    requires row { IsRowOf table.now id symbol.now }
-    requires member { symbol.now.choice ≡ Some choice }
-    requires visible { at.is_visible table.now symbol.now ≡ true }
-    requires default { default ≡ at.selected table.now choice.0 None }
-    ensures { result ≡ at.has_other table.now choice.0 }
+fn has_other_by(row: &TableRow<'_>, choice: ChoiceId, default: Option<SymId>) -> bool
+    requires row { IsRowOf row.now.table.now row.now.id row.now.symbol.now }
+    requires member { row.now.symbol.now.choice ≡ Some choice }
+    requires visible { at.is_visible row.now.table.now row.now.id row.now.symbol.now ≡ true }
+    requires default { default ≡ at.selected row.now.table.now choice.0 None }
+    ensures { result ≡ at.has_other row.now.table.now choice.0 }
 {
     match default {
-        Some(selected) if selected.0 != id.0 => true,
-        _ => has_other(table, choice, default),
+        Some(selected) if selected.0 != row.id.0 => true,
+        _ => has_other(row.table, choice, default),
     }
 }
 
@@ -179,59 +198,47 @@ fn is_chosen(given: Option<SymId>, selected: Option<SymId>) -> bool
 
 // Whether a member without a user value is new. The caller passes its choice's selection and default selection.
 fn member_is_new(
-    table: &Table,
+    row: &TableRow<'_>,
     user: &User,
-    id: SymId,
-    symbol: &Symbol,
     choice: ChoiceId,
     selected: Option<SymId>,
     default: Option<SymId>,
 ) -> bool
-    requires row { IsRowOf table.now id symbol.now }
-    requires member { symbol.now.choice ≡ Some choice }
+    requires row { IsRowOf row.now.table.now row.now.id row.now.symbol.now }
+    requires member { row.now.symbol.now.choice ≡ Some choice }
     requires user { choice.0 < length user.now.choices }
-    requires selected { selected ≡ at.selected table.now choice.0 (place_at user.now (ChoicePlace choice.0)) }
-    requires default { default ≡ at.selected table.now choice.0 None }
-    ensures { result ≡ flag.member_is_new table.now user.now symbol.now choice.0 }
+    requires selected { selected ≡ at.selected row.now.table.now choice.0 (place_at user.now (ChoicePlace choice.0)) }
+    requires default { default ≡ at.selected row.now.table.now choice.0 None }
+    ensures { result ≡ flag.member_is_new row.now.table.now user.now row.now.id row.now.symbol.now choice.0 }
 {
-    is_visible(table, symbol)
+    is_visible(row.table, row.id, row.symbol)
         && !is_chosen(user.selected(choice), selected)
-        && has_other_by(table, id, symbol, choice, default)
+        && has_other_by(row, choice, default)
 }
 
 /// Whether a symbol is new under the values of a full table and the user values of that tree: no line answered its
 /// question. The caller passes the selections and the default selections.
-pub(crate) fn symbol_is_new(
-    table: &Table,
-    user: &User,
-    id: SymId,
-    symbol: &Symbol,
-    selections: &[Option<SymId>],
-    defaults: &[Option<SymId>],
-) -> bool
-    requires row { IsRowOf table.now id symbol.now }
-    requires full { length table.now.values ≡ name_count table.now.tree.now }
-    requires below { id.0 < name_count table.now.tree.now }
-    requires user { ArePlacesOf table.now.tree.now user.now }
-    requires selections { selections.now ≡ flag.selected_by table.now user.now }
-    requires defaults { defaults.now ≡ flag.selected_by_default table.now }
-    ensures { result ≡ flag.row_is_new table.now user.now id symbol.now }
+pub(crate) fn symbol_is_new(row: &TableRow<'_>, user: &User, selections: &ChoiceSelections) -> bool
+    requires row { IsRowOf row.now.table.now row.now.id row.now.symbol.now }
+    requires full { length row.now.table.now.values ≡ name_count row.now.table.now.tree.now }
+    requires below { row.now.id.0 < name_count row.now.table.now.tree.now }
+    requires user { ArePlacesOf row.now.table.now.tree.now user.now }
+    requires selections { AreSelectionsOf row.now.table.now user.now selections.now }
+    ensures { result ≡ flag.row_is_new row.now.table.now user.now row.now.id row.now.symbol.now }
 {
-    let _count = table.tree.name_count();
-    if user.get(id).is_some() {
+    let _count = row.table.tree.name_count();
+    if user.get(row.id).is_some() {
         return false;
     }
-    match symbol.choice.get() {
+    match row.symbol.choice.get() {
         Some(choice) => member_is_new(
-            table,
+            row,
             user,
-            id,
-            symbol,
             choice,
-            at_choice(selections, choice),
-            at_choice(defaults, choice),
+            selections.selected(choice),
+            selections.default(choice),
         ),
-        None => can_change(table, id, symbol),
+        None => can_change(row.table, row.id, row.symbol),
     }
 }
 
@@ -253,17 +260,13 @@ pub(crate) fn flags_of(
     alloc: Global,
     table: &Table,
     user: &User,
-    selections: &[Option<SymId>],
-    defaults: &[Option<SymId>],
+    selections: &ChoiceSelections,
 ) -> Result<Flags, AllocError>
     requires full { length table.now.values ≡ name_count table.now.tree.now }
     requires user { ArePlacesOf table.now.tree.now user.now }
     requires solves { Solves (name_count table.now.tree.now) (equations table.now.tree.now (place_at user.now)) (flag.values_in table.now) }
-    requires selections { selections.now ≡ flag.selected_by table.now user.now }
-    requires defaults { defaults.now ≡ flag.selected_by_default table.now }
-    ensures visibilities { IfOk result (λ f. f.visibilities.items ≡ visibilities_in table.now) }
-    ensures differing { IfOk result (λ f. f.differing.items ≡ flag.differing_by table.now user.now) }
-    ensures written { IfOk result (λ f. f.written.items ≡ flag.written_in table.now) }
+    requires selections { AreSelectionsOf table.now user.now selections.now }
+    ensures { IfOk result (AreFlagsOf table.now user.now) }
 {
     let count = table.tree.name_count();
     let mut visibilities = Vec::with_capacity(alloc, count)?;
@@ -273,10 +276,13 @@ pub(crate) fn flags_of(
         let id = SymId(i);
         let symbol = symbol_row(table.layout, id);
         let own = user.get(id);
-        let visibility = visibility(table, symbol);
-        let differs = symbol_differs(
-            alloc, table, id, symbol, own, visibility, selections, defaults,
-        )?;
+        let visibility = visibility(table, id, symbol);
+        let row = TableRow {
+            table: &*table,
+            id,
+            symbol,
+        };
+        let differs = symbol_differs(alloc, &row, own, visibility, selections)?;
         visibilities.push(visibility)?;
         differing.push(differs)?;
         written.push(is_written(table, id, symbol, visibility))?;

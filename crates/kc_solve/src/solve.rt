@@ -1,20 +1,18 @@
 //! The one valuation that solves the equations of a tree.
 
-ghost use Rattle.std.specs.Prelude.{◌≡◌, length, IfOk, OnOk};
-ghost use Rattle.kc_language.specs.Values.{Solves, IsOnlySolution, name_count, equations};
-ghost use Rattle.kc_solve.specs.Graphs.{IsGraphOf};
+ghost use Rattle.std.specs.Prelude.{IfOk};
+ghost use Rattle.kc_language.specs.Values.{IsOnlySolution, name_count, equations};
+ghost use Rattle.kc_solve.specs.Orders.{IsOrderOf};
+ghost use Rattle.kc_solve.specs.Computing.{IsSolvedTable};
 ghost use Rattle.kc_solve.specs.Kept.{valuation};
-ghost use Rattle.kc_language.specs.Texts.{value_of};
+ghost use Rattle.kc_language.specs.Texts.{IsSolutionFor};
 ghost use Rattle.kc_solve.specs.SolvedLaws.{IsMinimal, IdempotentWhere};
 ghost use Rattle.kc_language.specs.ConfigFile.{ArePlacesOf, place_at};
-ghost use Rattle.kc_language.specs.Needs.{IsAccepted};
-ghost use Rattle.kc_values.specs.TableFacts.{AreSelected};
 
 use crate::compute::compute;
 use crate::evaluation_order::EvaluationOrder;
-use crate::flags::{ChoiceSelections, Flags, flags_of, selections, warnings_of};
+use crate::flags::{Flags, flags_of, selections, warnings_of};
 use crate::solved::Solved;
-use kc_order::{alike_needs, groups_stand_for_symbols, ordered_are_accepted};
 use kc_tree::laid_tree::LaidTree;
 use kc_user::user::User;
 use kc_values::laws::accepted_have_one_solution;
@@ -28,19 +26,12 @@ fn full_table<'t>(
     order: &EvaluationOrder,
     user: &User,
 ) -> Result<Table<'t>, AllocError>
-    requires order { IsGraphOf laid.now order.now }
+    requires order { IsOrderOf laid.now order.now }
     requires user { ArePlacesOf laid.now.tree.now user.now }
-    ensures tree { IfOk result (λ t. t.tree.now ≡ laid.now.tree.now) }
-    ensures accepted { OnOk result (IsAccepted laid.now.tree.now) }
-    ensures count { IfOk result (λ t. length t.values ≡ name_count laid.now.tree.now) }
-    ensures selected { IfOk result (λ t. AreSelected t user.now.choices) }
-    ensures solves { IfOk result (λ t. Solves (name_count laid.now.tree.now) (equations laid.now.tree.now (place_at user.now)) (valuation laid.now.tree.now t.values)) }
+    ensures table { IfOk result (IsSolvedTable laid.now.tree.now (place_at user.now) user.now.choices) }
     ensures only { IfOk result (λ t. IsOnlySolution (name_count laid.now.tree.now) (equations laid.now.tree.now (place_at user.now)) (valuation laid.now.tree.now t.values)) }
 {
     accepted_have_one_solution();
-    ordered_are_accepted();
-    alike_needs();
-    groups_stand_for_symbols();
     let given = user.symbols();
     let chosen = user.choices();
     let table = compute(alloc, laid, order.nodes(), given, chosen)?;
@@ -56,28 +47,24 @@ pub fn solve<'a>(
     order: &EvaluationOrder,
     user: &'a User,
 ) -> Result<Solved<'a>, AllocError>
-    requires order { IsGraphOf laid.now order.now }
+    requires order { IsOrderOf laid.now order.now }
     requires user { ArePlacesOf laid.now.tree.now user.now }
-    ensures tree { IfOk result (λ s. s.tree ≡ laid.now.tree.now) }
-    ensures places { IfOk result (λ s. s.places ≡ user.now) }
-    ensures solves { IfOk result (λ s. Solves (name_count laid.now.tree.now) (equations laid.now.tree.now (place_at user.now)) (value_of s)) }
-    ensures only { IfOk result (λ s. IsOnlySolution (name_count laid.now.tree.now) (equations laid.now.tree.now (place_at user.now)) (value_of s)) }
+    ensures solution { IfOk result (IsSolutionFor laid.now.tree.now user.now) }
     ensures minimal { IfOk result IsMinimal }
     ensures idempotent { IfOk result IdempotentWhere }
 {
     let table = full_table(alloc, laid, order, user)?;
-    let ChoiceSelections { selected, default } = selections(alloc, &table, user)?;
+    let selections = selections(alloc, &table, user)?;
     let Flags {
         visibilities,
         differing,
         written,
-    } = flags_of(alloc, &table, user, &selected, &default)?;
+    } = flags_of(alloc, &table, user, &selections)?;
     let warnings = warnings_of(alloc, &table, user, &visibilities)?;
     let solved = Solved {
         table,
         user,
-        selections: selected,
-        default_selections: default,
+        selections,
         visibilities,
         differing,
         written,

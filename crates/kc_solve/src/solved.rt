@@ -6,26 +6,24 @@ ghost use Rattle.kc_values.specs.Small.{HasSmallBounds};
 ghost use Rattle.kc_values.specs.TableFacts.{known_at};
 ghost use Rattle.kc_solve.specs.Answers as spec;
 ghost use Rattle.kc_diagnostics.specs.Warnings.{owned_warning};
-ghost use Rattle.kc_language.specs.Explanations.{source};
+ghost use Rattle.kc_language.specs.Sources.{source};
 ghost use Rattle.kc_language.specs.Texts.{IsSolution, known, value_warnings};
 ghost use Rattle.kc_solve.specs.SolvedLaws.{IsMinimal, IdempotentWhere};
 ghost use Rattle.kc_solve.specs.Answers.{TellsKnown};
-ghost use Rattle.kc_solve.specs.Titles.{IsTitleAt};
+ghost use Rattle.kc_solve.specs.Tables.{IsTableOf};
 ghost use Rattle.kc_language.specs.Needs.{IsAccepted};
 ghost use Rattle.kc_language.specs.Values.{active_range, choice_at, facts, mode_of, name_count};
 
 use crate::compute::symbol_row;
-use crate::flags::{at_choice, at_symbol, symbol_is_new, visibility_at};
+use crate::flags::{ChoiceSelections, TableRow, at_symbol, symbol_is_new, visibility_at};
 use crate::sources::{mode_at, prompts_condition_at, symbol_source};
 use kc_diagnostics::Warning;
 use kc_expr::expression::{SymId, SymbolType, Tri};
 use kc_expr::values::{Values, tri_text, truth_of};
-use kc_language::explanations::Source;
-use kc_tree::layout::Layout;
-use kc_tree::rows::{ChoiceId, ContextId, ShownEntry, Title};
+use kc_language::sources::Source;
+use kc_tree::rows::ChoiceId;
 use kc_tree::tree::Tree;
 use kc_user::user::User;
-use kc_values::conditions::title_condition;
 use kc_values::laws::{idempotent_where, minimal_restores};
 use kc_values::numbers::{Interval, active_range};
 use kc_values::table::Table;
@@ -37,8 +35,7 @@ use std::marker::Model;
 pub struct Solved<'a> {
     pub(crate) table: Table<'a>,
     pub(crate) user: &'a User,
-    pub(crate) selections: Vec<Option<SymId>>,
-    pub(crate) default_selections: Vec<Option<SymId>>,
+    pub(crate) selections: ChoiceSelections,
     pub(crate) visibilities: Vec<Tri>,
     pub(crate) differing: Vec<bool>,
     pub(crate) written: Vec<bool>,
@@ -58,7 +55,7 @@ impl<'a> Model for Solved<'a> {
 
     ghost view = { λ s. solution_in s.table.tree.now s.user.now s.table.values };
 
-    ghost invariant = { λ s. IsSolved s.table.tree.now s.user.now s.table.values s.selections.items s.default_selections.items
+    ghost invariant = { λ s. IsSolved s.table.tree.now s.user.now s.table.values s.selections.selected.items s.selections.default.items
         s.visibilities.items s.differing.items s.written.items (map owned_warning s.warnings.items) };
 }
 
@@ -117,19 +114,11 @@ impl<'a> Solved<'a> {
         let _count = self.table.tree.name_count();
     }
 
-    /// Returns the condition under which the menu or comment of this number is shown: the least of the conditions of
-    /// the enclosing blocks, its own lines, and the mode of the enclosing choice (the kernel's kconfig-language
-    /// document). Other entries are y.
-    pub fn shown(&self, index: usize) -> Tri
-        ensures { result ≡ spec.shown self.now (slice_get self.now.tree.entries index) }
+    /// The table of the values, beside the layout of the tree: what the conditions of its entries are worth is asked of it (our own).
+    pub fn table(&self) -> &Table<'a>
+        ensures { IsTableOf self.now result.now }
     {
-        match title_at(self.table.layout, index) {
-            Some(title) => title_condition(&self.table, title),
-            None => {
-                let _top = self.table.layout.context(ContextId(0));
-                Tri::Y
-            }
-        }
+        &self.table
     }
 
     /// The visibility of a symbol: the greatest condition of its prompts, with y for m if the symbol can't be m
@@ -164,7 +153,7 @@ impl<'a> Solved<'a> {
         requires { choice.0 < length self.now.tree.choices }
         ensures { result ≡ spec.selection self.now choice.0 }
     {
-        at_choice(&self.selections, choice)
+        self.selections.selected(choice)
     }
 
     /// The selection of a choice without the user's member: that of the first default whose condition is not n and
@@ -173,7 +162,7 @@ impl<'a> Solved<'a> {
         requires { choice.0 < length self.now.tree.choices }
         ensures { result ≡ spec.default_selection self.now choice.0 }
     {
-        at_choice(&self.default_selections, choice)
+        self.selections.default(choice)
     }
 
     /// Whether the symbol has a line in the minimal file: its value is not what its equation gives without its user
@@ -195,14 +184,12 @@ impl<'a> Solved<'a> {
         ensures { result ≡ spec.is_new self.now id }
     {
         let symbol = symbol_row(self.table.layout, id);
-        symbol_is_new(
-            &self.table,
-            self.user,
+        let row = TableRow {
+            table: &self.table,
             id,
             symbol,
-            &self.selections,
-            &self.default_selections,
-        )
+        };
+        symbol_is_new(&row, self.user, &self.selections)
     }
 
     /// Where the value of the symbol comes from (our own): a `select` that raises it, the user, an `imply`, a default,
@@ -212,7 +199,13 @@ impl<'a> Solved<'a> {
         ensures { result ≡ source self.now id }
     {
         let symbol = symbol_row(self.table.layout, id);
-        symbol_source(&self.table, self.user, id, symbol, &self.selections)
+        symbol_source(
+            &self.table,
+            self.user,
+            id,
+            symbol,
+            &self.selections.selected,
+        )
     }
 
     /// The active range of the symbol: the first range whose condition is not n (the kernel's kconfig-language
@@ -223,7 +216,7 @@ impl<'a> Solved<'a> {
         ensures small { IfSome result HasSmallBounds }
     {
         let symbol = symbol_row(self.table.layout, id);
-        active_range(&self.table, symbol)
+        active_range(&self.table, id, symbol)
     }
 
     /// The mode of the choice of this number: y if the condition of its prompt is not n, otherwise n; n if there is no
@@ -243,18 +236,7 @@ impl<'a> Solved<'a> {
     }
 }
 
-// The title of the entry of this number, if it is a menu or comment.
-fn title_at(layout: &Layout, index: usize) -> Option<&Title>
-    ensures { IsTitleAt layout.now index result }
-{
-    match layout.entries().get(index) {
-        Some(ShownEntry::Menu(id) | ShownEntry::Comment(id)) => layout.title(*id),
-        Some(ShownEntry::Symbol(_) | ShownEntry::End(_)) => None,
-        None => None,
-    }
-}
-
-// The text of a symbol's value: `n`, `m` or `y` for a bool or tristate.
+// The text of what is known of a symbol: `n`, `m` or `y` of a bool or tristate.
 fn known_text<'t>(table: &'t Table, id: SymId) -> &'t [u8]
     ensures { result.now ≡ text_of_value (known_at table.now id) }
 {

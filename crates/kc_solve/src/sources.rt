@@ -12,7 +12,7 @@ ghost use Rattle.kc_values.specs.TableFacts.{IsRowOf};
 
 use crate::flags::{at_choice, choice_count};
 use kc_expr::expression::{SymId, Tri};
-use kc_language::explanations::Source;
+use kc_language::sources::Source;
 use kc_tree::rows::{ChoiceId, Symbol};
 use kc_user::user::User;
 use kc_values::conditions::mode_of;
@@ -63,7 +63,7 @@ pub(crate) fn prompts_condition_at(table: &Table, id: SymId) -> Tri
     ensures { result ≡ at.conditions table.now (flat_map (λ f. f.prompts) (listed (facts table.now.tree.now id))) }
 {
     match table.layout.symbol(id) {
-        Some(symbol) => prompts_condition(table, symbol),
+        Some(symbol) => prompts_condition(table, id, symbol),
         None => Tri::N,
     }
 }

@@ -1,12 +1,8 @@
 -- How many physical lines a file has.
-use Rattle.std.proofs.Common.{◌≡◌, ◌≢◌, ℕ, suc, ◌+◌, ◌-◌, ◌<◌, List, [], ◌∷◌, cond, length, get_or, sym, refl, ap, ◌∙◌, inl, inr, arith}
-use Rattle.std.specs.Prelude.{count_by}
-use Rattle.std.specs.List.{slice_split, onto_first, join_with_byte}
-use Rattle.std.proofs.lemmas.Bool.{cases_Bool, ne_eqb}
-use Rattle.std.proofs.lemmas.List.Sums.{sum_by-cons}
-use Rattle.std.proofs.lemmas.List.Splits.{length-slice_split, join_with_byte-slice_split}
-use Rattle.kc_language.specs.Lines.{physical_lines, lines_of_parts}
-use Rattle.kc_text.proofs.Physicals.{parts_cons, lf}
+use Rattle.std.proofs.{Common.{List, [], ap, arith, cond, get_or, inl, inr, length, refl, suc, sym, ℕ, ◌+◌, ◌-◌, ◌<◌, ◌∙◌, ◌∷◌, ◌≡◌, ◌≢◌}, lemmas.{Bool.{cases_Bool, ne_eqb}, List.{Splits.{join_with_byte-slice_split, length-slice_split}, Sums.sum_by-cons}}}
+use Rattle.std.specs.{List.{join_with_byte, onto_first, slice_split}, Prelude.count_by}
+use Rattle.kc_language.specs.Lines.{lines_of_parts, physical_lines}
+use Rattle.kc_text.proofs.Physicals.{lf, parts_cons}
 
 -- a byte before the first part changes nothing, where that is not an empty last one
 length-lines_onto : (b : ℕ) (parts : List (List ℕ)) → 0 < length parts → parts ≢ [] ∷ [] → length (lines_of_parts (onto_first b parts)) ≡ length (lines_of_parts parts)

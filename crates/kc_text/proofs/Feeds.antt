@@ -1,11 +1,6 @@
 -- The first line feed, looked for by the lanes of loads.
-use Rattle.std.proofs.Common.{◌≡◌, ℕ, ◌+◌, ◌-◌, ◌^◌, ◌<◌, ◌≤◌, List, map, length, drop, get_or, w16, sym, ap, ◌∙◌, inl, inr, arith}
-use Rattle.std.specs.Prelude.{not}
-use Rattle.std.specs.List.{prefix_len}
-use Rattle.std.proofs.lemmas.Bool.{cases_lt, both_ways}
-use Rattle.std.proofs.lemmas.List.{get_or-drop, length-drop, length-map}
-use Rattle.std.proofs.lemmas.Nat.Bits.{bit_at-trailing_zeros}
-use Rattle.std.proofs.lemmas.Simd.{length-chunk, mask_l-lt, trailing_mask_l, none_from_empty_mask, run_in_chunk_fails, run_in_chunk_stops}
+use Rattle.std.proofs.{Common.{List, ap, arith, drop, get_or, inl, inr, length, map, sym, w16, ℕ, ◌+◌, ◌-◌, ◌<◌, ◌^◌, ◌∙◌, ◌≡◌, ◌≤◌}, lemmas.{Bool.{both_ways, cases_lt}, List.{get_or-drop, length-drop, length-map}, Nat.Bits.bit_at-trailing_zeros, Simd.{length-chunk, mask_l-lt, none_from_empty_mask, run_in_chunk_fails, run_in_chunk_stops, trailing_mask_l}}}
+use Rattle.std.specs.{List.prefix_len, Prelude.not}
 use Rattle.bstr.specs.Find.{NoneBefore, Nowhere, Passes}
 use Rattle.kc_text.proofs.Physicals.{lf}
 use lib.Count.{count_trailing_zeros}

@@ -1,8 +1,6 @@
 -- The ends of a file, and what is known of the long lines in them.
-use Rattle.std.proofs.Common.{◌≡◌, ℕ, ◌+◌, ◌-◌, ◌≤◌, List, get_or, length, take, drop, sym, refl, ap, ◌∙◌, subst, arith, length-drop}
-use Rattle.std.proofs.lemmas.List.{drop-drop, take_rest}
-use Rattle.kc_text.specs.declared.long_lines.LongLine.{LongLine}
-use Rattle.kc_text.specs.LongLines.{AreLong, IsEndOf, IsLong, IsLongIn, last_bytes}
+use Rattle.std.proofs.{Common.{List, ap, arith, drop, get_or, length, length-drop, refl, subst, sym, take, ℕ, ◌+◌, ◌-◌, ◌∙◌, ◌≡◌, ◌≤◌}, lemmas.List.{drop-drop, take_rest}}
+use Rattle.kc_text.specs.{LongLines.{AreLong, IsEndOf, IsLong, IsLongIn, last_bytes}, declared.long_lines.LongLine.LongLine}
 
 -- an end is no longer than the file
 pub end_fits : (file after : List ℕ) → IsEndOf file after → length after ≤ length file

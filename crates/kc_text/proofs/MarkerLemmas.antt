@@ -1,17 +1,8 @@
 -- A line is one marker, or none.
-use Rattle.std.proofs.Common.{◌≡◌, ◌≢◌, ◌⊎◌, inl, inr, ℕ, zero, suc, ◌+◌, ◌-◌, ◌<◌, ◌≤◌, ◌^◌, Bool, true, false, cond, List, [], ◌∷◌, ◌++◌, length, take, drop, get_or, Option, Some, None, refl, sym, ap, subst, ◌∙◌, append_assoc, arith}
-use Rattle.std.specs.Prelude.{All, ◌&&◌}
-use Rattle.std.specs.Char.{is_digit}
-use Rattle.std.specs.List.{list_all}
-use Rattle.std.proofs.lemmas.Bool.{and_left, and_right, both_ways, cases_Bool, cases_eq, cases_lt}
-use Rattle.std.proofs.Math.Seq.{take-append_seam, drop-append_seam, get_or-append_seam}
-use Rattle.std.proofs.lemmas.List.{length-append, take-append-drop, get_or_append_left, get_or-take, length-take-le, append_cancel_right}
-use Rattle.std.proofs.lemmas.List.Elements.{All-cons, All-head, All-nil, All-tail}
-use Rattle.std.proofs.lemmas.List.Folds.{list_all_at}
-use Rattle.kc_language.specs.Text.{natural_of}
-use Rattle.kc_language.specs.Expansion.{IsMarker}
-use Rattle.kc_text.specs.PartsOfText.{all_digits}
-use Rattle.kc_text.specs.Markers.{IsDigitFront, IsQuotedName}
+use Rattle.std.proofs.{Common.{Bool, List, None, Option, Some, [], ap, append_assoc, arith, cond, drop, false, get_or, inl, inr, length, refl, subst, suc, sym, take, true, zero, ℕ, ◌++◌, ◌+◌, ◌-◌, ◌<◌, ◌^◌, ◌∙◌, ◌∷◌, ◌≡◌, ◌≢◌, ◌≤◌, ◌⊎◌}, Math.Seq.{drop-append_seam, get_or-append_seam, take-append_seam}, lemmas.{Bool.{and_left, and_right, both_ways, cases_Bool, cases_eq, cases_lt}, List.{Elements.{All-cons, All-head, All-nil, All-tail}, Folds.list_all_at, append_cancel_right, get_or-take, get_or_append_left, length-append, length-take-le, take-append-drop}}}
+use Rattle.std.specs.{Char.is_digit, List.list_all, Prelude.{All, ◌&&◌}}
+use Rattle.kc_language.specs.{Expansion.IsMarker, Text.natural_of}
+use Rattle.kc_text.specs.{Markers.{IsDigitFront, IsQuotedName}, PartsOfText.all_digits}
 
 -- ---- The digits
 

@@ -1,8 +1,6 @@
 -- A map of 256 bytes is held against a definition at each byte, by computing.
-use Rattle.std.proofs.Common.{◌≡◌, ◌≢◌, ℕ, zero, suc, ◌<◌, List, Bool, true, false, ◌&&◌, not, nat_eq, get_or, refl, arith, inl, inr}
-use Rattle.std.specs.Prelude.{IsTrue}
-use Rattle.std.specs.Bool.{beq}
-use Rattle.std.proofs.lemmas.Bool.{cases_eq}
+use Rattle.std.proofs.{Common.{Bool, List, arith, false, get_or, inl, inr, nat_eq, not, refl, suc, true, zero, ℕ, ◌&&◌, ◌<◌, ◌≡◌, ◌≢◌}, lemmas.Bool.cases_eq}
+use Rattle.std.specs.{Bool.beq, Prelude.IsTrue}
 
 -- the two tests agree below n
 unfoldable pub agree_below : (ℕ → Bool) → (ℕ → Bool) → ℕ → Bool

@@ -1,23 +1,11 @@
 -- Each line is cut, or refused.
-use Rattle.std.proofs.Common.{◌≡◌, ◌≢◌, ℕ, zero, suc, ◌+◌, ◌-◌, ◌<◌, ◌≤◌, ◌⊎◌, List, [], ◌∷◌, Bool, true, false, cond, length, take, drop, get_or, Option, Some, None, sym, refl, ap, ◌∙◌, inl, inr, arith, length-drop}
-use Rattle.std.specs.Prelude.{All, IsTrue}
-use Rattle.std.proofs.lemmas.Bool.{both_ways, cases_Bool, cases_eq, cases_lt}
-use Rattle.std.specs.Str.{bytes_eq}
-use Rattle.std.proofs.lemmas.List.{length-take-le, take_all}
-use Rattle.std.proofs.lemmas.List.Elements.{All-cons}
-use Rattle.std.proofs.lemmas.Slice.Eq.{bytes_eq-Decides}
-use Rattle.kc_language.specs.declared.tokens.TextFault.{TextFault}
+use Rattle.std.proofs.{Common.{Bool, List, None, Option, Some, [], ap, arith, cond, drop, false, get_or, inl, inr, length, length-drop, refl, suc, sym, take, true, zero, ℕ, ◌+◌, ◌-◌, ◌<◌, ◌∙◌, ◌∷◌, ◌≡◌, ◌≢◌, ◌≤◌, ◌⊎◌}, lemmas.{Bool.{both_ways, cases_Bool, cases_eq, cases_lt}, List.{Elements.All-cons, length-take-le, take_all}, Slice.Eq.bytes_eq-Decides}}
+use Rattle.std.specs.{Prelude.{All, IsTrue}, Str.bytes_eq}
+use Rattle.kc_language.specs.{Tokens.{AQuoted, AWord, AnOp, CannotBeCut, IsCut, IsCutIn, IsLongest, IsQuotedBody, Lexeme, ended, holds_dollar, is_blank, is_word_byte, op_text, skipped, stuck, taken}, declared.tokens.{Op.Op, TextFault.TextFault}}
 use Rattle.kc_language.specs.declared.tokens.TextFault.TheVariants as faults
-use Rattle.kc_language.specs.declared.tokens.Op.{Op}
 use Rattle.kc_language.specs.declared.tokens.Op.TheVariants as ops
-use Rattle.kc_language.specs.Tokens.{is_blank, is_word_byte, IsQuotedBody, op_text, Lexeme, AWord, AQuoted, AnOp, IsLongest, CannotBeCut, IsCut, IsCutIn, holds_dollar, ended, stuck, skipped, taken}
-use Rattle.kc_text.specs.PartsOfTokens.{IsQuote, IsEnd, IsReason, are_refused}
-use Rattle.kc_text.specs.PartsOfTokens.{HasNoToken}
-use Rattle.kc_text.specs.Tokens.{OneCutting}
-use Rattle.kc_text.specs.LexerParts.{IsLongestOp, HasNoEnd, HasNoOp, IsQuoteFault}
-use Rattle.kc_text.proofs.Quoted.{IsScanned, scanned_none, scanned_plain, scanned_taken, no_end, no_end_taken}
-use Rattle.kc_text.proofs.Spelled.{apart, word_token_more, quoted_token, quoted_fault, op_token, no_token, no_macro_here, op_length, spelled_nonempty}
-use Rattle.kc_text.proofs.Once.{op_of, op_back, same_cutting_in}
+use Rattle.kc_text.specs.{LexerParts.{HasNoEnd, HasNoOp, IsLongestOp, IsQuoteFault}, PartsOfTokens.{HasNoToken, IsEnd, IsQuote, IsReason, are_refused}, Tokens.OneCutting}
+use Rattle.kc_text.proofs.{Once.{op_back, op_of, same_cutting_in}, Quoted.{IsScanned, no_end, no_end_taken, scanned_none, scanned_plain, scanned_taken}, Spelled.{apart, no_macro_here, no_token, op_length, op_token, quoted_fault, quoted_token, spelled_nonempty, word_token_more}}
 
 -- ---- a word
 

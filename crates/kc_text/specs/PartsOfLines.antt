@@ -1,8 +1,6 @@
--- Trusted: Parts of the definitions of Lines, by names of their own.
-use Rattle.std.specs.List.{list_all}
-use Rattle.std.specs.Prelude.{All, Bool, List, false, if◌then◌else◌, length, min, take, ℕ, ◌-◌, ◌^◌, ◌≡◌}
-use Rattle.kc_language.specs.Lines.{Physical, continues, is_line_feed}
-use Rattle.kc_language.specs.Tokens.{is_blank}
+-- Trusted: Parts of the definitions of Lines, with names of their own.
+use Rattle.std.specs.{List.list_all, Prelude.{All, Bool, List, None, Option, Some, false, if◌then◌else◌, length, min, take, true, ℕ, ◌-◌, ◌^◌, ◌≡◌}}
+use Rattle.kc_language.specs.{Lines.{Physical, continues, is_line_feed}, Tokens.is_blank}
 
 abbrev pub HoldsNoLineFeed : List ℕ → Type 0
 HoldsNoLineFeed bytes = All (λ b. is_line_feed b ≡ false) bytes
@@ -11,10 +9,14 @@ HoldsNoLineFeed bytes = All (λ b. is_line_feed b ≡ false) bytes
 abbrev pub line_number : ℕ → ℕ
 line_number n = min n (2 ^ 32 - 1)
 
--- what the line gives to its logical line: its text without the `\` that joins it
+-- what the line adds to its logical line: its text without the `\` that joins it
 abbrev pub without_continuation : Physical → List ℕ
 without_continuation l = if continues l then take (length l.text - 1) l.text else l.text
 
--- the line holds blanks alone
+-- the line holds only blanks
 abbrev pub is_blank_line : List ℕ → Bool
 is_blank_line text = list_all is_blank text
+
+abbrev pub ends_line : Option ℕ → Bool
+ends_line None = true
+ends_line (Some b) = is_line_feed b

@@ -1,7 +1,5 @@
--- Trusted: Parts of the definitions of Text, by names of their own.
-use Rattle.std.specs.Char.{is_digit}
-use Rattle.std.specs.List.{list_all}
-use Rattle.std.specs.Prelude.{Bool, List, [], drop, if◌then◌else◌, length, min, nat_lt, neg_ℤ, pos, ℕ, ℤ, ◌&&◌, ◌+◌, ◌-◌, ◌==◌, ◌^◌, ◌||◌, ◌∷◌}
+-- Trusted: Parts of the definitions of Text, with names of their own.
+use Rattle.std.specs.{Char.is_digit, List.list_all, Prelude.{Bool, List, [], drop, if◌then◌else◌, length, min, nat_lt, neg_ℤ, pos, ℕ, ℤ, ◌&&◌, ◌+◌, ◌-◌, ◌==◌, ◌^◌, ◌||◌, ◌∷◌}}
 use Rattle.kc_language.specs.Text.{byte, has_hex_prefix, most_open}
 
 -- levels of `!` and `(` that are open at once in an expression
@@ -28,7 +26,7 @@ last_count = 2 ^ 64 - 1
 abbrev pub hex_limit : ℕ
 hex_limit = 2 ^ 64
 
--- `"` and `\`, which an escaped text has a `\` before
+-- the bytes before which escaping puts a `\`: `"` and `\`
 abbrev pub is_escaped : ℕ → Bool
 is_escaped b = b == byte "\"" || b == byte "\\"
 

@@ -3,15 +3,15 @@ ghost use Rattle.std.specs.Prelude.{◌≡◌};
 ghost use Rattle.std.specs.Str.Lines.{strip_carriage_return};
 ghost use Rattle.kc_language.specs.Tokens.{is_blank};
 
-/// Whether a byte is a blank: a space or a tab. (Our own, after the kernel's tools.)
+/// Whether a byte is a blank: a space or a tab. (Our own, like the kernel's tools.)
 pub fn is_blank(byte: u8) -> bool
     ensures { result ≡ is_blank byte }
 {
     byte == b' ' || byte == b'\t'
 }
 
-/// A line, given without its line feed, without the one carriage return at its end, if it has one. It takes no memory.
-/// (Our own, after the kernel's tools.)
+/// Drops one carriage return at the end of a line, if there is one. The line is given without its line feed. It allocates nothing.
+/// (Our own, like the kernel's tools.)
 pub fn without_carriage_return(line: &[u8]) -> &[u8]
     ensures { result.now ≡ strip_carriage_return line.now }
 {

@@ -1,4 +1,4 @@
-//! The text of a file, with what is counted and looked for only once.
+//! The text of a file, with its number of lines and its long lines.
 ghost use Rattle.std.specs.Prelude.{◌≡◌, length};
 ghost use Rattle.kc_language.specs.Lines.{physical_lines};
 ghost use Rattle.kc_text.specs.LongLines.{AreLong};
@@ -30,7 +30,7 @@ impl Model for FileText {
 }
 
 impl FileText {
-    /// The text of these bytes. Where memory runs out, fewer of its long lines are known, and it is read more slowly.
+    /// Returns the text of these bytes. If memory runs out, fewer of its long lines are known, and reading it is slower.
     pub fn new(alloc: Global, bytes: Vec<u8>) -> FileText
         ensures { result ≡ bytes.items }
     {
@@ -50,14 +50,14 @@ impl FileText {
         &self.bytes
     }
 
-    /// The number of physical lines. It was counted before.
+    /// The number of physical lines. `new` counted it.
     pub fn line_count(&self) -> usize
         ensures { result ≡ length (physical_lines self.now) }
     {
         self.line_count
     }
 
-    /// What is known of the long lines.
+    /// The known long lines.
     pub(crate) fn long_lines(&self) -> &[LongLine]
         ensures { AreLong self.now result.now }
     {

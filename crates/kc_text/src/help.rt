@@ -8,7 +8,7 @@ ghost use Rattle.kc_text.specs.LongLines.{AreLong, IsEndOf, IsLineStart, KnowsSt
 use crate::long_lines::{LongLine, known_line};
 use crate::physical::{PhysicalLine, Unread, first_physical, line_until};
 
-/// How a line begins: how many blanks stand there, the column that they reach, and whether the line has nothing else.
+/// How a line begins: the number of its blanks, the column after them, and whether the line is nothing else.
 #[derive(Drop, Copy, Clone)]
 pub(crate) struct LineStart {
     pub(crate) blanks: usize,
@@ -16,7 +16,7 @@ pub(crate) struct LineStart {
     pub(crate) is_blank: bool,
 }
 
-/// One look at the blanks that a line begins with.
+/// Looks once at the blanks at the start of a line.
 pub(crate) fn indentation(text: &[u8]) -> LineStart
     ensures { IsLineStart text.now result }
 {
@@ -51,7 +51,7 @@ fn is_help_line(text: &[u8], indent: u128) -> bool
     line.is_blank || indent <= line.column
 }
 
-// The same, where the text's first line begins with these blanks: most lines begin as it does, and no column is counted.
+// The same, if the text's first line begins with these blanks. Most lines begin like it, and then no column is counted.
 #[inline(always)]
 fn goes_on(text: &[u8], blanks: &[u8], indent: u128) -> bool
     requires { (more : List ℕ) → indent ≤ column 0 (blanks.now ++ more) }
@@ -60,7 +60,7 @@ fn goes_on(text: &[u8], blanks: &[u8], indent: u128) -> bool
     text.starts_with(blanks) || is_help_line(text, indent)
 }
 
-// The first line of what is left, and how it begins, where that is known.
+// The first unread line, and how it begins, if that is known.
 #[derive(Drop)]
 struct SeenLine<'a> {
     line: PhysicalLine<'a>,
@@ -79,7 +79,7 @@ impl<'a> SeenLine<'a> {
         }
     }
 
-    // Whether the line belongs to a help text of this indentation, whose first line begins with these blanks.
+    // Whether the line belongs to a help text of this indentation. The text's first line begins with these blanks.
     #[inline(always)]
     fn belongs(&self, blanks: &[u8], indent: u128) -> bool
         requires known { KnowsStart self.now.line.text.now self.now.start }
@@ -93,7 +93,7 @@ impl<'a> SeenLine<'a> {
     }
 }
 
-// The first line of what is left of a file with these long lines. No byte of a long one is read.
+// The first unread line of a file with these long lines. It reads no byte of a long line.
 #[inline(always)]
 fn first_seen<'a>(rest: &'a [u8], long: &[LongLine]) -> SeenLine<'a>
     requires some { 0 < length rest.now }
@@ -116,8 +116,8 @@ fn first_seen<'a>(rest: &'a [u8], long: &[LongLine]) -> SeenLine<'a>
     }
 }
 
-// Drops lines up to the first that does not belong to a help text of this indentation, whose first line begins with
-// these blanks.
+// Drops lines up to the first that does not belong to a help text of this indentation. The text's first line begins
+// with these blanks.
 fn drop_text<'a>(
     rest: &'a [u8],
     number: u32,
@@ -150,7 +150,7 @@ fn drop_text<'a>(
     }
 }
 
-/// Drops the lines of a help text, from a file with these long lines.
+/// Drops the lines of a help text of a file with these long lines.
 pub(crate) fn drop_help<'a>(rest: &'a [u8], number: u32, long: &[LongLine]) -> Unread<'a>
     requires { AreLong rest.now long.now }
     ensures drops { Drops (unread_lines rest.now number) (unread_lines result.rest.now result.number)

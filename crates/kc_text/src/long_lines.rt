@@ -8,10 +8,10 @@ use crate::physical::{line_feed_at, line_until};
 use bstr::ByteSlice;
 use std::alloc::Global;
 
-// A line is long where it has more bytes than this.
+// A line with more bytes than this is long.
 const SHORT: usize = 1024;
 
-/// A long line: how many bytes are left where it begins, where its line feed stands, and how it begins.
+/// A long line: how many bytes are left at its start, the position of its line feed, and how it begins.
 #[derive(Drop)]
 pub(crate) struct LongLine {
     pub(crate) before: usize,
@@ -19,7 +19,7 @@ pub(crate) struct LongLine {
     pub(crate) start: LineStart,
 }
 
-// The line that begins here.
+// The line that begins here, as a long line.
 fn long_line(rest: &[u8]) -> LongLine
     requires { 0 < length rest.now }
     ensures before { result.before ≡ length rest.now }
@@ -34,7 +34,7 @@ fn long_line(rest: &[u8]) -> LongLine
     }
 }
 
-// Where a line begins behind the last line feed of the first bytes, if there is one.
+// The start of the line after the last line feed in the first bytes, if there is one.
 fn behind_last_feed(rest: &[u8]) -> Option<usize>
     requires { 1024 ≤ length rest.now }
     ensures { IfSome result (λ n. (0 < n) × (n ≤ length rest.now)) }
@@ -44,7 +44,7 @@ fn behind_last_feed(rest: &[u8]) -> Option<usize>
     Some(last + 1)
 }
 
-/// The long lines of a file in order, or the first of them where memory runs out.
+/// The long lines of a file in order; only the first of them if memory runs out.
 pub(crate) fn long_lines(alloc: Global, file: &[u8]) -> Vec<LongLine>
     ensures { AreLong file.now result.items }
 {
@@ -65,7 +65,7 @@ pub(crate) fn long_lines(alloc: Global, file: &[u8]) -> Vec<LongLine>
     lines
 }
 
-/// The long line that begins where so many bytes are left.
+/// The long line at whose start `left` bytes are left.
 #[inline(never)]
 fn line_among(lines: &[LongLine], left: usize) -> Option<&LongLine>
     ensures { IfSome result (λ l. Contains lines.now l.now × (l.now.before ≡ left)) }
@@ -87,7 +87,7 @@ fn line_among(lines: &[LongLine], left: usize) -> Option<&LongLine>
     None
 }
 
-/// What is known of the line that begins here, where it is one of these long lines of a file that ends so.
+/// What is known of the line that begins here, if it is one of the long lines. `rest` is the end of their file.
 #[inline(always)]
 pub(crate) fn known_line<'a>(lines: &'a [LongLine], rest: &[u8]) -> Option<&'a LongLine>
     requires { AreLong rest.now lines.now }

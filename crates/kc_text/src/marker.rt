@@ -7,17 +7,17 @@ ghost use Rattle.kc_text.specs.Markers.{IsDigitFront, IsQuotedName};
 use crate::numbers::natural;
 use bstr::ByteSlice;
 
-// The number of a line is below this.
+// A line number is below this.
 const LINE_NUMBERS: u128 = 1 << 32;
 
-/// What a marker says: the next line is the one of this number of this file.
+/// The content of a marker: the next line is the one of this number of this file.
 #[derive(Clone, Copy, Debug)]
 pub struct Marker<'a> {
     pub number: u32,
     pub file: &'a [u8],
 }
 
-// How many decimal digits a text begins with.
+// How many decimal digits there are at the start of a text.
 fn digits_len(text: &[u8]) -> usize
     ensures { IsDigitFront text.now result }
 {
@@ -28,7 +28,7 @@ fn digits_len(text: &[u8]) -> usize
     n
 }
 
-// The name, where the text is a blank and the name in double quotes, of which the name holds none.
+// The name, if the text is a blank and then the name in double quotes, and the name holds no double quote.
 fn quoted_name(text: &[u8]) -> Option<&[u8]>
     ensures { MatchOption result ((name : List ℕ) → IsQuotedName text.now name → ⊥) (λ name. IsQuotedName text.now name.now) }
 {
@@ -38,7 +38,7 @@ fn quoted_name(text: &[u8]) -> Option<&[u8]>
     }
 }
 
-// What stands behind `# ` at the front.
+// What follows `# ` at the start.
 fn after_sign(line: &[u8]) -> Option<&[u8]>
     ensures { MatchOption result ((body : List ℕ) → line.now ≡ codes "# " ++ body → ⊥) (λ body. line.now ≡ codes "# " ++ body.now) }
 {
@@ -48,8 +48,8 @@ fn after_sign(line: &[u8]) -> Option<&[u8]>
     }
 }
 
-/// The marker that a line is: `# `, a decimal number below 2^32, a blank, and a name in double quotes that holds none. Any
-/// other line is `None`. It takes no memory.
+/// Returns the marker of a line: `# `, a decimal number below 2^32, a blank, and a name in double quotes without a double
+/// quote in it. Any other line is `None`. It allocates nothing.
 ///
 /// The form is that of the C preprocessor's line markers, without flags.
 pub fn marker_of(line: &[u8]) -> Option<Marker<'_>>

@@ -9,7 +9,7 @@ use crate::bytes::without_carriage_return;
 use bstr::ByteSlice;
 use std::simd::prelude::*;
 
-/// A physical line without its end, whether it has one, and the bytes after it.
+/// A physical line without its line feed, whether it has one, and the bytes after it.
 #[derive(Drop)]
 pub(crate) struct PhysicalLine<'a> {
     pub(crate) text: &'a [u8],
@@ -25,7 +25,7 @@ impl<'a> PhysicalLine<'a> {
         self.ended && self.text.last_byte() == Some(b'\\')
     }
 
-    /// What the line gives to its logical line: its text without the `\` that joins it.
+    /// What the line adds to its logical line: its text without the `\` that joins it.
     pub(crate) fn without_continuation(&self) -> &'a [u8]
         ensures { result.now ≡ without_continuation (record { text = self.now.text.now; ended = self.now.ended }) }
     {
@@ -37,18 +37,17 @@ impl<'a> PhysicalLine<'a> {
     }
 }
 
-/// The bytes of a file that are still to be read, and the number of the physical line that they
-/// begin with.
+/// The unread bytes of a file, and the number of the physical line that they begin with.
 #[derive(Drop)]
 pub(crate) struct Unread<'a> {
     pub(crate) rest: &'a [u8],
     pub(crate) number: u32,
 }
 
-// How many bytes are compared at once with a line feed. Most lines end within two or three times as many.
+// How many bytes are compared with a line feed at once. Most lines end within two or three times as many.
 const LANES: usize = 16;
 
-/// The place of the first line feed.
+/// The position of the first line feed.
 #[inline(always)]
 pub(crate) fn line_feed_at(rest: &[u8]) -> Option<usize>
     ensures { IsFirstByte is_line_feed rest.now result }
@@ -69,7 +68,7 @@ pub(crate) fn line_feed_at(rest: &[u8]) -> Option<usize>
     }
 }
 
-/// The first physical line of what is left of a file, whose first line feed stands at this place.
+/// The first unread physical line of a file, given the position of the first line feed.
 #[inline(always)]
 pub(crate) fn line_until(rest: &[u8], feed: Option<usize>) -> PhysicalLine<'_>
     requires some { 0 < length rest.now }
@@ -93,7 +92,7 @@ pub(crate) fn line_until(rest: &[u8], feed: Option<usize>) -> PhysicalLine<'_>
     }
 }
 
-/// The first physical line of what is left of a file.
+/// The first unread physical line of a file.
 #[inline(always)]
 pub(crate) fn first_physical(rest: &[u8]) -> PhysicalLine<'_>
     requires { 0 < length rest.now }
@@ -105,10 +104,10 @@ pub(crate) fn first_physical(rest: &[u8]) -> PhysicalLine<'_>
     line_until(rest, line_feed_at(rest))
 }
 
-// How many bytes are counted in a byte, which the compiler does many at a time: at most 255.
+// How many bytes are counted in a byte (at most 255). The compiler does many at a time.
 const BLOCK: usize = 224;
 
-// How many of a few bytes are line feeds.
+// How many of a few bytes are line feeds (at most 255 bytes).
 fn few_line_feeds(bytes: &[u8]) -> u8
     requires { length bytes.now ≤ 255 }
     ensures { result ≡ count_by is_line_feed bytes.now }
@@ -137,10 +136,10 @@ fn line_feeds(bytes: &[u8]) -> usize
     count + few_line_feeds(rest) as usize
 }
 
-/// The number of a file's physical lines: one for each line feed, and one more where bytes follow
-/// the last of them. It takes no memory, has no limit and reads the file once.
+/// The number of a file's physical lines: one for each line feed, and one more if bytes follow the
+/// last line feed. It allocates nothing, has no limit and reads the file once.
 ///
-/// That a last piece without a line feed is a line only where it is not empty is our own.
+/// That a last part without a line feed is a line only if it is not empty is our own.
 pub fn line_count(file: &[u8]) -> usize
     ensures { result ≡ length (physical_lines file.now) }
 {

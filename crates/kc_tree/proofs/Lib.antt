@@ -1,2 +1,14 @@
-pub mod ContextLemmas
-pub mod TreeLemmas
+pub mod AttributeLemmas
+pub mod ChoiceAtLemmas
+pub mod ChoiceLemmas
+pub mod DefinitionLemmas
+pub mod EntryListLemmas
+pub mod IndexLemmas
+pub mod LayoutLemmas
+pub mod LayoutWalks
+pub mod ListLemmas
+pub mod OuterLemmas
+pub mod SelectorLemmas
+pub mod ShownLemmas
+pub mod VisibleLemmas
+pub mod WalkLemmas

@@ -1,14 +1,11 @@
--- For proofs: How the logic stores what a tree says, by which a model may have it as its value.
-use Rattle.std.specs.Prelude.{◌≡◌, ℕ, List, Option, ◌⊎◌, refl}
+-- For proofs: How the logic encodes the facts of a tree, so that a model may have them as its value.
+use Rattle.std.specs.{Coded.{Coded, code_by, coded_list, coded_option, coded_ℕ, coded×, coded⊎}, Prelude.{List, Option, refl, ℕ, ◌≡◌, ◌⊎◌}}
 use Rattle.std.proofs.Common.{inl, inr}
-use Rattle.std.specs.Coded.{Coded, code_by, coded×, coded⊎, coded_ℕ, coded_list, coded_option}
-use Rattle.kc_language.specs.declared.expressions.SymId.{SymId}
-use Rattle.kc_language.specs.declared.expressions.SymbolType.{SymbolType}
+use Rattle.kc_language.specs.{Expressions.{Form, Leaf}, Statements.{Located, Numbered}, Symbols.{Bounds, ChoiceFacts, CommentShown, Condition, EndShown, Guarded, MenuShown, Shown, SymbolFacts, SymbolShown, TreeFacts}, declared.expressions.{SymId.SymId, SymbolType.SymbolType}}
 use Rattle.kc_language.specs.contracts.expressions.SymId as sym_id
 use Rattle.kc_language.specs.contracts.expressions.SymbolType as symbol_type
-use Rattle.kc_language.specs.Expressions.{Form, Leaf}
 use Rattle.kc_expr.specs.FormCode.{bytes_code, form_code, leaf_code}
-use Rattle.kc_language.specs.Symbols.{Condition, Guarded, Bounds, SymbolFacts, ChoiceFacts, Shown, SymbolShown, MenuShown, EndShown, CommentShown, TreeFacts}
+use Rattle.kc_tree.specs.LineCode.{line_code}
 
 abbrev sym_code : Coded SymId
 sym_code = sym_id.the_row.coded
@@ -33,7 +30,7 @@ conditions_code = coded_list condition_code
 abbrev named_code : Coded (List (Guarded SymId))
 named_code = coded_list (guarded_code sym_code)
 
--- the lines of a symbol, as pairs in pairs
+-- the lines of a symbol, as nested pairs
 abbrev Lists : Type 0
 Lists = (List Condition × List Condition) × ((List (Guarded Form) × List (Guarded Bounds)) × (List (Guarded SymId) × List (Guarded SymId)))
 
@@ -90,19 +87,20 @@ abbrev pub shown_code : Coded Shown
 shown_code =
     code_by Cases (coded⊎ (coded⊎ sym_code coded_ℕ) (coded⊎ (coded× bytes_code condition_code) (coded× bytes_code condition_code))) cases shown shown-cases
 
--- the facts of a tree, as pairs in pairs
+-- the facts of a tree, as nested pairs
 abbrev Facts : Type 0
-Facts = (List (List ℕ) × ((List SymbolFacts × List SymId) × List ChoiceFacts)) × ((List Shown × List (List ℕ)) × (List ℕ × Option SymId))
+Facts = (List (List ℕ) × ((List SymbolFacts × List SymId) × List ChoiceFacts))
+    × ((List Shown × List (List ℕ)) × ((List ℕ × Option SymId) × List (Located Numbered)))
 
 abbrev whole_code : Coded Facts
 whole_code =
     coded× (coded× (coded_list bytes_code) (coded× (coded× (coded_list symbol_code) (coded_list sym_code)) (coded_list choice_code)))
-    (coded× (coded× (coded_list shown_code) (coded_list bytes_code)) (coded× bytes_code (coded_option sym_code)))
+    (coded× (coded× (coded_list shown_code) (coded_list bytes_code)) (coded× (coded× bytes_code (coded_option sym_code)) (coded_list line_code)))
 
 abbrev pub tree_code : Coded TreeFacts
 tree_code =
     code_by Facts whole_code
-    (λ t. ((t.names, ((t.symbols, t.defined), t.choices)), ((t.entries, t.warnings), (t.main_menu, t.modules))))
+    (λ t. ((t.names, ((t.symbols, t.defined), t.choices)), ((t.entries, t.warnings), ((t.main_menu, t.modules), t.lines))))
     (λ p. record {
       names = p.0.0;
       symbols = p.0.1.0.0;
@@ -110,7 +108,8 @@ tree_code =
       choices = p.0.1.1;
       entries = p.1.0.0;
       warnings = p.1.0.1;
-      main_menu = p.1.1.0;
-      modules = p.1.1.1;
+      main_menu = p.1.1.0.0;
+      modules = p.1.1.0.1;
+      lines = p.1.1.1;
     })
     (λ _. refl)

@@ -1,4 +1,4 @@
-//! A tree with the tables that it is laid out in.
+//! A tree with its layout.
 
 ghost use Rattle.kc_tree.specs.Layouts.{IsLayoutOf};
 ghost use Rattle.kc_tree.specs.LaidTrees.{layout-prop};
@@ -6,7 +6,7 @@ ghost use Rattle.kc_tree.specs.LaidTrees.{layout-prop};
 use crate::layout::Layout;
 use crate::tree::Tree;
 
-/// A tree and the tables that it is laid out in. Who has one needs no proof that the tables are those of the tree (our own).
+/// A tree and its layout, with the proof that the layout is that of the tree (our own).
 #[derive(Clone, Copy)]
 pub struct LaidTree<'t> {
     pub tree: &'t Tree,

@@ -1,81 +1,39 @@
-//! The layout of a tree: its contexts, definitions, selectors, choices and entries, each in one table.
+//! The entries of a tree, with an index of their blocks, conditions, symbols and choices.
 
-ghost use Rattle.std.specs.Prelude.{◌≡◌, ◌<◌, ◌+◌, ◌^◌, None, length, option_map, slice_get, slice_index_or, IfSome};
-ghost use Rattle.kc_tree.specs.Contexts.{condition_in, mode_view, IsContext};
-ghost use Rattle.kc_tree.specs.Spans.{slice_of, definition_ids, definition_of};
-ghost use Rattle.kc_tree.specs.Soundness.{AreChoicePromptsModeless, AreChoicePromptsWithin, AreChoicesModeless, AreChoicesWithin, AreModePromptsBehind, AreModesBehind, AreModesBelow, ArePromptsModeless, ArePromptsWithin, AreTitlesModeless, AreContextsThere};
+ghost use Rattle.std.specs.Prelude.{◌≡◌, ◌≤◌, length, option_map, slice_get};
+ghost use Rattle.kc_tree.specs.Laid.{IsLaid, laid-prop};
+ghost use Rattle.kc_tree.specs.Places.{place_at, AreRising, IsPointAt};
 
-use crate::contexts::Contexts;
+use crate::attributes::{Target, default_symbol, prompt_of, symbol_of, target_of};
 use crate::rows::{
-    Choice, ChoiceId, Context, ContextId, Definition, DefinitionId, RowSpan, Selector, SelectorId,
-    ShownEntry, Symbol, SymbolDefault, SymbolRange, Title, TitleId,
+    AttributeId, Choice, ChoiceId, EntryId, EntryPlace, Selector, SelectorId, Symbol, VisibleId,
 };
-use crate::selector_rows::SelectorRows;
+use kc_entries::entries::{AttributeLine, Entries, EntryLines};
+use kc_entries::statement::{Attribute, Head, Prompt};
 use kc_expr::expression::SymId;
-use std::alloc::{AllocError, Global};
 
-/// The tables that the menu entries of a tree fill.
-#[derive(Debug, Drop)]
-pub struct Tables {
-    pub contexts: Contexts,
-    pub definitions: Vec<Definition>,
-    pub defaults: Vec<SymbolDefault>,
-    pub ranges: Vec<SymbolRange>,
-    pub selector_rows: SelectorRows,
-    pub choices: Vec<Choice>,
-    pub titles: Vec<Title>,
-    pub entries: Vec<ShownEntry>,
-    ghost within: { AreContextsThere contexts definitions.items },
-    ghost prompts_within: { ArePromptsWithin contexts definitions.items },
-    ghost prompts_modeless: { ArePromptsModeless contexts definitions.items },
-    ghost choices_within: { AreChoicesWithin contexts choices.items },
-    ghost choices_modeless: { AreChoicesModeless contexts choices.items },
-    ghost choice_prompts_within: { AreChoicePromptsWithin contexts choices.items },
-    ghost choice_prompts_modeless: { AreChoicePromptsModeless contexts choices.items },
-    ghost titles_modeless: { AreTitlesModeless contexts titles.items },
-    ghost modes_below: { AreModesBelow contexts (length choices.items) },
-    ghost modes_behind: { AreModesBehind contexts choices.items },
-    ghost mode_prompts_behind: { AreModePromptsBehind contexts choices.items },
-}
-
-impl Tables {
-    ghost use Rattle.std.specs.Prelude.{◌≡◌, length, IfOk};
-    ghost use Rattle.kc_tree.specs.Empty.{AreEmpty};
-
-    /// Tables without rows, with room for so many symbols among so many names. Fails only when it is out of memory.
-    pub fn empty(alloc: Global, count: usize, names: usize) -> Result<Tables, AllocError>
-        ensures empty { IfOk result AreEmpty }
-        ensures selects { IfOk result (λ t. length t.selector_rows.selects.items ≡ names) }
-        ensures implies { IfOk result (λ t. length t.selector_rows.implies.items ≡ names) }
-    {
-        Ok(Tables {
-            contexts: Contexts::with_room(alloc, count)?,
-            definitions: Vec::with_capacity(alloc, count)?,
-            defaults: Vec::with_capacity(alloc, count)?,
-            ranges: Vec::new(alloc),
-            selector_rows: SelectorRows::new(alloc, names)?,
-            choices: Vec::new(alloc),
-            titles: Vec::new(alloc),
-            entries: Vec::with_capacity(alloc, count)?,
-        })
-    }
-}
-
-/// How a tree is laid out: what the facts of its symbols, choices and entries are made of. A context is what the
-/// enclosing blocks of an entry, and then the entry, ask for; it stands once, however many entries depend on it.
+/// The layout of a tree: its entries as they were read, and what is costly to find in them again.
 #[derive(Debug, Drop)]
 pub struct Layout {
-    /// A row for each name, by number.
+    pub entries: Entries,
+    /// The place of each entry.
+    pub places: Vec<EntryPlace>,
+    /// The menus with a `visible if` line, in order.
+    pub visibles: Vec<EntryId>,
+    /// The row of each name, by number.
     pub symbols: Vec<Symbol>,
+    /// The `select` and `imply` lines that have an effect, in order.
+    pub selectors: Vec<Selector>,
+    /// The choices, in order.
+    pub choices: Vec<Choice>,
     /// The defined symbols, in the order of their first definition.
     pub defined: Vec<SymId>,
-    pub tables: Tables,
-    /// The modules symbol, by which a plain `m` of a condition counts, where one is defined.
+    /// The modules symbol, which a lone `m` of a condition depends on, if it is defined.
     pub modules: Option<SymId>,
-    ghost few: { length symbols.items + length tables.contexts + length tables.choices.items < 2 ^ 32 },
+    ghost laid: { IsLaid entries places.items visibles.items symbols.items selectors.items choices.items defined.items } by { laid-prop entries places.items visibles.items symbols.items selectors.items choices.items defined.items },
 }
 
-/// What a tree is made of, but for the names.
+/// All parts of a tree except the names.
 #[derive(Debug, Drop)]
 pub struct TreeParts {
     pub layout: Layout,
@@ -83,20 +41,55 @@ pub struct TreeParts {
     pub main_menu: Vec<u8>,
 }
 
-// The slice of a table that a span names; an empty one where it is not there.
-fn part<T>(table: &[T], span: RowSpan) -> &[T]
-    ensures { result.now ≡ slice_of table.now span }
+// The place of the top of the tree.
+const TOP: EntryPlace = EntryPlace {
+    outer: EntryId(0),
+    context: EntryId(0),
+    visible: VisibleId(0),
+    prompt: AttributeId(0),
+    next: EntryId(0),
+    has_default: false,
+    has_range: false,
+    has_target: false,
+};
+
+/// Returns the place of an entry among these. The top is in no block and has no condition.
+pub fn place_in(places: &[EntryPlace], at: EntryId) -> EntryPlace
+    ensures { result ≡ place_at places.now at.0 }
 {
-    let (start, end) = (span.start as usize, span.end as usize);
-    if start <= end && end <= table.len() {
-        &table[start..end]
-    } else {
-        &[]
+    match at.index() {
+        Some(i) => match places.get(i) {
+            Some(found) => *found,
+            None => TOP,
+        },
+        None => TOP,
     }
 }
 
+// The number of these choices that begin before an entry.
+fn begun_before(choices: &[Choice], at: EntryId) -> usize
+    requires { AreRising choices.now }
+    ensures bound { result ≤ length choices.now }
+    ensures point { IsPointAt at.0 choices.now result }
+{
+    choices.partition_point(|choice| choice.entry.0 < at.0)
+}
+
+// The choice with a number.
+fn choice_in(choices: &[Choice], i: usize) -> Option<&Choice>
+    ensures { option_map (λ c. c.now) result ≡ slice_get choices.now i }
+{
+    choices.get(i)
+}
+
 impl Layout {
-    /// The symbols, by number: one for each name.
+    ghost use Rattle.std.specs.Prelude.{◌≡◌, length, option_and_then, option_map, slice_get, suc, IfSome};
+    ghost use Rattle.kc_entries.specs.StatementViews.{attribute_view, input_prompt_view};
+    ghost use Rattle.kc_tree.specs.Layouts as see;
+    ghost use Rattle.kc_tree.specs.LineParts.{target_said};
+    ghost use Rattle.kc_tree.specs.Stored.{unstored};
+
+    /// The symbols, by number: one row for each name.
     pub fn symbols(&self) -> &[Symbol]
         ensures { result.now ≡ self.now.symbols.items }
     {
@@ -112,19 +105,12 @@ impl Layout {
 
     /// The choices, by number.
     pub fn choices(&self) -> &[Choice]
-        ensures { result.now ≡ self.now.tables.choices.items }
+        ensures { result.now ≡ self.now.choices.items }
     {
-        &self.tables.choices
+        &self.choices
     }
 
-    /// The entries, in order.
-    pub fn entries(&self) -> &[ShownEntry]
-        ensures { result.now ≡ self.now.tables.entries.items }
-    {
-        &self.tables.entries
-    }
-
-    /// The row of a symbol. That of a name that is not defined has no type, no choice and no definition.
+    /// The row of a symbol. The row of a name that is not defined has no type, no choice and no definition.
     pub fn symbol(&self, id: SymId) -> Option<&Symbol>
         ensures { option_map (λ s. s.now) result ≡ slice_get self.now.symbols.items id.0 }
     {
@@ -133,106 +119,177 @@ impl Layout {
 
     /// The row of a choice.
     pub fn choice(&self, id: ChoiceId) -> Option<&Choice>
-        ensures { option_map (λ c. c.now) result ≡ slice_get self.now.tables.choices.items id.0 }
+        ensures { option_map (λ c. c.now) result ≡ slice_get self.now.choices.items id.0 }
     {
-        self.tables.choices.get(id.0 as usize)
+        self.choices.get(id.0 as usize)
     }
 
-    /// How many contexts there are, with the top.
-    pub fn context_count(&self) -> usize
-        ensures { result ≡ length self.now.tables.contexts }
+    /// The choice that an entry begins. The entries of the choices are in ascending order.
+    pub fn choice_of(&self, at: EntryId) -> Option<ChoiceId>
+        ensures { option_map (λ k. k.0) result ≡ see.choice_at self.now at.0 }
     {
-        self.tables.contexts.count()
+        let index = begun_before(&self.choices, at);
+        match choice_in(&self.choices, index) {
+            Some(choice) if choice.entry.0 == at.0 => Some(ChoiceId(index as u32)),
+            _ => None,
+        }
     }
 
-    /// A context; none at the top. The one outside it has a smaller number.
-    pub fn context(&self, id: ContextId) -> Option<&Context>
-        ensures { IsContext self.now.tables.contexts id.0 result }
+    /// The number of places of entries: one for each entry, and one for the top.
+    pub fn place_count(&self) -> usize
+        ensures { result ≡ suc (length self.now.places.items) }
     {
-        self.tables.contexts.context(id)
+        self.places.len() + 1
     }
 
-    /// The choice whose mode counts in a context.
-    pub fn mode(&self, id: ContextId) -> Option<ChoiceId>
-        ensures { mode_view result ≡ (condition_in self.now.tables.contexts id.0).mode }
+    /// The number of `VisibleId`s: one for each menu with a `visible if` line, and one for none.
+    pub fn visible_count(&self) -> usize
+        ensures { result ≡ suc (length self.now.visibles.items) }
     {
-        self.tables.contexts.mode(id)
+        self.visibles.len() + 1
     }
 
-    /// A definition.
-    pub fn definition(&self, id: DefinitionId) -> Option<&Definition>
-        ensures { option_map (λ d. d.now) result ≡ slice_get self.now.tables.definitions.items id.0 }
+    /// An entry, or `None` at the top.
+    pub fn entry(&self, at: EntryId) -> Option<EntryLines<'_>>
+        ensures first { option_map (λ e. e.first.now) result ≡ see.entry_at self.now at.0 }
+        ensures own { IfSome result (λ e. e.attributes.now ≡ see.own_at self.now at.0) }
     {
-        self.tables.definitions.get(id.0 as usize)
+        self.entries.entry(at.index()?)
     }
 
-    /// The definition of a symbol with a number among those of the symbol, in the order of the lines; none from
-    /// `definition_count` on.
-    pub fn definition_of(&self, symbol: &Symbol, i: usize) -> Option<&Definition>
-        ensures { option_map (λ d. d.now) result ≡ definition_of self.now.tables.definitions.items symbol.now i }
+    /// The line that begins an entry, or `None` at the top.
+    pub fn head(&self, at: EntryId) -> Option<&Head>
+        ensures { option_map (λ h. h.now) result ≡ option_map (λ e. e.head) (see.entry_at self.now at.0) }
     {
-        match symbol.definition(i) {
-            Some(id) => self.definition(id),
+        self.entries.head(at.index()?)
+    }
+
+    /// The attributes of an entry.
+    pub fn attributes(&self, at: EntryId) -> &[AttributeLine]
+        ensures { result.now ≡ see.own_at self.now at.0 }
+    {
+        match self.entry(at) {
+            Some(lines) => lines.attributes,
+            None => &[],
+        }
+    }
+
+    /// The attribute with this number.
+    pub fn attribute(&self, id: AttributeId) -> Option<&Attribute>
+        ensures { option_map (λ a. a.now) result ≡ see.attribute_in self.now id.0 }
+    {
+        match self.entries.attributes.get(id.index()?) {
+            Some(line) => Some(&line.attribute),
             None => None,
         }
     }
 
-    /// The defaults of a definition, in the order of its lines.
-    pub fn defaults(&self, definition: &Definition) -> &[SymbolDefault]
-        ensures { result.now ≡ slice_of self.now.tables.defaults.items definition.now.defaults }
+    /// The place of an entry.
+    pub fn place(&self, at: EntryId) -> EntryPlace
+        ensures { result ≡ see.place_of self.now at.0 }
     {
-        part(&self.tables.defaults, definition.defaults)
+        place_in(&self.places, at)
     }
 
-    /// The ranges of a definition, in the order of its lines.
-    pub fn ranges(&self, definition: &Definition) -> &[SymbolRange]
-        ensures { result.now ≡ slice_of self.now.tables.ranges.items definition.now.ranges }
+    /// The block around an entry. For a line that closes a block it is that block.
+    pub fn outer(&self, at: EntryId) -> EntryId
+        ensures { result.0 ≡ (see.place_of self.now at.0).outer.0 }
     {
-        part(&self.tables.ranges, definition.ranges)
+        self.place(at).outer
     }
 
-    /// The last line that selects a symbol, which leads on to the others.
-    pub fn last_select(&self, id: SymId) -> Option<SelectorId>
-        ensures { result ≡ slice_index_or self.now.tables.selector_rows.selects.items id.0 None }
+    /// The nearest entry with a condition among the blocks around an entry. It has a smaller number.
+    pub fn outer_context(&self, at: EntryId) -> EntryId
+        ensures { result.0 ≡ see.outer_context self.now at.0 }
     {
-        self.tables.selector_rows.last_select(id)
+        self.place(self.place(at).outer).context
     }
 
-    /// The last line that implies a symbol, which leads on to the others.
-    pub fn last_imply(&self, id: SymId) -> Option<SelectorId>
-        ensures { result ≡ slice_index_or self.now.tables.selector_rows.implies.items id.0 None }
+    /// The menu of this number among the menus with a `visible if` line.
+    pub fn visible_menu(&self, id: VisibleId) -> EntryId
+        ensures { result.0 ≡ see.visible_menu self.now id.0 }
     {
-        self.tables.selector_rows.last_imply(id)
+        match id.index() {
+            Some(i) => match self.visibles.get(i) {
+                Some(menu) => *menu,
+                None => EntryId::top(),
+            },
+            None => EntryId::top(),
+        }
     }
 
-    /// A line that selects or implies; it leads on to one with a smaller number.
+    /// The nearest menu with a `visible if` line among the blocks around an entry. It has a smaller number.
+    pub fn outer_visible(&self, at: EntryId) -> VisibleId
+        ensures { result.0 ≡ see.outer_visible self.now at.0 }
+    {
+        self.place(self.place(at).outer).visible
+    }
+
+    /// The prompt that counts for an entry with this place: its last one.
+    pub fn prompt(&self, place: EntryPlace) -> Option<&Prompt>
+        ensures { option_map (λ p. input_prompt_view p.now) result ≡ see.prompt_in self.now place }
+    {
+        prompt_of(self.attribute(place.prompt)?)
+    }
+
+    /// The next definition of the symbol that an entry defines. It has a greater number.
+    pub fn next(&self, at: EntryId) -> EntryId
+        ensures { result.0 ≡ (see.place_of self.now at.0).next.0 }
+    {
+        self.place(at).next
+    }
+
+    /// Whether an entry is the first definition of a symbol.
+    pub fn is_first(&self, at: EntryId, symbol: SymId) -> bool
+        ensures { result ≡ see.is_first self.now at.0 symbol }
+    {
+        match self.symbol(symbol) {
+            Some(row) => row.first.0 == at.0,
+            None => false,
+        }
+    }
+
+    /// The symbol that an entry defines.
+    pub fn symbol_of(&self, at: EntryId) -> Option<SymId>
+        ensures { result ≡ see.symbol_at self.now at.0 }
+    {
+        symbol_of(self.head(at)?)
+    }
+
+    /// A line that selects or implies. Its `next` has a smaller number.
     pub fn selector(&self, id: SelectorId) -> Option<&Selector>
-        ensures line { option_map (λ r. r.now) result ≡ slice_get self.now.tables.selector_rows.lines.items id.0 }
-        ensures smaller { IfSome result (λ r. IfSome r.now.next (λ next. next.0 < id.0)) }
+        ensures { option_map (λ r. r.now) result ≡ option_and_then (slice_get self.now.selectors.items) (unstored id.0) }
     {
-        self.tables.selector_rows.line(id)
+        self.selectors.get(id.index()?)
     }
 
-    /// The title of a menu or comment.
-    pub fn title(&self, id: TitleId) -> Option<&Title>
-        ensures { option_map (λ t. t.now) result ≡ slice_get self.now.tables.titles.items id.0 }
+    /// The target of a line that selects or implies.
+    pub fn target(&self, line: &Selector) -> Option<Target<'_>>
+        ensures { option_map target_said result ≡ see.target_in self.now line.now }
     {
-        self.tables.titles.get(id.0 as usize)
-    }
-}
-
-impl Symbol {
-    /// How many definitions the symbol has.
-    pub fn definition_count(&self) -> usize
-        ensures { result ≡ length (definition_ids self.now) }
-    {
-        self.definitions.count()
+        target_of(self.attribute(line.attribute)?)
     }
 
-    /// A definition by its number among those of the symbol, in the order of the lines.
-    pub fn definition(&self, i: usize) -> Option<DefinitionId>
-        ensures { result ≡ slice_get (definition_ids self.now) i }
+    /// Whether a symbol is a member of a choice.
+    pub fn is_member(&self, choice: ChoiceId, symbol: SymId) -> bool
+        ensures { result ≡ see.is_member self.now choice.0 symbol }
     {
-        self.definitions.get(i)
+        match self.symbol(symbol) {
+            Some(row) => match row.choice.get() {
+                Some(own) => own.0 == choice.0,
+                None => false,
+            },
+            None => false,
+        }
+    }
+
+    /// The member that a default of a choice names.
+    pub fn default_member(&self, choice: ChoiceId, attribute: &Attribute) -> Option<SymId>
+        ensures { result ≡ see.member_named self.now choice.0 (attribute_view attribute.now) }
+    {
+        match default_symbol(attribute) {
+            Some(symbol) if self.is_member(choice, symbol) => Some(symbol),
+            _ => None,
+        }
     }
 }

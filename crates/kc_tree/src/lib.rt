@@ -1,19 +1,16 @@
 #![tactic(auto)]
-//! What a Kconfig tree says: its symbols, choices, entries and warnings, and the tables that they are laid out in.
+//! A Kconfig tree: its entries as they were read, and an index of them.
 //!
-//! - [`tree`]: the tree, and the facts about each symbol, choice and entry.
-//! - [`layout`]: the tables that hold these facts; [`laid_tree`]: a tree with its tables.
-//! - [`rows`]: the rows of the tables, and their numbers.
-//! - [`definitions`]: the definitions of one symbol.
-//! - [`contexts`]: what an entry depends on, shared by all entries of a block.
-//! - [`selector_rows`]: who selects and who implies each symbol.
-//! - [`maybe_choice`]: a choice or none, in four bytes.
+//! - [`tree`]: the tree; [`laid_tree`]: a tree with its layout.
+//! - [`layout`]: the entries, with the blocks around each, the chains of definitions, and for each symbol and choice the lines
+//!   that name it.
+//! - [`rows`]: the rows of the layout, and their numbers.
+//! - [`attributes`]: the content of one line of an entry.
+//! - [`maybe_choice`]: an optional choice in four bytes.
 
-pub mod contexts;
-pub mod definitions;
+pub mod attributes;
 pub mod laid_tree;
 pub mod layout;
 pub mod maybe_choice;
 pub mod rows;
-pub mod selector_rows;
 pub mod tree;

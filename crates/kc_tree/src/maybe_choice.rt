@@ -1,4 +1,4 @@
-//! A choice or none, in little memory.
+//! An optional choice in little memory.
 
 ghost use Rattle.std.specs.Prelude.{◌≡◌, None, IfOk, is_some};
 
@@ -6,10 +6,10 @@ use crate::rows::ChoiceId;
 use std::alloc::AllocError;
 use std::marker::Model;
 
-/// A choice or none (our own). It takes 4 bytes, where an `Option` takes 8.
+/// An optional choice (our own). It takes 4 bytes, while an `Option` takes 8.
 #[derive(Debug, Drop)]
 pub struct MaybeChoice {
-    // The number of the choice, counted from 1; 0 where there is none.
+    // The number of the choice, counted from 1; 0 if there is none.
     number: u32,
 }
 
@@ -34,7 +34,7 @@ impl MaybeChoice {
         MaybeChoice { number: 0 }
     }
 
-    /// This choice, or none. Fails only at the last number that there is, for which there is no room.
+    /// This choice, or none. Fails only for the greatest number, which cannot be stored.
     pub fn of(choice: Option<ChoiceId>) -> Result<MaybeChoice, AllocError>
         ensures { IfOk result (λ found. found ≡ choice) }
     {
@@ -45,7 +45,7 @@ impl MaybeChoice {
         }
     }
 
-    /// Whether there is one.
+    /// Whether there is a choice.
     pub fn is_some(&self) -> bool
         ensures { result ≡ is_some self.now }
     {

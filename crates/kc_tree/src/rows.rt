@@ -1,158 +1,207 @@
-//! What a tree is made of: contexts, definitions, symbols, choices and entries, each in one table. What the lines of a Kconfig
-//! file say of them is the kernel's kconfig-language document's; where it is silent, kconfiglib's documentation decides.
+//! The rows of the layout of a tree: the places of entries, and the rows of symbols, of choices and of the lines that select or
+//! imply.
+//!
+//! Most numbers are stored plus 1, so that 0 means none and an `Option` costs no space.
 
-ghost use Rattle.std.specs.Prelude.{◌≡◌, IfOk};
-ghost use Rattle.kc_tree.specs.OwnRows.{default_row, range_row};
+ghost use Rattle.std.specs.Prelude.{◌≡◌, ◌<◌, ◌^◌, suc, is_some};
+ghost use Rattle.kc_tree.specs.Stored.{unstored};
 
-use crate::definitions::SymbolDefinitions;
 use crate::maybe_choice::MaybeChoice;
-use kc_expr::expression::{Expr, Operand, SymId, SymbolType, shared_condition};
+use kc_expr::expression::{SymId, SymbolType};
 pub use kc_language::symbols::ChoiceId;
-use std::alloc::AllocError;
-use std::rc::Rc;
+use std::mem::size_of;
 
-/// The number of a context: 0 is the top of the tree, where nothing is asked for. The numbers are our own.
+/// An entry: its number plus 1. 0 is none, which also means the top of the tree (our own).
 #[derive(Clone, Copy, PartialEq, Eq, Debug)]
-pub struct ContextId(pub u32);
+pub struct EntryId(pub u32);
 
-/// The number of a definition: its place among the `config` entries of the tree (our own).
+/// An attribute: its number among all attributes plus 1. 0 is none (our own).
 #[derive(Clone, Copy, PartialEq, Eq, Debug)]
-pub struct DefinitionId(pub u32);
+pub struct AttributeId(pub u32);
 
-/// The number of a `select` or `imply` line: its place among those of the tree (our own).
+/// A menu with a `visible if` line: its number among these menus plus 1. 0 is none (our own).
+#[derive(Clone, Copy, PartialEq, Eq, Debug)]
+pub struct VisibleId(pub u32);
+
+/// A `select` or `imply` line that has an effect: its number among these lines plus 1. 0 is none (our own).
 #[derive(Clone, Copy, PartialEq, Eq, Debug)]
 pub struct SelectorId(pub u32);
 
-/// The number of a title: its place among those of the menus and comments of the tree (our own).
-#[derive(Clone, Copy, PartialEq, Eq, Debug)]
-pub struct TitleId(pub u32);
-
-/// What is asked for at one place besides what the context outside it asks for: one expression, which an `if`, a menu's
-/// or an entry's `depends on` or a menu's `visible if` gives; or no expression, and then the mode of a choice, which the
-/// members of it depend on. `mode` is the choice whose mode counts, which is carried along from the outer context.
-#[derive(Debug, Drop)]
-pub struct Context {
-    pub outer: ContextId,
-    pub mode: MaybeChoice,
-    pub own_condition: Option<Rc<Expr>>,
-}
-
-/// A prompt: the context of what the enclosing menus ask of what is visible, and its own `if` (the kernel's
-/// kconfig-language document, "Menu attributes": input prompt).
-#[derive(Debug, Drop)]
-pub struct EntryPrompt {
-    pub visible: ContextId,
-    pub when: Option<Rc<Expr>>,
-}
-
-/// A default: its value and its own `if` (the kernel's kconfig-language document, "Menu attributes": default value).
-#[derive(Debug, Drop)]
-pub struct SymbolDefault {
-    pub value: Rc<Expr>,
-    pub when: Option<Rc<Expr>>,
-}
-
-impl SymbolDefault {
-    /// Returns a copy that shares the expressions. Fails only when it is out of memory (our own).
-    pub fn shared(&self) -> Result<SymbolDefault, AllocError>
-        ensures { IfOk result (λ copy. default_row copy ≡ default_row self.now) }
-    {
-        let value = self.value.clone()?;
-        let when = shared_condition(self.when.as_ref())?;
-        Ok(SymbolDefault { value, when })
+// The number of an id that is stored plus 1, if there is one.
+fn index_of(stored: u32) -> Option<usize>
+    ensures { result ≡ unstored stored }
+{
+    if stored > 0 {
+        Some(stored as usize - 1)
+    } else {
+        None
     }
 }
 
-/// A range: its bounds and its own `if` (the kernel's kconfig-language document, "Menu attributes": numerical ranges).
-#[derive(Debug, Drop)]
-pub struct SymbolRange {
-    pub low: Operand,
-    pub high: Operand,
-    pub when: Option<Rc<Expr>>,
-}
-
-impl SymbolRange {
-    /// Returns a copy that shares the texts and the condition. Fails only when it is out of memory (our own).
-    pub fn shared(&self) -> Result<SymbolRange, AllocError>
-        ensures { IfOk result (λ copy. range_row copy ≡ range_row self.now) }
+impl EntryId {
+    /// No entry, that is, the top of the tree.
+    pub fn top() -> EntryId
+        ensures { result.0 ≡ 0 }
     {
-        let low = self.low.shared()?;
-        let high = self.high.shared()?;
-        let when = shared_condition(self.when.as_ref())?;
-        Ok(SymbolRange { low, high, when })
+        EntryId(0)
+    }
+
+    /// The entry with this number.
+    pub fn of(index: usize) -> EntryId
+        requires { suc index < 2 ^ 32 }
+        ensures { result.0 ≡ suc index }
+    {
+        EntryId(index as u32 + 1)
+    }
+
+    /// The number of the entry, or `None` for the top.
+    pub fn index(self) -> Option<usize>
+        ensures { result ≡ unstored self.0 }
+    {
+        index_of(self.0)
+    }
+
+    /// Whether it is an entry.
+    pub fn is_some(self) -> bool
+        ensures { result ≡ is_some (unstored self.0) }
+    {
+        self.0 > 0
     }
 }
 
-/// Consecutive places of a table, from `start` up to `end`.
-#[derive(Clone, Copy, PartialEq, Eq, Debug)]
-pub struct RowSpan {
-    pub start: u32,
-    pub end: u32,
+impl AttributeId {
+    /// No attribute.
+    pub fn none() -> AttributeId
+        ensures { result.0 ≡ 0 }
+    {
+        AttributeId(0)
+    }
+
+    /// The attribute with this number.
+    pub fn of(index: usize) -> AttributeId
+        requires { suc index < 2 ^ 32 }
+        ensures { result.0 ≡ suc index }
+    {
+        AttributeId(index as u32 + 1)
+    }
+
+    /// The number of the attribute, if there is one.
+    pub fn index(self) -> Option<usize>
+        ensures { result ≡ unstored self.0 }
+    {
+        index_of(self.0)
+    }
+
+    /// Whether it is an attribute.
+    pub fn is_some(self) -> bool
+        ensures { result ≡ is_some (unstored self.0) }
+    {
+        self.0 > 0
+    }
 }
 
-/// One `config` entry: the symbol that it defines, what it depends on, the prompt that counts, and its defaults and ranges,
-/// which all depend on the same besides their own `if` (the kernel's kconfig-language document, "Menu entries").
-#[derive(Debug, Drop)]
-pub struct Definition {
-    pub symbol: SymId,
-    pub within: ContextId,
-    pub prompt: Option<EntryPrompt>,
-    pub defaults: RowSpan,
-    pub ranges: RowSpan,
+impl VisibleId {
+    /// The menu with this number among those with a `visible if` line.
+    pub fn of(index: usize) -> VisibleId
+        requires { suc index < 2 ^ 32 }
+        ensures { result.0 ≡ suc index }
+    {
+        VisibleId(index as u32 + 1)
+    }
+
+    /// The number of the menu, if there is one.
+    pub fn index(self) -> Option<usize>
+        ensures { result ≡ unstored self.0 }
+    {
+        index_of(self.0)
+    }
+
+    /// Whether it is a menu.
+    pub fn is_some(self) -> bool
+        ensures { result ≡ is_some (unstored self.0) }
+    {
+        self.0 > 0
+    }
 }
 
-/// A `select` or `imply` line that has an effect: the definition that it stands in, and its own `if` (the kernel's
-/// kconfig-language document, "Menu attributes": reverse dependencies, weak reverse dependencies). `next` is the line of the
-/// same kind before it that names the same symbol.
-#[derive(Debug, Drop)]
+impl SelectorId {
+    /// No line.
+    pub fn none() -> SelectorId
+        ensures { result.0 ≡ 0 }
+    {
+        SelectorId(0)
+    }
+
+    /// The line with this number.
+    pub fn of(index: usize) -> SelectorId
+        requires { suc index < 2 ^ 32 }
+        ensures { result.0 ≡ suc index }
+    {
+        SelectorId(index as u32 + 1)
+    }
+
+    /// The number of the line, if there is one.
+    pub fn index(self) -> Option<usize>
+        ensures { result ≡ unstored self.0 }
+    {
+        index_of(self.0)
+    }
+
+    /// Whether it is a line.
+    pub fn is_some(self) -> bool
+        ensures { result ≡ is_some (unstored self.0) }
+    {
+        self.0 > 0
+    }
+}
+
+/// The place of an entry among the blocks, and a summary of its attributes (our own). All but `outer` and `next` could be found again.
+#[derive(Clone, Copy, Debug, Drop)]
+pub struct EntryPlace {
+    /// The block around it. For a line that closes a block it is that block.
+    pub outer: EntryId,
+    /// The nearest entry with a condition, among itself and the blocks around it: an `if`, a choice, or an entry with a
+    /// `depends on` line.
+    pub context: EntryId,
+    /// The nearest menu with a `visible if` line, among itself and the blocks around it.
+    pub visible: VisibleId,
+    /// The last prompt among its attributes.
+    pub prompt: AttributeId,
+    /// The next definition of the symbol that it defines.
+    pub next: EntryId,
+    pub has_default: bool,
+    pub has_range: bool,
+    /// Whether it has a `select` or `imply` line.
+    pub has_target: bool,
+}
+
+// A large tree has one for each entry, so a place is small.
+const _: () = prove!(size_of::<EntryPlace>() == 24);
+
+/// A `select` or `imply` line that has an effect (the kernel's kconfig-language document, "Menu attributes": reverse
+/// dependencies, weak reverse dependencies). `next` is the previous line of the same kind that names the same symbol.
+#[derive(Clone, Copy, Debug, Drop)]
 pub struct Selector {
-    pub source: DefinitionId,
-    pub when: Option<Rc<Expr>>,
-    pub next: Option<SelectorId>,
+    pub entry: EntryId,
+    pub attribute: AttributeId,
+    pub next: SelectorId,
 }
 
-/// What a tree says of one symbol: the first type that a line gives it, and bool for a choice's member without one; the
-/// choice that it is a member of; and its definitions.
+/// The row of one symbol: the first type that a line gives it, or bool for a member of a choice without one; the choice that it
+/// is a member of; its first definition, from which `next` leads to the others; and the last line of each kind that selects or
+/// implies it, from which `next` leads to those before it.
 #[derive(Debug, Drop)]
 pub struct Symbol {
     pub symbol_type: SymbolType,
     pub choice: MaybeChoice,
-    pub definitions: SymbolDefinitions,
+    pub first: EntryId,
+    pub last_select: SelectorId,
+    pub last_imply: SelectorId,
 }
 
-/// A choice's default that names a member, and its own `if`.
-#[derive(Debug, Drop)]
-pub struct ChoiceDefault {
-    pub member: SymId,
-    pub when: Option<Rc<Expr>>,
-}
-
-/// What a tree says of one choice: what it depends on, the prompt that counts, its defaults that name a member, and its
-/// members in order, by the kernel's kconfig-language document.
+/// A choice: its entry, and its members in order (the kernel's kconfig-language document, "Menu entries").
 #[derive(Debug, Drop)]
 pub struct Choice {
-    pub within: ContextId,
-    pub prompt: Option<EntryPrompt>,
-    pub defaults: Vec<ChoiceDefault>,
+    pub entry: EntryId,
     pub members: Vec<SymId>,
-}
-
-/// The title of a menu or comment, and when it is shown: under what it depends on, and of a menu under what is asked of what
-/// is visible.
-#[derive(Debug, Drop)]
-pub struct Title {
-    pub text: Vec<u8>,
-    pub within: ContextId,
-    pub visible: ContextId,
-}
-
-/// What a configuration file shows, in order: a symbol at its first definition, the heads of menus and their ends,
-/// and comments. An end holds the place of its menu among the entries. The order is that of the lines, as the kernel's
-/// kconfig-language document has it for menus.
-#[derive(Clone, Copy, PartialEq, Eq, Debug)]
-pub enum ShownEntry {
-    Symbol(SymId),
-    Menu(TitleId),
-    End(u32),
-    Comment(TitleId),
 }

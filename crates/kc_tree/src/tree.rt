@@ -2,21 +2,21 @@
 
 ghost use Rattle.std.specs.Prelude.{◌≡◌, ◌<◌, length, map, Some, slice_get, position, option_map};
 ghost use Rattle.kc_language.specs.Expressions.{symbol, same_name};
-ghost use Rattle.kc_tree.specs.Wholes.{tree_of};
-ghost use Rattle.kc_tree.specs.RowFacts.{IsSymbolRowOf, AreChoicesOf, AreEntriesOf};
+ghost use Rattle.kc_tree.specs.TreeView.{tree_of, IsNamed};
+ghost use Rattle.kc_tree.specs.RowFacts.{IsSymbolRowOf, AreChoicesOf};
 ghost use Rattle.kc_tree.specs.Layouts.{IsLayoutOf};
-ghost use Rattle.kc_tree.specs.TreeFacts.{IsWellFormed};
+ghost use Rattle.kc_entries.specs.WellFormed.{IsWellFormed};
 
 use crate::laid_tree::LaidTree;
 use crate::layout::{Layout, TreeParts};
-use crate::rows::{Choice, ShownEntry, Symbol};
+use crate::rows::{Choice, Symbol};
 use kc_expr::expression::SymId;
 use kc_expr::names::Names;
 use std::marker::Model;
 
 /// The symbols, choices and entries of a Kconfig file and of the files that it sources, and the warnings about them.
-/// The names that they mention are numbered from 0, in the order of their first mention, and a symbol's number is that of
-/// its name. What a tree holds is the kernel's kconfig-language document's; the numbers are our own.
+/// The names that they mention are numbered from 0, in the order of their first mention. A symbol has the number of its
+/// name. The content of a tree follows the kernel's kconfig-language document; the numbers are our own.
 #[derive(Drop)]
 pub struct Tree {
     names: Names,
@@ -27,24 +27,25 @@ pub struct Tree {
 
 impl Model for Tree {
     ghost use Rattle.kc_language.specs.Symbols.{TreeFacts};
-    ghost use Rattle.kc_tree.specs.TreeFacts.{IsWellFormed};
+    ghost use Rattle.kc_entries.specs.WellFormed.{IsWellFormed};
     ghost use Rattle.kc_tree.specs.TreeCode.{tree_code};
 
     ghost Value = { TreeFacts };
 
     ghost coded = { tree_code };
 
-    ghost use Rattle.kc_tree.specs.TreeView.{tree_of_parts};
+    ghost use Rattle.kc_tree.specs.TreeView.{tree_of_parts, IsNamed};
 
     ghost view = { tree_of_parts };
 
-    ghost invariant = { λ t. IsWellFormed (tree_of_parts t) };
+    ghost invariant = { λ t. IsWellFormed (tree_of_parts t) × IsNamed t.names t.layout };
 }
 
 impl Tree {
-    /// The tree with these names and parts. The caller owes that they are well formed.
+    /// Returns the tree with these names and parts. The caller must make sure that they are well formed, and that the layout has these names.
     pub fn of(names: Names, parts: TreeParts) -> Tree
-        requires { IsWellFormed (tree_of names parts) }
+        requires formed { IsWellFormed (tree_of names parts) }
+        requires named { IsNamed names parts.layout }
         ensures { result ≡ tree_of names parts }
     {
         let TreeParts {
@@ -60,7 +61,7 @@ impl Tree {
         }
     }
 
-    /// How many symbols are defined, each counted once: 65,535 at most (the limit is our own; kconfiglib's
+    /// The number of defined symbols, each counted once: at most 65,535 (the limit is our own; kconfiglib's
     /// `unique_defined_syms` are the same symbols).
     pub fn symbol_count(&self) -> usize
         ensures count { result ≡ length self.now.defined }
@@ -69,8 +70,8 @@ impl Tree {
         self.layout.defined().len()
     }
 
-    /// The defined symbol at a place, in the order of their first definition, as in kconfiglib's `unique_defined_syms`. The
-    /// caller owes a place below `symbol_count`.
+    /// The defined symbol at an index, in the order of their first definition, like kconfiglib's `unique_defined_syms`. The
+    /// index must be below `symbol_count`.
     pub fn symbol(&self, i: usize) -> SymId
         requires { i < length self.now.defined }
         ensures { slice_get self.now.defined i ≡ Some result }
@@ -93,7 +94,7 @@ impl Tree {
         self.names.find(name)
     }
 
-    /// How many names the tree mentions: the symbols' and those that are not defined (our own; they are the names of
+    /// The number of names that the tree mentions: those of symbols and those that are not defined (our own; they are the names of
     /// kconfiglib's `syms`).
     pub fn name_count(&self) -> usize
         ensures count { result ≡ length self.now.names }
@@ -102,8 +103,8 @@ impl Tree {
         self.names.count()
     }
 
-    /// The name of a symbol, or one that is mentioned and not defined (kconfiglib's `name` of a symbol). The caller owes
-    /// a number below `name_count`.
+    /// The name of a symbol, or a name that is mentioned but not defined (kconfiglib's `name` of a symbol). The number must be
+    /// below `name_count`.
     pub fn name(&self, id: SymId) -> &[u8]
         requires { id.0 < length self.now.names }
         ensures { slice_get self.now.names id.0 ≡ Some result.now }
@@ -111,7 +112,7 @@ impl Tree {
         self.names.name(id)
     }
 
-    /// The row of a symbol, with its type and its choice, which a name that is not defined has not; `None` past the last
+    /// The row of a symbol, with its type and its choice. A name that is not defined has neither. `None` past the last
     /// name (our own).
     pub fn facts(&self, id: SymId) -> Option<&Symbol>
         ensures { IsSymbolRowOf (slice_get self.now.symbols id.0) result }
@@ -119,7 +120,7 @@ impl Tree {
         self.layout.symbol(id)
     }
 
-    /// How the tree is laid out: what the facts of its symbols are made of (our own).
+    /// The layout of the tree, from which the facts about its symbols are found (our own).
     pub fn layout(&self) -> &Layout
         ensures laid { IsLayoutOf self.now result.now }
         ensures formed { IsWellFormed self.now }
@@ -127,7 +128,7 @@ impl Tree {
         &self.layout
     }
 
-    /// The tree with the tables that it is laid out in (our own).
+    /// The tree with its layout (our own).
     pub fn laid(&self) -> LaidTree<'_>
         ensures tree { result.tree.now ≡ self.now }
         ensures formed { IsWellFormed self.now }
@@ -138,24 +139,15 @@ impl Tree {
         }
     }
 
-    /// What a configuration file shows, in order: the symbols, menus and comments among the menu entries of the kernel's
-    /// kconfig-language document (kconfiglib's `node_iter` walks the same ones).
-    pub fn entries(&self) -> &[ShownEntry]
-        ensures shown { AreEntriesOf self.now.entries result.now }
-        ensures formed { IsWellFormed self.now }
-    {
-        self.layout.entries()
-    }
-
-    /// The choices, in the order in which they open: choice k has number k (the choices are the kernel's kconfig-language
-    /// document's, the numbers our own).
+    /// The choices, in the order in which they open: choice k has number k (choices follow the kernel's kconfig-language
+    /// document, the numbers are our own).
     pub fn choices(&self) -> &[Choice]
         ensures { AreChoicesOf self.now.choices result.now }
     {
         self.layout.choices()
     }
 
-    /// The warnings about the tree, in the order of the lines that they are about, without a line's end (their texts are
+    /// The warnings about the tree, in the order of the lines that they are about, without line feeds (their texts are
     /// our own).
     pub fn parse_warnings(&self) -> &[Vec<u8>]
         ensures { map (λ w. w.items) result.now ≡ self.now.warnings }
@@ -171,8 +163,8 @@ impl Tree {
         &self.main_menu
     }
 
-    /// The symbol that stands for modules, where it is defined: the one with the first `modules` line, by the kernel's
-    /// kconfig-language document, and without such a line the one named `MODULES`.
+    /// The modules symbol, if it is defined: the one with the first `modules` line, by the kernel's
+    /// kconfig-language document. Without such a line it is the one named `MODULES`.
     pub fn modules_symbol(&self) -> Option<SymId>
         ensures { result ≡ self.now.modules }
     {

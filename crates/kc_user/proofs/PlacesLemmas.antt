@@ -1,18 +1,10 @@
 -- The places of a tree: empty, and with one place filled.
-use Rattle.std.proofs.Common.{◌≡◌, ℕ, ◌≤◌, ◌+◌, ◌&&◌, Bool, true, false, List, length, Option, Some, None, refl, sym, ◌∙◌, ap, inl, inr, arith, replicate, get_or-set_same, get_or-set_other}
-use Rattle.std.specs.Prelude.{slice_get, slice_index_or, slice_set}
-use Rattle.std.specs.List.{Contains}
-use Rattle.std.proofs.lemmas.Bool.{cases_eq, cases_lt, false≢true, leb-true}
-use Rattle.std.proofs.lemmas.List.{get_or-replicate, get_or_past, length-replicate, length-set}
-use Rattle.kc_language.specs.Expressions.{symbol}
-use Rattle.kc_language.specs.declared.expressions.SymbolType.{SymbolType}
+use Rattle.std.proofs.{Common.{Bool, List, None, Option, Some, ap, arith, false, get_or-set_other, get_or-set_same, inl, inr, length, refl, replicate, sym, true, ℕ, ◌&&◌, ◌+◌, ◌∙◌, ◌≡◌, ◌≤◌}, lemmas.{Bool.{cases_eq, cases_lt, false≢true, leb-true}, List.{get_or-replicate, get_or_past, length-replicate, length-set}}}
+use Rattle.std.specs.{List.Contains, Prelude.{slice_get, slice_index_or, slice_set}}
+use Rattle.kc_language.specs.{Expressions.symbol, Symbols.SymbolFacts, Text.escape, Values.GivenText, declared.expressions.SymbolType.SymbolType}
 use Rattle.kc_language.specs.declared.expressions.SymbolType.TheVariants as symbol_type
-use Rattle.kc_language.specs.Text.{escape}
-use Rattle.kc_language.specs.Symbols.{SymbolFacts}
-use Rattle.kc_language.specs.Values.{GivenText}
 use Rattle.kc_user.proofs.UserLemmas.{length-escape}
-use Rattle.kc_user.specs.Laws.{EmptyArePlaces, SettingKeepsPlaces, SelectingKeepsPlaces, TextsAreShort}
-use Rattle.kc_user.specs.Places.{allowed, allowed_for, allowed_text, fits_quoted, is_short, members_of}
+use Rattle.kc_user.specs.{Laws.{EmptyArePlaces, SelectingKeepsPlaces, SettingKeepsPlaces, TextsAreShort}, Places.{allowed, allowed_for, allowed_text, fits_quoted, is_short, members_of}}
 
 none_replicated : {X : Type 0} (n i : ℕ) (x : X) → slice_index_or (replicate n None) i None ≡ Some x → ⊥
 none_replicated {X} n i x e =

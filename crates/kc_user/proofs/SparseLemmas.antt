@@ -1,9 +1,6 @@
 -- Where the values of a sparse vector stand, as places are filled and emptied.
-use Rattle.std.proofs.Common.{◌≡◌, ◌≢◌, ℕ, zero, suc, ◌+◌, ◌<◌, ◌≤◌, List, [], ◌∷◌, ◌++◌, length, map, Option, Some, None, replicate, slice_get, slice_set, refl, sym, ap, ◌∙◌, inl, inr, add-suc, add-zero, arith}
+use Rattle.std.proofs.{Common.{List, None, Option, Some, [], add-suc, add-zero, ap, arith, inl, inr, length, map, refl, replicate, slice_get, slice_set, suc, sym, zero, ℕ, ◌++◌, ◌+◌, ◌<◌, ◌∙◌, ◌∷◌, ◌≡◌, ◌≢◌, ◌≤◌}, Math.ListN.get_or-map, lemmas.{Bool.cases_eq, List.{ext_get_or, get_or-set_other, get_or-set_same, get_or_default, length-map, length-set, map-set}}}
 use Rattle.std.specs.Prelude.{slice_index_or}
-use Rattle.std.proofs.lemmas.Bool.{cases_eq}
-use Rattle.std.proofs.lemmas.List.{ext_get_or, get_or_default, get_or-set_other, get_or-set_same, length-map, length-set, map-set}
-use Rattle.std.proofs.Math.ListN.{get_or-map}
 use Rattle.kc_user.specs.Sparse.{AreOwn, numbered}
 use Rattle.kc_user.proofs.UserLemmas.{map-replicate}
 

@@ -1,19 +1,9 @@
 -- Places that are empty or filled, and the length of an escaped text.
-use Rattle.std.proofs.Common.{◌≡◌, ℕ, ◌+◌, ◌<◌, List, [], ◌∷◌, false, length, map, refl, sym, ap, ◌∙◌, arith, zero, suc, inl, inr, Option, Some, None, replicate, cond, count_by, leb, slice_set, length-append, Result, Ok, Err}
-use Rattle.std.proofs.lemmas.Bool.{lt-leb, cases_Bool}
-use Rattle.std.proofs.lemmas.List.{map-set}
-use Rattle.std.proofs.lemmas.List.Sums.{sum_by-cons}
-use Rattle.std.specs.Prelude.{option_map}
-use Rattle.std.specs.Result.{OnOk, OnErr}
-use Rattle.kc_language.specs.Text.{escape}
+use Rattle.std.proofs.{Common.{Err, List, None, Ok, Option, Result, Some, [], ap, arith, cond, count_by, false, inl, inr, leb, length, length-append, map, refl, replicate, slice_set, suc, sym, zero, ℕ, ◌+◌, ◌<◌, ◌∙◌, ◌∷◌, ◌≡◌}, lemmas.{Bool.{cases_Bool, lt-leb}, List.{Sums.sum_by-cons, map-set}}}
+use Rattle.std.specs.{Prelude.option_map, Result.{OnErr, OnOk}}
+use Rattle.kc_language.specs.{ConfigFile.Places, Symbols.TreeFacts, Text.escape, Values.GivenValue, declared.expressions.SymId.SymId}
 use Rattle.kc_text.specs.PartsOfText.{escape_byte, is_escaped}
-use Rattle.kc_language.specs.declared.expressions.SymId.{SymId}
-use Rattle.kc_language.specs.Symbols.{TreeFacts}
-use Rattle.kc_language.specs.Values.{GivenValue}
-use Rattle.kc_language.specs.ConfigFile.{Places}
-use Rattle.kc_user.specs.PartsOfConfigFile.{no_places}
-use Rattle.kc_user.specs.ValueView.{given_of_value}
-use Rattle.kc_user.specs.declared.value.UserValue.{UserValue}
+use Rattle.kc_user.specs.{PartsOfConfigFile.no_places, ValueView.given_of_value, declared.value.UserValue.UserValue}
 
 -- an empty place shows nothing
 pub map-replicate : {X Y : Type 0} (f : X → Y) (n : ℕ) (x : X) → map f (replicate n x) ≡ replicate n (f x)

@@ -1,19 +1,9 @@
--- Trusted: What stands in the user's places, and what may stand there.
-use Rattle.std.specs.List.{Contains, list_any}
-use Rattle.std.specs.Prelude.{◌≡◌, ℕ, ◌+◌, List, [], length, Bool, true, false, not, ◌&&◌, nat_le, Option, Some, None, is_some, slice_get, slice_index_or}
-use Rattle.kc_language.specs.ConfigFile.{Places, place_at, ArePlacesOf}
-use Rattle.kc_language.specs.Expressions.{symbol}
-use Rattle.kc_language.specs.Lines.{is_line_feed}
-use Rattle.kc_language.specs.Symbols.{TreeFacts, SymbolFacts, ChoiceFacts}
-use Rattle.kc_language.specs.Text.{escape, int_of, hex_of, longest_value}
-use Rattle.kc_language.specs.Values.{GivenValue, GivenTruth, GivenText, Member, UserPlace, SymbolPlace}
-use Rattle.kc_language.specs.declared.expressions.SymId.{SymId}
-use Rattle.kc_language.specs.declared.expressions.SymbolType.{SymbolType}
-use Rattle.kc_language.specs.declared.expressions.Tri.{Tri}
-use Rattle.kc_language.specs.declared.expressions.Tri.TheVariants.{N, M, Y}
+-- Trusted: User values, and which are allowed.
+use Rattle.std.specs.{List.{Contains, list_any}, Prelude.{Bool, List, None, Option, Some, [], false, is_some, length, nat_le, not, slice_get, slice_index_or, true, ℕ, ◌&&◌, ◌+◌, ◌≡◌}}
+use Rattle.kc_language.specs.{ConfigFile.{ArePlacesOf, Places, place_at}, Expressions.symbol, Lines.is_line_feed, Symbols.{ChoiceFacts, SymbolFacts, TreeFacts}, Text.{escape, hex_of, int_of, longest_value}, Values.{GivenText, GivenTruth, GivenValue, Member, SymbolPlace, UserPlace}, declared.expressions.{SymId.SymId, SymbolType.SymbolType, Tri.{TheVariants.{M, N, Y}, Tri}}}
 use Rattle.kc_language.specs.declared.expressions.SymbolType.TheVariants as symbol_type
 
--- `"TEXT"` with a `\` before each `"` and `\` is no longer than a value may be, and no line end stands in it
+-- `"TEXT"` with a `\` before each `"` and `\` is no longer than a value may be, and has no line feed
 abbrev pub fits_quoted : List ℕ → Bool
 fits_quoted text = nat_le (length (escape text) + 2) longest_value && not (list_any is_line_feed text)
 
@@ -50,11 +40,11 @@ abbrev pub allowed_for : Option SymbolFacts → GivenValue → Bool
 allowed_for None given = false
 allowed_for (Some facts) given = allowed_by facts.symbol_type given
 
--- a value of a symbol's own place
+-- whether a symbol may have this value
 abbrev pub allowed : TreeFacts → SymId → GivenValue → Bool
 allowed tree s given = allowed_for (slice_get tree.symbols s.0) given
 
--- what stands in the symbols' places is allowed
+-- each user value of a symbol is allowed
 abbrev pub AllowedPlaces : TreeFacts → (UserPlace → Option GivenValue) → Type 0
 AllowedPlaces tree user = (i : ℕ) (g : GivenValue) → user (SymbolPlace i) ≡ Some g → allowed tree (symbol i) g ≡ true
 
@@ -62,7 +52,7 @@ abbrev pub members_of : Option ChoiceFacts → List SymId
 members_of None = []
 members_of (Some c) = c.members
 
--- The places of a tree, where what was given is allowed, and a chosen symbol is a member of its choice.
+-- User values of a tree: those of symbols are allowed, and those of choices are members of them.
 pub record ArePlaces (tree : TreeFacts) (places : Places) : Type 0 where
   pub there : ArePlacesOf tree places
   pub allowed_all : AllowedPlaces tree (place_at places)

@@ -1,7 +1,6 @@
--- Trusted: What a value stands for.
-use Rattle.kc_language.specs.Values.{GivenValue, GivenTruth, GivenText}
-use Rattle.kc_user.specs.declared.value.UserValue.{UserValue}
-use Rattle.kc_user.specs.declared.value.UserValue.TheVariants.{Tri, Text}
+-- Trusted: The meaning of a user value.
+use Rattle.kc_language.specs.Values.{GivenText, GivenTruth, GivenValue}
+use Rattle.kc_user.specs.declared.value.UserValue.{TheVariants.{Text, Tri}, UserValue}
 
 abbrev pub given_of_value : UserValue → GivenValue
 given_of_value (Tri t) = GivenTruth t

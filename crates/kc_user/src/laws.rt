@@ -1,9 +1,9 @@
-//! What holds of the places of every tree.
+//! Laws of the user values of each tree. Each is the contract of a function that does nothing.
 
 ghost use Rattle.kc_user.specs.Laws.{EmptyArePlaces, SettingKeepsPlaces, SelectingKeepsPlaces, TextsAreShort};
 
-/// Empty places, and places that get allowed values and members of their choices, hold only such; so each text in them has
-/// at most 65,000 bytes.
+/// Empty user values, and user values that are set only to allowed values and to members of their choices, hold only such
+/// values. So each text in them has at most 65,000 bytes.
 pub fn places_hold_what_is_allowed()
     ensures empty { EmptyArePlaces }
     ensures setting { SettingKeepsPlaces }

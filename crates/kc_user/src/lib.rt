@@ -1,10 +1,10 @@
 #![tactic(auto)]
-//! User values: one for each symbol and one for each choice of a tree, where an input file sets it.
+//! User values: one for each symbol and one for each choice of a tree, if an input file sets it.
 //!
 //! - [`user`]: the user values of a tree.
-//! - [`value`]: what can be set for one symbol.
-//! - [`sparse`]: a row of optional values in which an absent one takes little memory.
-//! - [`laws`]: what holds of the user values of every tree.
+//! - [`value`]: the values that can be set for one symbol.
+//! - [`sparse`]: a list of optional values in which an absent value takes little memory.
+//! - [`laws`]: laws of the user values of each tree.
 
 pub mod laws;
 pub mod sparse;

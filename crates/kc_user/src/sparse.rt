@@ -1,13 +1,13 @@
-//! Places in a row, each empty or filled, where an empty one takes little memory.
+//! Lists of optional values in which an absent value takes little memory.
 ghost use Rattle.std.specs.Prelude.{◌≡◌, ◌<◌, ◌+◌, None, length, replicate, slice_index_or, slice_set, option_copied, IfOk, OnErr, OnOk};
 
 use std::alloc::{AllocError, Global};
 use std::marker::Model;
 
-/// A row of places, each empty or filled (our own). An empty place takes 4 bytes, a filled one 4 more than its value.
+/// A list of optional values (our own). An absent value takes 4 bytes. A value takes 4 bytes besides its own.
 #[derive(Drop)]
 pub struct SparseVec<T> {
-    // Where the value of each place stands, counted from 1; 0 at an empty place.
+    // The index of each entry's value in `values`, counted from 1; 0 for an absent value.
     numbers: Vec<u32>,
     values: Vec<T>,
 }
@@ -26,7 +26,7 @@ impl<T> Model for SparseVec<T> {
     ghost invariant = { λ v. AreOwn v.numbers.items (length v.values.items) };
 }
 
-// The number of the next value, after so many.
+// The number of the next value, after `count` values.
 fn next_number(count: usize) -> Result<u32, AllocError>
     ensures { IfOk result (λ number. number ≡ count + 1) }
 {
@@ -38,7 +38,7 @@ fn next_number(count: usize) -> Result<u32, AllocError>
 }
 
 impl<T: Drop> SparseVec<T> {
-    /// This many places, every one empty. Its only error is to be out of memory, which leaves nothing.
+    /// Returns a list of this many absent values. The only error is that memory runs out. Then nothing is kept.
     pub fn empty(alloc: Global, count: usize) -> Result<SparseVec<T>, AllocError>
         ensures { IfOk result (λ places. places ≡ replicate count None) }
     {
@@ -47,8 +47,8 @@ impl<T: Drop> SparseVec<T> {
         Ok(SparseVec { numbers, values })
     }
 
-    /// The same, with room for so many values: they are not moved while there are no more. Its only error is to be out of memory,
-    /// which leaves nothing.
+    /// The same, with room for `room` values: up to that number, none is moved. The only error is that memory runs out. Then
+    /// nothing is kept.
     pub fn with_room(alloc: Global, count: usize, room: usize) -> Result<SparseVec<T>, AllocError>
         ensures { IfOk result (λ places. places ≡ replicate count None) }
     {
@@ -57,14 +57,14 @@ impl<T: Drop> SparseVec<T> {
         Ok(SparseVec { numbers, values })
     }
 
-    /// How many places there are.
+    /// The number of entries.
     pub fn len(&self) -> usize
         ensures { result ≡ length self.now }
     {
         self.numbers.len()
     }
 
-    /// What stands in a place, if it is filled; nothing where there is no such place.
+    /// The value of an entry, or `None` if it is absent or there is no such entry.
     pub fn get(&self, place: usize) -> Option<&T>
         ensures { option_copied result ≡ slice_index_or self.now place None }
     {
@@ -74,8 +74,8 @@ impl<T: Drop> SparseVec<T> {
         }
     }
 
-    /// Fills a place, or empties it, whatever stood there; all other places stay. Its only error is to be out of memory, after
-    /// which every place holds what it held.
+    /// Sets an entry to a value or to no value. All other entries are unchanged. The only error is that memory runs out. Then
+    /// all entries are unchanged.
     pub fn set(&mut self, place: usize, value: Option<T>) -> Result<(), AllocError>
         requires { place < length self.old }
         ensures done { OnOk result (self.new ≡ slice_set self.old place value) }

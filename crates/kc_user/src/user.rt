@@ -1,4 +1,4 @@
-//! The user's places.
+//! The user values of a tree.
 ghost use Rattle.std.specs.Prelude.{◌≡◌, ◌<◌, length, map, slice_set, slice_index_or, Some, None, IfOk, OnErr, OnOk, replicate, option_map};
 ghost use Rattle.kc_user.specs.PartsOfConfigFile as spec;
 ghost use Rattle.kc_user.specs.ValueView.{given_of_value};
@@ -11,9 +11,9 @@ use kc_tree::tree::Tree;
 use std::alloc::{AllocError, Global};
 use std::marker::Model;
 
-/// What a user gives for the names and choices of a tree: one place for each, empty or filled. Places that get only values
-/// that `allowed` accepts and members of their choices hold only such ([`crate::laws::places_hold_what_is_allowed`]). (Our
-/// own; the user's values of kconfiglib's documentation.)
+/// What the user gives for the symbols and choices of a tree: for each one a value or none. If only values that `allowed`
+/// accepts and members of their choices are set, it holds only such values ([`crate::laws::places_hold_what_is_allowed`]).
+/// (Our own, like the user values of kconfiglib's documentation.)
 #[derive(Drop)]
 pub struct User {
     symbols: SparseVec<UserValue>,
@@ -31,7 +31,7 @@ impl Model for User {
 }
 
 impl User {
-    /// The places of a tree, every one empty. Its only error is to be out of memory, which leaves nothing.
+    /// Returns the user values of a tree, all absent. The only error is that memory runs out. Then nothing is kept.
     pub fn new(alloc: Global, tree: &Tree) -> Result<User, AllocError>
         ensures { IfOk result (λ user. user ≡ spec.no_places tree.now) }
     {
@@ -40,9 +40,9 @@ impl User {
         Ok(User { symbols, choices })
     }
 
-    /// Puts the value into the symbol's place, whatever stood there; all other places stay. The laws of the minimal file and
-    /// of a rerun want a value that `allowed` accepts. Its only error is to be out of memory, after which every place holds
-    /// what it held.
+    /// Sets the user value of a symbol. All other user values are unchanged. The laws of the minimal file and of a rerun require
+    /// a value that `allowed` accepts. The only error is that memory runs out. Then all user values are
+    /// unchanged.
     pub fn set(&mut self, id: SymId, value: UserValue) -> Result<(), AllocError>
         requires { id.0 < length self.old.symbols }
         ensures done { OnOk result (self.new ≡ record self.old { symbols = slice_set self.old.symbols id.0 (Some (given_of_value value)) }) }
@@ -51,8 +51,8 @@ impl User {
         self.symbols.set(id.0, Some(value))
     }
 
-    /// Puts the member into the choice's place, whatever stood there; all other places stay. What is no visible member of that
-    /// choice counts as an empty place.
+    /// Sets the member of a choice. All other user values are unchanged. A symbol that is not a visible member of the choice counts
+    /// as no member.
     pub fn select(&mut self, choice: ChoiceId, member: SymId)
         requires { choice.0 < length self.old.choices }
         ensures { self.new ≡ record self.old { choices = slice_set self.old.choices choice.0 (Some member) } }
@@ -60,7 +60,7 @@ impl User {
         self.choices[choice.0 as usize] = Some(member);
     }
 
-    /// What stands in the symbol's place, if it is filled (kconfiglib's `user_value`).
+    /// The user value of the symbol, if there is one (kconfiglib's `user_value`).
     pub fn get(&self, id: SymId) -> Option<&UserValue>
         requires { id.0 < length self.now.symbols }
         ensures { option_map (λ value. given_of_value value.now) result ≡ slice_index_or self.now.symbols id.0 None }
@@ -68,7 +68,7 @@ impl User {
         self.symbols.get(id.0)
     }
 
-    /// The member in the choice's place, if it is filled (kconfiglib's `user_selection`).
+    /// The user's member of the choice, if there is one (kconfiglib's `user_selection`).
     pub fn selected(&self, choice: ChoiceId) -> Option<SymId>
         requires { choice.0 < length self.now.choices }
         ensures { result ≡ slice_index_or self.now.choices choice.0 None }
@@ -76,14 +76,14 @@ impl User {
         self.choices[choice.0 as usize]
     }
 
-    /// The symbols' places, by number.
+    /// The user values of the symbols, by number.
     pub fn symbols(&self) -> &SparseVec<UserValue>
         ensures { map (option_map given_of_value) result.now ≡ self.now.symbols }
     {
         &self.symbols
     }
 
-    /// The choices' places, by number.
+    /// The user's members of the choices, by number.
     pub fn choices(&self) -> &[Option<SymId>]
         ensures { result.now ≡ self.now.choices }
     {
@@ -91,7 +91,7 @@ impl User {
     }
 }
 
-/// This many places, every one empty. Its only error is to be out of memory, which leaves nothing.
+/// Returns this many absent values. The only error is that memory runs out. Then nothing is kept.
 pub fn empty_places<T: Drop>(alloc: Global, count: usize) -> Result<Vec<Option<T>>, AllocError>
     ensures { IfOk result (λ places. places.items ≡ replicate count None) }
 {

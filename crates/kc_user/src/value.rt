@@ -1,4 +1,4 @@
-//! What a user may give for one symbol.
+//! The values that a user may give for one symbol.
 ghost use Rattle.std.specs.Prelude.{◌≡◌, ◌+◌, length, nat_le, count_by};
 ghost use Rattle.std.specs.List.{list_any};
 ghost use Rattle.kc_language.specs.Lines.{is_line_feed};
@@ -11,21 +11,21 @@ use kc_expr::expression::{SymId, SymbolType, Tri};
 use kc_text::{is_escaped, read_hex, read_int};
 use kc_tree::tree::Tree;
 
-/// The most bytes that may stand right of a `.config` line's `=` (our own limit).
+/// The most bytes after the `=` of a `.config` line (our own limit).
 pub const LONGEST_VALUE: usize = 65000;
 
 /// A value that a user gives for one symbol (kconfiglib's `user_value`).
 #[derive(Debug, Drop)]
 pub enum UserValue {
-    /// Of a bool or tristate.
+    /// For a bool or tristate.
     Tri(Tri),
-    /// Of a string, without its quotes and backslashes, or of an int or hex, as it is spelled.
+    /// For a string, without its quotes and backslashes; for an int or hex, as it is spelled.
     Text(Vec<u8>),
 }
 
-/// Whether some line of a `.config` gives the symbol this value: n and y for a bool, n, m and y for a tristate; for a
-/// string a text without a line end that has at most 65,000 bytes once it is quoted and escaped; for an int or hex a
-/// number of that type with at most 65,000 bytes; nothing for a symbol that has no type or is not defined. (Our own
+/// Whether some line of a `.config` gives the symbol this value: n or y for a bool; n, m or y for a tristate; for a
+/// string, a text without a line feed that has at most 65,000 bytes when it is quoted and escaped; for an int or hex, a
+/// number of that type with at most 65,000 bytes; no value for a symbol that has no type or is not defined. (Our own
 /// limits.)
 pub fn allowed(tree: &Tree, id: SymId, value: &UserValue) -> bool
     ensures { result ≡ spec.allowed tree.now id (given_of_value value.now) }
@@ -36,7 +36,7 @@ pub fn allowed(tree: &Tree, id: SymId, value: &UserValue) -> bool
     }
 }
 
-// Whether a line gives a symbol of this type the value.
+// Whether a line gives a symbol of this type this value.
 fn is_allowed(symbol_type: SymbolType, value: &UserValue) -> bool
     ensures { result ≡ spec.allowed_by symbol_type (given_of_value value.now) }
 {
@@ -70,28 +70,28 @@ fn is_allowed_text(symbol_type: SymbolType, text: &[u8]) -> bool
     }
 }
 
-// How many bytes get a `\` before them.
+// The number of bytes that get a `\` before them.
 fn escaped_count(text: &[u8]) -> usize
     ensures count { result ≡ count_by is_escaped text.now }
 {
     text.iter().filter(|b| is_escaped(**b)).count()
 }
 
-// Whether a line end stands in the text.
+// Whether the text has a line feed.
 fn has_line_feed(text: &[u8]) -> bool
     ensures { result ≡ list_any is_line_feed text.now }
 {
     text.iter().any(|b| *b == b'\n')
 }
 
-/// Returns whether the text has at most 65,000 bytes once it is quoted and escaped (our own limit).
+/// Returns whether the text has at most 65,000 bytes when it is quoted and escaped (our own limit).
 pub fn is_short_quoted(text: &[u8]) -> bool
     ensures { result ≡ nat_le (length (escape text.now) + 2) longest_value }
 {
     text.len() <= LONGEST_VALUE && text.len() + escaped_count(text) + 2 <= LONGEST_VALUE
 }
 
-// Whether the text, quoted and escaped, may stand right of a line's `=`.
+// Whether the text, quoted and escaped, is allowed after the `=` of a line.
 fn fits_quoted(text: &[u8]) -> bool
     ensures { result ≡ spec.fits_quoted text.now }
 {

@@ -1,10 +1,6 @@
 -- Whether an element of a list passes a test.
-use Rattle.std.proofs.Common.{◌≡◌, ◌==◌, ℕ, Bool, true, false, ◌||◌, ◌&&◌, cond, List, [], ◌∷◌, suc, Option, Some, None, map, reverse, refl, sym, ap, ◌∙◌, arith}
-use Rattle.std.specs.Prelude.{filter}
-use Rattle.std.specs.List.{list_any, flat_map, filter_map, cons_option, Contains}
-use Rattle.std.proofs.lemmas.Bool.{eqb-true, true≢false}
-use Rattle.std.proofs.lemmas.List.Folds.{list_any-append, list_any_at}
-use Rattle.std.proofs.lemmas.Grind.{reverse_onto}
+use Rattle.std.proofs.{Common.{Bool, List, None, Option, Some, [], ap, arith, cond, false, map, refl, reverse, suc, sym, true, ℕ, ◌&&◌, ◌==◌, ◌||◌, ◌∙◌, ◌∷◌, ◌≡◌}, lemmas.{Bool.{eqb-true, true≢false}, Grind.reverse_onto, List.Folds.{list_any-append, list_any_at}}}
+use Rattle.std.specs.{List.{Contains, cons_option, filter_map, flat_map, list_any}, Prelude.filter}
 
 -- of an option: none does not pass
 abbrev pub passes : {X : Type 0} → (X → Bool) → Option X → Bool
@@ -70,16 +66,6 @@ any_reverse p (x ∷ xs) =
   where
     turned : (a b c : Bool) → a ≡ c → (a || (b || false)) ≡ (b || c)
     turned a b c h = grind arith
-
--- what is found under a number, whatever else is
-passes_same : {X : Type 0} (p q : X → Bool) (o : Option X) → ((x : X) → o ≡ Some x → p x ≡ q x) → passes p o ≡ passes q o
-passes_same p q None h = refl
-passes_same p q (Some x) h = h x refl
-
--- two tests that agree at what is found
-pub found_same : {X Y : Type 0} (p q : Y → Bool) (h : X → Option Y) → ((x : X) (y : Y) → h x ≡ Some y → p y ≡ q y) → (xs : List X) →
-    list_any p (filter_map h xs) ≡ list_any q (filter_map h xs)
-found_same p q h agree xs = any_found p h xs ∙ any_same (λ x. passes p (h x)) (λ x. passes q (h x)) (λ x. passes_same p q (h x) (agree x)) xs ∙ sym (any_found q h xs)
 
 -- a number stands in a list
 abbrev pub stands : ℕ → List ℕ → Bool

@@ -1,113 +1,100 @@
--- The chain of a line that selects or implies: the line, and then the chain of the one that it leads on to.
-use Rattle.std.proofs.Common.{◌≡◌, ℕ, zero, suc, ◌+◌, ◌<◌, ◌≤◌, List, [], ◌∷◌, ◌++◌, length, reverse, Option, Some, None, refl, ap, sym, ◌∙◌, arith, get_or, length-append}
-use Rattle.std.specs.List.{slice_get, filter_map, cons_option}
-use Rattle.std.specs.Option.{option_and_then}
-use Rattle.std.proofs.Math.Seq.{get_or-append_seam}
-use Rattle.std.proofs.lemmas.List.{get_or_append_left, get_or_past}
-use Rattle.kc_language.specs.declared.expressions.SymId.{SymId}
-use Rattle.kc_language.specs.declared.expressions.Tri.{Tri}
-use Rattle.kc_language.specs.declared.expressions.Tri.TheVariants.{N}
-use Rattle.kc_language.specs.Expressions.{SymbolValue, truth_of_value, lesser, greater}
-use Rattle.kc_tree.specs.declared.layout.Tables.{Tables}
-use Rattle.kc_tree.specs.declared.rows.Selector.{Selector}
-use Rattle.kc_tree.specs.declared.rows.SelectorId.{SelectorId}
-use Rattle.kc_tree.specs.Chains.{chain_of, chains_from, chains_of, AreChained}
-use Rattle.kc_tree.specs.Layouts.{selector_at, selector_facts, selectors_from}
-use Rattle.kc_language.specs.Symbols.{Guarded, TreeFacts, listed}
-use Rattle.kc_language.specs.Values.{condition, selector_values}
-use Rattle.kc_values.proofs.DefinitionLemmas.{greatest-cons}
-use Rattle.kc_values.proofs.TriLemmas.{greatest-reverse}
+-- The lines that select or imply a symbol, one after another, from the last one on.
+use Rattle.std.proofs.{Common.{List, None, Option, Some, [], ap, arith, false, length, map, refl, subst, suc, sym, zero, ℕ, ◌++◌, ◌<◌, ◌∙◌, ◌∷◌, ◌≡◌, ◌≤◌}, lemmas.List.{Elements.filter_map-append, map-append}}
+use Rattle.std.specs.{List.{cons_option, filter_map, slice_get}, Option.{is_some, option_and_then}}
+use Rattle.kc_entries.proofs.PlaceLemmas.{there_in}
+use Rattle.kc_language.specs.{Expressions.{greater, greatest, lesser, truth_of_value}, Symbols.{Guarded, listed}, declared.{expressions.{SymId.SymId, Tri.{TheVariants.N, Tri}}, symbols.SelectOrImply.SelectOrImply}}
+use Rattle.kc_language.specs.declared.symbols.SelectOrImply.TheVariants as word
+use Rattle.kc_tree.specs.{Layouts.{impliers_at, lines_up_to, selector_facts, selectors_at, selectors_up_to}, Stored.unstored, declared.{layout.Layout.Layout, rows.{Selector.Selector, Symbol.Symbol}}}
+use Rattle.kc_tree.proofs.LayoutWalks as walk
+use Rattle.kc_tree.proofs.LayoutWalks.{IsLine, implies-last, line-before, line-last-at, line-next, line-next-at, selects-last}
+use Rattle.kc_values.specs.AtTable as table
+use Rattle.kc_values.specs.{TableFacts.{IsLineAt, IsRowOf, known_at}, declared.table.Table.Table}
+use Rattle.kc_values.proofs.TriLemmas.{greater-step, greater_comm, greatest-append}
 
--- how far a walk along a chain has still to go
-abbrev pub steps_left : Option SelectorId → ℕ
-steps_left None = 0
-steps_left (Some id) = suc id.0
+cons-listed : {X : Type 0} (o : Option X) → cons_option o [] ≡ listed o
+cons-listed None = refl
+cons-listed (Some x) = refl
 
-abbrev one_chain : List (List ℕ) → Selector → List ℕ
-one_chain chains r = length chains ∷ chain_of chains r.next
+module _ (t : Table) (w : SelectOrImply) (s : SymId) where
+  abbrev l : Layout
+  l = t.layout.now
 
-from-length : (chains : List (List ℕ)) (rs : List Selector) → length (chains_from chains rs) ≡ length chains + length rs
-from-length chains [] = omega arith
-from-length chains (r ∷ rs) =
-    let more = length-append chains (one_chain chains r ∷ []) in
-    let rest = from-length (chains ++ one_chain chains r ∷ []) rs in
-    omega (arith, more, rest)
+  line-at : (at : ℕ) → IsLineAt t w s at → walk.IsLineAt l w s at
+  line-at at h j u = let is = h j u in record { there = is.0; names_symbol = is.1 }
 
--- what was there stays
-from-keeps : (chains : List (List ℕ)) (rs : List Selector) (i : ℕ) → i < length chains → get_or (chains_from chains rs) i [] ≡ get_or chains i []
-from-keeps chains [] i h = refl
-from-keeps chains (r ∷ rs) i h =
-    let more = length-append chains (one_chain chains r ∷ []) in
-    from-keeps (chains ++ one_chain chains r ∷ []) rs i (omega (arith, h, more)) ∙ get_or_append_left chains (one_chain chains r ∷ []) [] i h
+  at-line : (at : ℕ) → walk.IsLineAt l w s at → IsLineAt t w s at
+  at-line at h j u = let is = h j u in (is.there, is.names_symbol)
 
--- a line below a number
-abbrev IsBelow : ℕ → Option SelectorId → Type 0
-IsBelow n next = (id : SelectorId) → next ≡ Some id → id.0 < n
+  -- what the lines up to one are worth
+  abbrev pub values_left : ℕ → Tri
+  values_left at = table.selector_values t (selectors_up_to l w s at)
 
-chain-keeps : (chains : List (List ℕ)) (rs : List Selector) (next : Option SelectorId) → IsBelow (length chains) next → chain_of (chains_from chains rs) next ≡ chain_of chains next
-chain-keeps chains rs None h = refl
-chain-keeps chains rs (Some id) h = from-keeps chains rs id.0 (h id refl)
+  abbrev worth : Guarded SymId → Tri
+  worth g = lesser (truth_of_value (known_at t g.what)) (table.condition t g.when)
 
-from-at : (chains : List (List ℕ)) (rs : List Selector) (k : ℕ) (r : Selector) → slice_get rs k ≡ Some r → IsBelow (length chains + k) r.next →
-    get_or (chains_from chains rs) (length chains + k) [] ≡ (length chains + k) ∷ chain_of (chains_from chains rs) r.next
-from-at chains [] k r e h = absurd cc
-from-at chains (x ∷ xs) zero r e h =
-    let same : x ≡ r = cc in
-    let more = chains ++ one_chain chains x ∷ [] in
-    let one : length more ≡ length chains + 1 = length-append chains (one_chain chains x ∷ []) in
-    let place : length chains + 0 ≡ length chains = omega arith in
-    let below : IsBelow (length chains) x.next = rw (same, ← place) h in
-    let here : get_or (chains_from more xs) (length chains) [] ≡ one_chain chains x =
-    from-keeps more xs (length chains) (omega (arith, one)) ∙ get_or-append_seam chains (one_chain chains x) [] []
-    in
-    let next : chain_of (chains_from more xs) x.next ≡ chain_of chains x.next = chain-keeps chains (x ∷ xs) x.next below in
-    rw (place, ← same) (here ∙ ap (λ c. length chains ∷ c) (sym next))
-from-at chains (x ∷ xs) (suc k) r e h =
-    let more = chains ++ one_chain chains x ∷ [] in
-    let one : length more ≡ length chains + 1 = length-append chains (one_chain chains x ∷ []) in
-    let place : length chains + suc k ≡ length more + k = omega (arith, one) in
-    rw place (from-at more xs k r e (rw place at h))
+  -- one more line
+  pub record IsNext (at : ℕ) (r : Selector) : Type 0 where
+    pub values : values_left at ≡ greater (table.selector_values t (listed (selector_facts l r))) (values_left r.next.0)
+    pub line : IsLineAt t w s r.next.0
+    pub smaller : r.next.0 < at
 
-pub chain-at : (lines : List Selector) (i : ℕ) (r : Selector) → AreChained lines → slice_get lines i ≡ Some r → get_or (chains_of lines) i [] ≡ i ∷ chain_of (chains_of lines) r.next
-chain-at lines i r chained e =
-    let place : 0 + i ≡ i = omega arith in
-    let below : IsBelow (length {A = List ℕ} [] + i) r.next = λ id n. let h = chained i r id e n in omega (arith, h) in
-    rw place at (from-at [] lines i r e below)
+  before-by : (j next : ℕ) → ((n : ℕ) → unstored next ≡ Some n → n < j) → next < suc j
+  before-by j zero h = omega arith
+  before-by j (suc n) h = let b = h n refl in omega (arith, b)
 
--- the number of no line has no chain
-pub chain-past : (lines : List Selector) (i : ℕ) → length lines ≤ i → get_or (chains_of lines) i [] ≡ []
-chain-past lines i h = let e = from-length [] lines in get_or_past (chains_of lines) i [] (omega (arith, h, e))
+  next-there : (j : ℕ) (r : Selector) → slice_get l.selectors.items j ≡ Some r → IsLine l w s j → IsNext (suc j) r
+  next-there j r h is =
+      let facts : ℕ → Option (Guarded SymId) = λ i. option_and_then (selector_facts l) (slice_get l.selectors.items i) in
+      let split : selectors_up_to l w s (suc j) ≡ selectors_up_to l w s r.next.0 ++ listed (selector_facts l r) =
+      ap (filter_map facts) (line-next l w s j r h is)
+      ∙ filter_map-append facts (lines_up_to l w s r.next.0) (j ∷ [])
+      ∙ ap (λ o. selectors_up_to l w s r.next.0 ++ cons_option (option_and_then (selector_facts l) o) []) h
+      ∙ ap (λ x. selectors_up_to l w s r.next.0 ++ x) (cons-listed (selector_facts l r)) in
+      record {
+        values =
+            ap (table.selector_values t) split
+            ∙ ap greatest (map-append worth (selectors_up_to l w s r.next.0) (listed (selector_facts l r)))
+            ∙ greatest-append (map worth (selectors_up_to l w s r.next.0)) (map worth (listed (selector_facts l r)))
+            ∙ greater_comm (values_left r.next.0) (table.selector_values t (listed (selector_facts l r)));
+        line = at-line r.next.0 (line-next-at l w s j r h is);
+        smaller = before-by j r.next.0 (λ n u. line-before l w s j n r h is u);
+      }
 
-module _ (t : Tables) where
-  pub selector_rows-at : (id : SelectorId) (r : Selector) → slice_get t.selector_rows.lines.items id.0 ≡ Some r →
-      selectors_from t (Some id) ≡ cons_option (selector_facts t r) (selectors_from t r.next)
-  selector_rows-at id r e =
-      ap (filter_map (selector_at t)) (chain-at t.selector_rows.lines.items id.0 r t.selector_rows.chained e)
-      ∙ ap (λ (o : Option Selector). cons_option (option_and_then (selector_facts t) o) (selectors_from t r.next)) e
+  pub next-is : (at : ℕ) (r : Selector) → Some r ≡ option_and_then (slice_get l.selectors.items) (unstored at) → IsLineAt t w s at → IsNext at r
+  next-is zero r h is = absurd cc
+  next-is (suc j) r h is = next-there j r (sym h) (line-at (suc j) is j refl)
 
-  pub selector_rows-past : (id : SelectorId) → slice_get t.selector_rows.lines.items id.0 ≡ None → selectors_from t (Some id) ≡ []
-  selector_rows-past id e = ap (filter_map (selector_at t)) (chain-past t.selector_rows.lines.items id.0 (past t.selector_rows.lines.items id.0 e))
-    where
-      past : {X : Type 0} (xs : List X) (i : ℕ) → slice_get xs i ≡ None → length xs ≤ i
-      past [] i e = omega arith
-      past (x ∷ xs) zero e = absurd cc
-      past (x ∷ xs) (suc i) e = let h = past xs i e in omega (arith, h)
+  pub chain-ends : (at : ℕ) → None ≡ option_and_then (slice_get l.selectors.items) (unstored at) → IsLineAt t w s at → values_left at ≡ N
+  chain-ends zero h is = refl
+  chain-ends (suc j) h is = let y = there_in l.selectors.items j ((is j refl).0) in absurd (let no : None ≡ Some (y.0) = h ∙ y.1 in cc)
 
-  -- the greatest of what they are worth
-  module _ (tree : TreeFacts) (known : SymId → SymbolValue) where
-    abbrev pub worth : Guarded SymId → Tri
-    worth g = lesser (truth_of_value (known g.what)) (condition tree known g.when)
+  pub values-step : (at : ℕ) (r : Selector) (so_far found result : Tri) → IsNext at r → found ≡ table.selector_values t (listed (selector_facts l r)) →
+      greater so_far (values_left at) ≡ result → greater (greater so_far found) (values_left r.next.0) ≡ result
+  values-step at r so_far found result n is before =
+      ap (λ x. greater (greater so_far x) (values_left r.next.0)) is
+      ∙ greater-step so_far (table.selector_values t (listed (selector_facts l r))) (values_left r.next.0) (values_left at) result n.values before
 
-    abbrev pub selector_values_from : Option SelectorId → Tri
-    selector_values_from last = selector_values tree known (selectors_from t last)
+-- from the row of a symbol
+module _ (t : Table) (s : SymId) (row : Symbol) (h : IsRowOf t s row) where
+  abbrev laid : Layout
+  laid = t.layout.now
 
-    pub selector_values-at : (id : SelectorId) (r : Selector) → slice_get t.selector_rows.lines.items id.0 ≡ Some r → (at : Option SelectorId) → at ≡ Some id →
-        selector_values_from at ≡ greater (selector_values tree known (listed (selector_facts t r))) (selector_values_from r.next)
-    selector_values-at id r e at is = ap selector_values_from is ∙ ap (selector_values tree known) (selector_rows-at id r e) ∙ greatest-cons worth (selector_facts t r) (selectors_from t r.next)
+  pub select-at : IsLineAt t word.Select s row.last_select.0
+  select-at = at-line t word.Select s row.last_select.0 (line-last-at laid word.Select s row.last_select.0 (laid.laid.symbols_are s.0 row h).last_select)
 
-    pub selector_values-past : (id : SelectorId) → slice_get t.selector_rows.lines.items id.0 ≡ None → (at : Option SelectorId) → at ≡ Some id → selector_values_from at ≡ N
-    selector_values-past id e at is = ap selector_values_from is ∙ ap (selector_values tree known) (selector_rows-past id e)
+  pub imply-at : IsLineAt t word.Imply s row.last_imply.0
+  imply-at = at-line t word.Imply s row.last_imply.0 (line-last-at laid word.Imply s row.last_imply.0 (laid.laid.symbols_are s.0 row h).last_imply)
 
-    -- in the order of the lines
-    pub selector_values-reverse : (last : Option SelectorId) → selector_values tree known (reverse (selectors_from t last)) ≡ selector_values_from last
-    selector_values-reverse last = greatest-reverse worth (selectors_from t last)
+  abbrev values : List ℕ → Tri
+  values js = table.selector_values t (filter_map (λ j. option_and_then (selector_facts laid) (slice_get laid.selectors.items j)) js)
+
+  pub selects-all : values_left t word.Select s row.last_select.0 ≡ table.selector_values t (selectors_at laid s.0)
+  selects-all = ap values (selects-last laid s.0 row h)
+
+  pub implies-all : values_left t word.Imply s row.last_imply.0 ≡ table.selector_values t (impliers_at laid s.0)
+  implies-all = ap values (implies-last laid s.0 row h)
+
+-- none
+pub values-none : (t : Table) (w : SelectOrImply) (s : SymId) (at : ℕ) → is_some (unstored at) ≡ false → values_left t w s at ≡ N
+values-none t w s zero h = refl
+values-none t w s (suc j) h = absurd cc

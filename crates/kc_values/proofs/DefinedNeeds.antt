@@ -1,19 +1,10 @@
 -- A symbol that needs something is defined.
-use Rattle.std.proofs.Common.{◌≡◌, ℕ, [], length, map, Option, Some, None, refl, ◌∙◌, ap, subst, arith}
+use Rattle.std.proofs.{Common.{None, Option, Some, [], ap, arith, length, map, refl, subst, ℕ, ◌∙◌, ◌≡◌}, Math.ListN.get_or-map, lemmas.List.length-map}
 use Rattle.std.specs.List.{Contains}
-use Rattle.std.proofs.Math.ListN.{get_or-map}
-use Rattle.std.proofs.lemmas.List.{length-map}
-use Rattle.kc_language.specs.Expressions.{symbol}
-use Rattle.kc_language.specs.declared.expressions.SymId.{SymId}
-use Rattle.kc_language.specs.declared.expressions.SymbolType.TheVariants.{Undefined}
-use Rattle.kc_language.specs.Needs.{needs_in, names_by_type, named_by, needs}
-use Rattle.kc_values.specs.PartsOfNeeds.{mentioned_numbers, names_by_choice}
-use Rattle.kc_tree.specs.TreeFacts.{IsWellFormed}
-use Rattle.kc_language.specs.Symbols.{SymbolFacts, TreeFacts}
-use Rattle.kc_values.specs.Laws.{NeedingAreDefined}
-use Rattle.kc_language.specs.Values.{facts}
-use Rattle.kc_values.proofs.ModeLaws.{members_are_bools}
-use Rattle.kc_values.proofs.TreeNeeds.{needs_at}
+use Rattle.kc_language.specs.{Expressions.symbol, Needs.{named_by, names_by_type, needs, needs_in}, Symbols.{SymbolFacts, TreeFacts}, Values.facts, declared.expressions.{SymId.SymId, SymbolType.TheVariants.Undefined}}
+use Rattle.kc_values.specs.{Laws.NeedingAreDefined, PartsOfNeeds.{mentioned_numbers, names_by_choice}}
+use Rattle.kc_entries.specs.WellFormed.{IsWellFormed}
+use Rattle.kc_values.proofs.{ModeLaws.members_are_bools, TreeNeeds.needs_at}
 
 module _ (tree : TreeFacts) (formed : IsWellFormed tree) where
   -- a symbol that has a choice or a type is defined

@@ -1,24 +1,11 @@
 -- The value of a symbol that differs is one that a user may give.
-use Rattle.std.proofs.Common.{◌≡◌, ℕ, Bool, true, false, not, List, Option, Some, None, sym, ◌∙◌, ap, inl, inr, refl, cond, ◌⊎◌, unwrap_or}
-use Rattle.std.proofs.lemmas.Bool.{true≢false, and_parts}
-use Rattle.kc_language.specs.declared.expressions.SymId.{SymId}
-use Rattle.kc_language.specs.declared.expressions.Tri.{Tri}
-use Rattle.kc_language.specs.declared.expressions.Tri.TheVariants.{N, M, Y}
-use Rattle.kc_language.specs.declared.expressions.SymbolType.{SymbolType}
-use Rattle.kc_language.specs.declared.expressions.SymbolType.TheVariants.{Undefined, Bool as IsBool, Tristate, Str, Int, Hex}
-use Rattle.kc_language.specs.Expressions.{symbol, SymbolValue, Truth, TextValue}
-use Rattle.kc_language.specs.Symbols.{SymbolFacts, TreeFacts, is_symbol_of}
-use Rattle.kc_language.specs.declared.values.Interval.{Interval}
-use Rattle.kc_language.specs.Values.{facts, is_within_range, if_within_range, clamped, GivenValue, GivenTruth, GivenText, Member, SymbolPlace, ChoicePlace, known_from, rhs, given_of, default_selection}
+use Rattle.std.proofs.{Common.{Bool, List, None, Option, Some, ap, cond, false, inl, inr, not, refl, sym, true, unwrap_or, ℕ, ◌∙◌, ◌≡◌, ◌⊎◌}, lemmas.Bool.{and_parts, true≢false}}
+use Rattle.kc_language.specs.{Expressions.{SymbolValue, TextValue, Truth, symbol}, Symbols.{SymbolFacts, TreeFacts, is_symbol_of}, Values.{ChoicePlace, GivenText, GivenTruth, GivenValue, Member, SymbolPlace, clamped, default_selection, facts, given_of, if_within_range, is_within_range, known_from, rhs}, declared.{expressions.{SymId.SymId, SymbolType.{SymbolType, TheVariants.{Bool as IsBool, Hex, Int, Str, Tristate, Undefined}}, Tri.{TheVariants.{M, N, Y}, Tri}}, values.Interval.Interval}}
 use Rattle.kc_language.specs.Values as v
-use Rattle.kc_user.specs.Places.{allowed_truth, allowed_text, allowed_by, allowed_for, allowed}
+use Rattle.kc_user.specs.Places.{allowed, allowed_by, allowed_for, allowed_text, allowed_truth}
 use Rattle.kc_values.specs.PartsOfValues as sol
-use Rattle.kc_values.specs.Laws.{DifferingAreAllowed}
-use Rattle.kc_values.specs.Members.{MembersAreBools}
-use Rattle.kc_values.proofs.FixedLines.{place_cases, Sel, member_now, other_value, differs-member}
-use Rattle.kc_values.proofs.IdempotentLines.{upgrade_allowed, is_truth_type}
-use Rattle.kc_values.proofs.ModeLaws.{members_are_bools}
-use Rattle.kc_values.specs.PartsOfValues.{by_choice}
+use Rattle.kc_values.specs.{Laws.DifferingAreAllowed, Members.MembersAreBools, PartsOfValues.by_choice}
+use Rattle.kc_values.proofs.{FixedLines.{Sel, differs-member, member_now, other_value, place_cases}, IdempotentLines.{is_truth_type, upgrade_allowed}, ModeLaws.members_are_bools}
 
 -- a text is the user's, which was allowed, or is the one without it
 text_allowed : (q : List ℕ → Bool) (u : Option GivenValue) (vis : Tri) (d : List ℕ) → ((t : List ℕ) → u ≡ Some (GivenText t) → q t ≡ true) →

@@ -1,28 +1,12 @@
 -- The line of a value that differs gives the value again.
-use Rattle.std.proofs.Common.{◌≡◌, ℕ, ◌<◌, ◌&&◌, Bool, true, false, List, sym, ◌∙◌, ap, inl, inr, refl, cond, not, Option, Some, None, ◌⊎◌, unwrap_or}
+use Rattle.std.proofs.{Common.{Bool, List, None, Option, Some, ap, cond, false, inl, inr, not, refl, sym, true, unwrap_or, ℕ, ◌&&◌, ◌<◌, ◌∙◌, ◌≡◌, ◌⊎◌}, lemmas.Bool.{and_parts, both_ways, cases_Bool, not-false, not-true, true≢false}}
 use Rattle.std.specs.Prelude.{option_map}
-use Rattle.std.proofs.lemmas.Bool.{cases_Bool, true≢false, not-true, not-false, and_parts, both_ways}
-use Rattle.kc_language.specs.declared.expressions.SymId.{SymId}
-use Rattle.kc_language.specs.declared.expressions.Tri.{Tri}
-use Rattle.kc_language.specs.declared.expressions.Tri.TheVariants.{N, Y}
-use Rattle.kc_language.specs.declared.expressions.SymbolType.{SymbolType}
-use Rattle.kc_language.specs.declared.expressions.SymbolType.TheVariants.{Undefined, Bool as IsBool, Tristate, Str, Int, Hex}
-use Rattle.kc_language.specs.Expressions.{SymbolValue, Truth, TextValue, greater, symbol}
-use Rattle.kc_language.specs.Symbols.{SymbolFacts, ChoiceFacts, TreeFacts, is_symbol_of}
-use Rattle.kc_language.specs.declared.values.Interval.{Interval}
-use Rattle.kc_language.specs.Values.{Solves, facts, choice_at, is_within_range, if_within_range, clamped, GivenValue, GivenTruth, GivenText, Member, UserPlace, SymbolPlace, ChoicePlace, is_n, name_count, known_from, rhs, user_place, equations, given_of, selection, default_selection, differs, differs_at}
-use Rattle.kc_values.specs.PartsOfValues.{same_value}
+use Rattle.kc_language.specs.{Expressions.{SymbolValue, TextValue, Truth, greater, symbol}, Symbols.{ChoiceFacts, SymbolFacts, TreeFacts, is_symbol_of}, Values.{ChoicePlace, GivenText, GivenTruth, GivenValue, Member, Solves, SymbolPlace, UserPlace, choice_at, clamped, default_selection, differs, differs_at, equations, facts, given_of, if_within_range, is_n, is_within_range, known_from, name_count, rhs, selection, user_place}, declared.{expressions.{SymId.SymId, SymbolType.{SymbolType, TheVariants.{Bool as IsBool, Hex, Int, Str, Tristate, Undefined}}, Tri.{TheVariants.{N, Y}, Tri}}, values.Interval.Interval}}
+use Rattle.kc_values.specs.{GivenLines.{TellsDiffering, minimal_line}, Members.MembersAreTheirs, PartsOfValues.{by_choice, same_value, text_equation}}
 use Rattle.kc_order.specs.Minimal.{KeepsWhatDiffers}
 use Rattle.kc_language.specs.Values as v
 use Rattle.kc_values.specs.PartsOfValues as v_parts
-use Rattle.kc_values.specs.Members.{MembersAreTheirs}
-use Rattle.kc_values.specs.GivenLines.{minimal_line, TellsDiffering}
-use Rattle.kc_values.proofs.SameValue.{same_value_itself, same_again}
-use Rattle.kc_values.proofs.Same.{same_symbol_itself, same_symbol-true}
-use Rattle.kc_values.proofs.TruthLines.{upgrade_if, line_fixed}
-use Rattle.kc_values.proofs.Selection.{selected_again, none_selected, selected_member}
-use Rattle.kc_values.specs.PartsOfValues.{by_choice}
-use Rattle.kc_values.specs.PartsOfValues.{text_equation}
+use Rattle.kc_values.proofs.{Same.{same_symbol-true, same_symbol_itself}, SameValue.{same_again, same_value_itself}, Selection.{none_selected, selected_again, selected_member}, TruthLines.{line_fixed, upgrade_if}}
 
 -- the equation with e's own line is e, or the user's place does not matter
 abbrev Again : (Option GivenValue → SymbolValue) → SymbolValue → Type 0

@@ -1,133 +1,180 @@
--- The graph of a tree's needs is a graph, and its symbols need what the tree's do.
-use Rattle.std.proofs.Common.{◌≡◌, ℕ, ◌<◌, ◌≤◌, ◌+◌, ◌-◌, List, [], ◌++◌, length, get_or, Option, Some, None, sym, ap, ◌∙◌, subst, refl, inl, inr, arith}
-use Rattle.std.specs.Prelude.{slice_get, option_map}
-use Rattle.std.specs.List.{list_any, Contains}
-use Rattle.std.proofs.lemmas.Bool.{cases_lt}
-use Rattle.std.proofs.lemmas.List.{get_or_append_left, get_or-append_right, get_or-map, length-append}
-use Rattle.std.proofs.lemmas.List.FromFn.{length-map-range_with_len, get_or-map-range_with_len}
-use Rattle.std.proofs.lemmas.Option.{slice_get-get_or, slice_get_cases}
+-- The graph of a tree's needs is a graph: the row of each node.
+use Rattle.std.proofs.{Common.{List, None, Option, Some, [], ap, arith, get_or, inl, inr, length, refl, subst, suc, sym, zero, ℕ, ◌++◌, ◌+◌, ◌-◌, ◌<◌, ◌∙◌, ◌≡◌, ◌≤◌}, lemmas.{Bool.cases_lt, List.{FromFn.{get_or-map-range_with_len, length-map-range_with_len}, get_or-append_right, get_or-map, get_or_append_left, length-append, length-map}, Option.{slice_get-get_or, slice_get_cases}}}
+use Rattle.std.specs.{List.Contains, Prelude.{option_map, slice_get}}
 use Rattle.kc_order.specs.Graph.{IsGraph, Nodes}
-use Rattle.kc_language.specs.Needs.{needs_in}
-use Rattle.kc_tree.specs.Contexts.{IsContextAt, condition_in, mode_view}
-use Rattle.kc_tree.specs.Layouts.{IsLayoutOf, choice_facts, facts_of}
-use Rattle.kc_language.specs.Symbols.{Condition, TreeFacts}
-use Rattle.kc_tree.specs.TreeFacts.{IsWellFormed}
-use Rattle.kc_tree.specs.declared.layout.Layout.{Layout}
-use Rattle.kc_tree.specs.declared.rows.Choice.{Choice}
-use Rattle.kc_language.specs.declared.symbols.ChoiceId.{ChoiceId}
-use Rattle.kc_tree.specs.declared.rows.Context.{Context}
-use Rattle.kc_tree.specs.declared.rows.EntryPrompt.{EntryPrompt}
-use Rattle.kc_tree.specs.declared.rows.Symbol.{Symbol}
+use Rattle.kc_language.specs.{Expressions.symbol, Needs.needs_in, Symbols.TreeFacts}
+use Rattle.kc_tree.specs.{Layouts.{IsLayoutOf, choice_facts, facts_of, visible_menu}, Places.mode_view, declared.{layout.Layout.Layout, rows.{Choice.Choice, EntryId.EntryId, Symbol.Symbol}}}
+use Rattle.kc_entries.specs.WellFormed.{IsWellFormed}
+use Rattle.kc_entries.proofs.PlaceLemmas.{there_in}
 use Rattle.kc_values.specs.NeedRows as rows
-use Rattle.kc_values.specs.NeedRows.{AreNodeRows, IsContextRow, of_top, of_inner}
-use Rattle.kc_values.specs.MadeRows.{AreChoicesThere}
-use Rattle.kc_values.specs.Nodes.{choice_number, first_choice, node_count}
-use Rattle.kc_values.proofs.Laid.{choices_laid, facts_laid}
-use Rattle.kc_values.proofs.NodesBelow.{asked_below, below, choice_below, far, none, symbol_below}
+use Rattle.kc_values.specs.{MadeRows.AreChoicesThere, NeedRows.AreNodeRows, Nodes.{choice_number, context_number, dependency_number, first_choice, first_context, first_dependency, node_count, visible_number}}
+use Rattle.kc_values.proofs.{Laid.{choices_laid, facts_laid}, NodesBelow.{below, choice_low, context_row_low, dependency_low, none, row_low, symbol_low, visible_row_low}}
 
 -- the choices of a tree's members are there
 pub choices_there : (tree : TreeFacts) (l : Layout) → IsLayoutOf tree l → IsWellFormed tree → AreChoicesThere l
 choices_there tree l laid formed i s k e c =
     let f : slice_get tree.symbols i ≡ Some (facts_of l i s) = facts_laid tree l laid i ∙ ap (option_map (facts_of l i)) e in
     let there = formed.members_listed i (facts_of l i s) f k.0 (ap mode_view c) in
-    elim (slice_get_cases l.tables.choices.items k.0).1 [
+    elim (slice_get_cases l.choices.items k.0).1 [
       | inl h ↦ h.1
-      | inr h ↦ absurd (let no : Some there.0 ≡ None = sym there.1 ∙ choices_laid tree l laid k.0 ∙ ap (option_map (choice_facts l.tables)) h.1 in cc)
+      | inr h ↦ absurd (let no : Some there.0 ≡ None = sym there.1 ∙ choices_laid tree l laid k.0 ∙ ap (option_map (choice_facts l k.0)) h.1 in cc)
     ]
 
+-- rows one after another
+front : (xs ys : List (List ℕ)) (i : ℕ) → i < length xs → needs_in (xs ++ ys) i ≡ needs_in xs i
+front xs ys i h = get_or_append_left xs ys [] i h
+
+back : (xs ys : List (List ℕ)) (n i : ℕ) → length xs ≡ n → needs_in (xs ++ ys) (n + i) ≡ needs_in ys i
+back xs ys n i e = let at : (n + i) - n ≡ i = omega arith in get_or-append_right xs ys n (n + i) [] e (omega arith) ∙ ap (needs_in ys) at
+
+module _ (tree : TreeFacts) (l : Layout) where
+  abbrev s0 : List (List ℕ)
+  s0 = rows.symbol_rows tree l
+
+  abbrev s1 : List (List ℕ)
+  s1 = rows.symbol_rows tree l ++ rows.visible_rows l
+
+  abbrev s2 : List (List ℕ)
+  s2 = (rows.symbol_rows tree l ++ rows.visible_rows l) ++ rows.context_rows l
+
+  abbrev s3 : List (List ℕ)
+  s3 = ((rows.symbol_rows tree l ++ rows.visible_rows l) ++ rows.context_rows l) ++ rows.dependency_rows l
+
+  length0 : length (rows.symbol_rows tree l) ≡ length l.symbols.items
+  length0 = length-map-range_with_len (λ i. rows.row_of l (rows.symbol_by tree l i (slice_get l.symbols.items i))) 0 (length l.symbols.items)
+
+  length1 : length s1 ≡ first_context l
+  length1 =
+      let n = length-map l.visibles.items (λ (menu : EntryId). rows.row_of l (rows.visible_row l menu.0)) in
+      omega (arith, length-append (rows.symbol_rows tree l) (rows.visible_rows l), length0, n)
+
+  length2 : length s2 ≡ first_dependency l
+  length2 =
+      let n = length-map-range_with_len (λ at. rows.row_of l (rows.context_row l at)) 0 (suc (length l.places.items)) in
+      omega (arith, length-append (rows.symbol_rows tree l ++ rows.visible_rows l) (rows.context_rows l), length1, n)
+
+  length3 : length s3 ≡ first_choice l
+  length3 =
+      let n = length-map l.choices.items (λ c. rows.row_of l (rows.dependency_row l c)) in
+      omega (arith, length-append ((rows.symbol_rows tree l ++ rows.visible_rows l) ++ rows.context_rows l) (rows.dependency_rows l), length2, n)
+
+  pub rows_length : length (s3 ++ rows.choice_rows l) ≡ node_count l
+  rows_length =
+      let n = length-map-range_with_len (λ k. rows.row_of l (rows.choice_by l k (slice_get l.choices.items k))) 0 (length l.choices.items) in
+      omega (arith, length-append (((rows.symbol_rows tree l ++ rows.visible_rows l) ++ rows.context_rows l) ++ rows.dependency_rows l) (rows.choice_rows l), length3, n)
+
 module _ (tree : TreeFacts) (l : Layout) (g : Nodes) (made : AreNodeRows tree l g) where
-  symbol_length : length (rows.symbol_rows tree l) ≡ length l.symbols.items
-  symbol_length = length-map-range_with_len (λ i. rows.symbol_row tree l i (slice_get l.symbols.items i)) 0 (length l.symbols.items)
-
-  front_length : length (rows.symbol_rows tree l ++ made.contexts) ≡ length l.symbols.items + length l.tables.contexts
-  front_length = omega (arith, length-append (rows.symbol_rows tree l) made.contexts, symbol_length, made.contexts_are.0)
-
   -- the row of each node
-  pub row_of_symbol : (i : ℕ) (s : Symbol) → i < length l.symbols.items → slice_get l.symbols.items i ≡ Some s → needs_in g.rows i ≡ rows.symbol_row tree l i (Some s)
+  pub row_of_symbol : (i : ℕ) (s : Symbol) → i < length l.symbols.items → slice_get l.symbols.items i ≡ Some s → needs_in g.rows i ≡ rows.row_of l (rows.by_choice tree l (symbol i) s s.choice)
   row_of_symbol i s b e =
       ap (λ rs. needs_in rs i) made.rows_are
-      ∙ get_or_append_left (rows.symbol_rows tree l ++ made.contexts) (rows.choice_rows l) [] i (omega (arith, front_length))
-      ∙ get_or_append_left (rows.symbol_rows tree l) made.contexts [] i (omega (arith, symbol_length))
-      ∙ get_or-map-range_with_len (λ k. rows.symbol_row tree l k (slice_get l.symbols.items k)) 0 (length l.symbols.items) i i [] b (omega arith)
-      ∙ ap (rows.symbol_row tree l i) e
+      ∙ front (s3 tree l) (rows.choice_rows l) i (omega (arith, b, length3 tree l))
+      ∙ front (s2 tree l) (rows.dependency_rows l) i (omega (arith, b, length2 tree l))
+      ∙ front (s1 tree l) (rows.context_rows l) i (omega (arith, b, length1 tree l))
+      ∙ front (s0 tree l) (rows.visible_rows l) i (omega (arith, b, length0 tree l))
+      ∙ get_or-map-range_with_len (λ k. rows.row_of l (rows.symbol_by tree l k (slice_get l.symbols.items k))) 0 (length l.symbols.items) i i [] b (omega arith)
+      ∙ ap (λ o. rows.row_of l (rows.symbol_by tree l i o)) e
 
-  pub row_of_context : (i : ℕ) → i < length l.tables.contexts → needs_in g.rows (length l.symbols.items + i) ≡ get_or made.contexts i []
-  row_of_context i b =
-      let at : (length l.symbols.items + i) - length l.symbols.items ≡ i = omega arith in
-      ap (λ rs. needs_in rs (length l.symbols.items + i)) made.rows_are
-      ∙ get_or_append_left (rows.symbol_rows tree l ++ made.contexts) (rows.choice_rows l) [] (length l.symbols.items + i) (omega (arith, front_length))
-      ∙ get_or-append_right (rows.symbol_rows tree l) made.contexts (length l.symbols.items) (length l.symbols.items + i) [] symbol_length (omega arith)
-      ∙ ap (λ k. get_or made.contexts k []) at
+  menu_row : (v : ℕ) → v ≤ length l.visibles.items → needs_in (rows.visible_rows l) v ≡ rows.row_of l (rows.visible_row l (visible_menu l v))
+  menu_row zero b = refl
+  menu_row (suc u) b =
+      let x = there_in l.visibles.items u (omega (arith, b)) in
+      let is : get_or l.visibles.items u (x.0) ≡ x.0 = (let f = slice_get-get_or l.visibles.items u (x.0) (omega (arith, b)) in let h = x.1 in cc) in
+      get_or-map (λ (menu : EntryId). rows.row_of l (rows.visible_row l menu.0)) l.visibles.items u (x.0) [] (omega (arith, b))
+      ∙ ap (λ (menu : EntryId). rows.row_of l (rows.visible_row l menu.0)) is
+      ∙ ap (λ (o : Option EntryId). rows.row_of l (rows.visible_row l (elim o [ None ↦ 0 | Some menu ↦ menu.0 ]))) (sym (x.1))
 
-  pub row_of_choice : (k : ℕ) (c : Choice) → slice_get l.tables.choices.items k ≡ Some c → k < length l.tables.choices.items → needs_in g.rows (choice_number l k) ≡ rows.choice_row_of l c
+  pub row_of_visible : (v : ℕ) → v ≤ length l.visibles.items → needs_in g.rows (visible_number l v) ≡ rows.row_of l (rows.visible_row l (visible_menu l v))
+  row_of_visible v b =
+      ap (λ rs. needs_in rs (visible_number l v)) made.rows_are
+      ∙ front (s3 tree l) (rows.choice_rows l) (visible_number l v) (omega (arith, b, length3 tree l))
+      ∙ front (s2 tree l) (rows.dependency_rows l) (visible_number l v) (omega (arith, b, length2 tree l))
+      ∙ front (s1 tree l) (rows.context_rows l) (visible_number l v) (omega (arith, b, length1 tree l))
+      ∙ back (s0 tree l) (rows.visible_rows l) (length l.symbols.items) v (length0 tree l)
+      ∙ menu_row v b
+
+  pub row_of_context : (at : ℕ) → at ≤ length l.places.items → needs_in g.rows (context_number l at) ≡ rows.row_of l (rows.context_row l at)
+  row_of_context at b =
+      ap (λ rs. needs_in rs (context_number l at)) made.rows_are
+      ∙ front (s3 tree l) (rows.choice_rows l) (context_number l at) (omega (arith, b, length3 tree l))
+      ∙ front (s2 tree l) (rows.dependency_rows l) (context_number l at) (omega (arith, b, length2 tree l))
+      ∙ back (s1 tree l) (rows.context_rows l) (first_context l) at (length1 tree l)
+      ∙ get_or-map-range_with_len (λ k. rows.row_of l (rows.context_row l k)) 0 (suc (length l.places.items)) at at [] (omega (arith, b)) (omega arith)
+
+  pub row_of_dependency : (k : ℕ) (c : Choice) → slice_get l.choices.items k ≡ Some c → k < length l.choices.items → needs_in g.rows (dependency_number l k) ≡ rows.row_of l (rows.dependency_row l c)
+  row_of_dependency k c e b =
+      let is : get_or l.choices.items k c ≡ c = (let f = slice_get-get_or l.choices.items k c b in cc) in
+      ap (λ rs. needs_in rs (dependency_number l k)) made.rows_are
+      ∙ front (s3 tree l) (rows.choice_rows l) (dependency_number l k) (omega (arith, b, length3 tree l))
+      ∙ back (s2 tree l) (rows.dependency_rows l) (first_dependency l) k (length2 tree l)
+      ∙ get_or-map (λ d. rows.row_of l (rows.dependency_row l d)) l.choices.items k c [] b
+      ∙ ap (λ d. rows.row_of l (rows.dependency_row l d)) is
+
+  pub row_of_choice : (k : ℕ) (c : Choice) → slice_get l.choices.items k ≡ Some c → k < length l.choices.items → needs_in g.rows (choice_number l k) ≡ rows.row_of l (rows.choice l k c)
   row_of_choice k c e b =
-      let at : choice_number l k - first_choice l ≡ k = omega arith in
-      let is : get_or l.tables.choices.items k c ≡ c = let f = slice_get-get_or l.tables.choices.items k c b in cc in
       ap (λ rs. needs_in rs (choice_number l k)) made.rows_are
-      ∙ get_or-append_right (rows.symbol_rows tree l ++ made.contexts) (rows.choice_rows l) (first_choice l) (choice_number l k) [] front_length (omega arith)
-      ∙ ap (λ j. get_or (rows.choice_rows l) j []) at
-      ∙ get_or-map (rows.choice_row_of l) l.tables.choices.items k c [] b
-      ∙ ap (rows.choice_row_of l) is
-
-  -- a choice whose mode counts in a context depends on those before it
-  pub behind : (i : ℕ) (c : Context) → IsContextAt l.tables.contexts i c → (k : Choice) → rows.choice_row l c.mode ≡ Some k →
-      (k.within.0 < i) × ((p : EntryPrompt) → k.prompt ≡ Some p → p.visible.0 < i)
-  behind i c step k e = by_mode c.mode refl e
-    where
-      by_mode : (o : Option ChoiceId) → c.mode ≡ o → rows.choice_row l o ≡ Some k → (k.within.0 < i) × ((p : EntryPrompt) → k.prompt ≡ Some p → p.visible.0 < i)
-      by_mode None same found = cc
-      by_mode (Some id) same found =
-          let is : (condition_in l.tables.contexts i).mode ≡ Some id.0 = ap (λ (x : Condition). x.mode) step.is ∙ ap mode_view same in
-          (l.tables.modes_behind i id.0 k is found, λ p h. l.tables.mode_prompts_behind i id.0 k p is found h)
-
-  context_row_below : (i : ℕ) (row : List ℕ) → IsContextRow l i row → none (length l.symbols.items + i) row
-  context_row_below i row (of_top e r) = ap (λ x. list_any (far (length l.symbols.items + i)) x) r
-  context_row_below i row (of_inner c step r) =
-      rw r (asked_below l (length l.symbols.items + i) i (omega arith) c step.smaller (behind i c step))
+      ∙ back (s3 tree l) (rows.choice_rows l) (first_choice l) k (length3 tree l)
+      ∙ get_or-map-range_with_len (λ j. rows.row_of l (rows.choice_by l j (slice_get l.choices.items j))) 0 (length l.choices.items) k k [] b (omega arith)
+      ∙ ap (λ o. rows.row_of l (rows.choice_by l k o)) e
 
   -- each node of a row is there, and a group needs those before it
   module _ (there : AreChoicesThere l) where
-    symbol_row_below : (i : ℕ) → i < length l.symbols.items → none (node_count l) (needs_in g.rows i)
-    symbol_row_below i b =
-        elim (slice_get_cases l.symbols.items i).1 [
-          | inl h ↦
-              rw (row_of_symbol i h.0 b h.2) (symbol_below l (node_count l) (omega arith) i h.0 (rows.symbol_names tree l i h.0) (λ k e. let c = there i h.0 k h.2 e in omega arith))
-          | inr h ↦ absurd (omega (arith, h.0))
-        ]
+    symbol_below : (i : ℕ) → i < length l.symbols.items → none (node_count l) (needs_in g.rows i)
+    symbol_below i b =
+        let s = there_in l.symbols.items i b in
+        rw (row_of_symbol i (s.0) b (s.1)) (row_low l (node_count l) (rows.by_choice tree l (symbol i) (s.0) (s.0).choice) (omega arith)
+        (symbol_low l (node_count l) (omega arith) tree (symbol i) (s.0) (s.0).choice (λ k e. let c = there i (s.0) k (s.1) e in omega (arith, c))))
 
-    context_below_own : (i : ℕ) → i < length l.tables.contexts → none (length l.symbols.items + i) (needs_in g.rows (length l.symbols.items + i))
-    context_below_own i b =
-        rw (row_of_context i b) (context_row_below i (get_or made.contexts i []) (made.contexts_are.1 i (omega (arith, made.contexts_are.0))))
+    visible_below : (v : ℕ) → v ≤ length l.visibles.items → none (visible_number l v) (needs_in g.rows (visible_number l v))
+    visible_below v b = rw (row_of_visible v b) (row_low l (visible_number l v) (rows.visible_row l (visible_menu l v)) (omega arith) (visible_row_low l v b))
 
-    choice_row_below : (k : ℕ) → k < length l.tables.choices.items → none (first_choice l) (needs_in g.rows (choice_number l k))
-    choice_row_below k b =
-        elim (slice_get_cases l.tables.choices.items k).1 [
-          | inl h ↦ rw (row_of_choice k h.0 h.2 b) (choice_below l (first_choice l) (omega arith) k h.0 h.2)
-          | inr h ↦ absurd (omega (arith, h.0))
-        ]
+    context_below : (at : ℕ) → at ≤ length l.places.items → none (context_number l at) (needs_in g.rows (context_number l at))
+    context_below at b = rw (row_of_context at b) (row_low l (context_number l at) (rows.context_row l at) (omega arith) (context_row_low l at))
+
+    dependency_below : (k : ℕ) → k < length l.choices.items → none (first_dependency l) (needs_in g.rows (dependency_number l k))
+    dependency_below k b =
+        let c = there_in l.choices.items k b in
+        rw (row_of_dependency k (c.0) (c.1) b) (row_low l (first_dependency l) (rows.dependency_row l (c.0)) (omega arith) (dependency_low l (first_dependency l) (omega arith) (c.0)))
+
+    choice_below : (k : ℕ) → k < length l.choices.items → none (first_choice l) (needs_in g.rows (choice_number l k))
+    choice_below k b =
+        let c = there_in l.choices.items k b in
+        rw (row_of_choice k (c.0) (c.1) b) (row_low l (first_choice l) (rows.choice l k (c.0)) (omega arith) (choice_low l (first_choice l) (omega arith) k (c.0) (omega (arith, b))))
+
+    -- the number of a node behind a first one
+    moved : (first r t : ℕ) → first ≤ r → Contains (needs_in g.rows r) t → Contains (needs_in g.rows (first + (r - first))) t
+    moved first r t h c = let at : first + (r - first) ≡ r = omega (arith, h) in subst (λ k. Contains (needs_in g.rows k) t) (sym at) c
 
     group_below : (r t : ℕ) → length l.symbols.items ≤ r → r < node_count l → Contains (needs_in g.rows r) t → t < r
     group_below r t low b c =
-        elim (cases_lt r (first_choice l)) [
-          | inl context ↦
-              let i = r - length l.symbols.items in
-              let at : length l.symbols.items + (r - length l.symbols.items) ≡ r = omega arith in
-              let c' = subst (λ k. Contains (needs_in g.rows k) t) (sym at) c in
-              let h = below (length l.symbols.items + i) (needs_in g.rows (length l.symbols.items + i)) t (context_below_own i (omega arith)) c' in
-              omega (arith, h)
-          | inr choice ↦
-              let k = r - first_choice l in
-              let at : choice_number l (r - first_choice l) ≡ r = omega arith in
-              let c' = subst (λ j. Contains (needs_in g.rows j) t) (sym at) c in
-              let h = below (first_choice l) (needs_in g.rows (choice_number l k)) t (choice_row_below k (omega arith)) c' in
-              omega (arith, h)
+        elim (cases_lt r (first_context l)) [
+          | inl menu ↦
+              let v = r - length l.symbols.items in
+              let h = below (visible_number l v) (needs_in g.rows (visible_number l v)) t (visible_below v (omega (arith, menu, low))) (moved (length l.symbols.items) r t low c) in
+              omega (arith, h, low)
+          | inr more ↦ elim (cases_lt r (first_dependency l)) [
+            | inl entry ↦
+                let at = r - first_context l in
+                let h = below (context_number l at) (needs_in g.rows (context_number l at)) t (context_below at (omega (arith, entry, more))) (moved (first_context l) r t more c) in
+                omega (arith, h, more)
+            | inr behind ↦ elim (cases_lt r (first_choice l)) [
+              | inl own ↦
+                  let k = r - first_dependency l in
+                  let h = below (first_dependency l) (needs_in g.rows (dependency_number l k)) t (dependency_below k (omega (arith, own, behind))) (moved (first_dependency l) r t behind c) in
+                  omega (arith, h, behind)
+              | inr choice ↦
+                  let k = r - first_choice l in
+                  let h = below (first_choice l) (needs_in g.rows (choice_number l k)) t (choice_below k (omega (arith, choice, b))) (moved (first_choice l) r t choice c) in
+                  omega (arith, h, choice)
+            ]
+          ]
         ]
 
     pub is_graph : IsGraph g
     is_graph = record {
       symbols_there = omega (arith, made.symbols_are, made.count);
       within = λ s t b c. elim (cases_lt s (length l.symbols.items)) [
-        | inl h ↦ let d = below (node_count l) (needs_in g.rows s) t (symbol_row_below s h) c in omega (arith, d, made.count)
+        | inl h ↦ let d = below (node_count l) (needs_in g.rows s) t (symbol_below s h) c in omega (arith, d, made.count)
         | inr h ↦ let d = group_below s t h (omega (arith, made.count)) c in omega (arith, d)
       ];
       goes_down = λ r t low b c. group_below r t (omega (arith, made.symbols_are)) (omega (arith, made.count)) c;

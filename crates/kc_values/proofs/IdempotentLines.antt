@@ -1,30 +1,12 @@
 -- The written values as the user's give the values again where no symbol changes on rereading.
-use Rattle.std.proofs.Common.{◌≡◌, ℕ, Bool, true, false, List, [], ◌∷◌, sym, ◌∙◌, ap, inl, inr, refl, cond, not, ◌&&◌, ◌||◌, Option, Some, None, ◌⊎◌, ◌<◌, zero, suc, arith, unwrap_or, subst}
-use Rattle.std.specs.List.{Contains, find}
-use Rattle.std.specs.Prelude.{option_map}
-use Rattle.std.proofs.lemmas.Bool.{cases_Bool, true≢false, and_parts, and_right, and_from}
-use Rattle.kc_language.specs.declared.expressions.SymId.{SymId}
-use Rattle.kc_language.specs.declared.expressions.Tri.{Tri}
-use Rattle.kc_language.specs.declared.expressions.Tri.TheVariants.{N, M, Y}
-use Rattle.kc_language.specs.declared.expressions.SymbolType.{SymbolType}
-use Rattle.kc_language.specs.declared.expressions.SymbolType.TheVariants.{Undefined, Bool as IsBool, Tristate, Str, Int, Hex}
-use Rattle.kc_language.specs.Expressions.{SymbolValue, Truth, TextValue, greater, lesser, truth_of_value, symbol}
-use Rattle.kc_language.specs.Symbols.{SymbolFacts, ChoiceFacts, TreeFacts, is_symbol_of}
-use Rattle.kc_language.specs.declared.values.Interval.{Interval}
-use Rattle.kc_language.specs.Values.{Solves, facts, choice_at, is_within_range, if_within_range, clamped, GivenValue, GivenTruth, GivenText, Member, UserPlace, SymbolPlace, ChoicePlace, is_yes, is_n, upgrade, name_count, known_from, rhs, equations, above, given_of, changes_on_reread}
+use Rattle.std.proofs.{Common.{Bool, List, None, Option, Some, [], ap, arith, cond, false, inl, inr, not, refl, subst, suc, sym, true, unwrap_or, zero, ℕ, ◌&&◌, ◌<◌, ◌||◌, ◌∙◌, ◌∷◌, ◌≡◌, ◌⊎◌}, lemmas.Bool.{and_from, and_parts, and_right, cases_Bool, true≢false}}
+use Rattle.std.specs.{List.{Contains, find}, Prelude.option_map}
+use Rattle.kc_language.specs.{Expressions.{SymbolValue, TextValue, Truth, greater, lesser, symbol, truth_of_value}, Symbols.{ChoiceFacts, SymbolFacts, TreeFacts, is_symbol_of}, Values.{ChoicePlace, GivenText, GivenTruth, GivenValue, Member, Solves, SymbolPlace, UserPlace, above, changes_on_reread, changes_on_reread_truth, choice_at, clamped, equations, facts, given_of, if_within_range, is_n, is_within_range, is_yes, known_from, name_count, rhs, upgrade}, declared.{expressions.{SymId.SymId, SymbolType.{SymbolType, TheVariants.{Bool as IsBool, Hex, Int, Str, Tristate, Undefined}}, Tri.{TheVariants.{M, N, Y}, Tri}}, values.Interval.Interval}}
 use Rattle.kc_language.specs.Values as v
 use Rattle.kc_values.specs.PartsOfValues as v_parts
-use Rattle.kc_user.specs.Places.{is_m, allowed_truth, allowed_text, allowed_by, allowed_for, allowed, members_of, AllowedPlaces}
-use Rattle.kc_values.specs.GivenLines.{reread_places}
-use Rattle.kc_values.specs.Laws.{IdempotentWhere}
-use Rattle.kc_values.specs.Members.{MembersAreTheirs}
-use Rattle.kc_values.proofs.TruthLines.{upgrade_if, outcome, base_of, line_keeps}
-use Rattle.kc_values.proofs.Selection.{found, selected_again, none_selected, selected_member, selected_visible}
-use Rattle.kc_values.proofs.FixedLines.{member_at, place_cases, place_of_member, names_itself, named, Sel, member_now}
-use Rattle.kc_values.proofs.ModeLaws.{members_are_theirs}
-use Rattle.kc_language.specs.Values.{changes_on_reread_truth}
-use Rattle.kc_values.specs.PartsOfValues.{changes_on_reread_by}
-use Rattle.kc_values.specs.PartsOfValues.{by_choice}
+use Rattle.kc_user.specs.Places.{AllowedPlaces, allowed, allowed_by, allowed_for, allowed_text, allowed_truth, is_m, members_of}
+use Rattle.kc_values.specs.{GivenLines.reread_places, Laws.IdempotentWhere, Members.MembersAreTheirs, PartsOfValues.{by_choice, changes_on_reread_by}}
+use Rattle.kc_values.proofs.{FixedLines.{Sel, member_at, member_now, named, names_itself, place_cases, place_of_member}, ModeLaws.members_are_theirs, Selection.{found, none_selected, selected_again, selected_member, selected_visible}, TruthLines.{base_of, line_keeps, outcome, upgrade_if}}
 
 -- the same, and unchanged on rereading; or another, and changed
 abbrev pub Keeps : SymbolValue → SymbolValue → Bool → Type 0

@@ -1,14 +1,7 @@
 -- Steps of the code, over plain values.
-use Rattle.std.proofs.Common.{◌≡◌, ℕ, List, [], ◌∷◌, ◌++◌, append_assoc, Bool, true, false, cond, is_some, Option, None, Some, refl, sym, ◌∙◌, ap}
-use Rattle.kc_language.specs.Symbols.{Warning, SymbolFacts, TreeFacts}
-use Rattle.kc_language.specs.declared.expressions.SymId.{SymId}
-use Rattle.kc_language.specs.declared.expressions.Tri.{Tri}
-use Rattle.kc_language.specs.declared.expressions.SymbolType.{SymbolType}
-use Rattle.kc_language.specs.Expressions.{SymbolValue}
-use Rattle.kc_language.specs.declared.symbols.ChoiceId.{ChoiceId}
-use Rattle.kc_tree.specs.Contexts.{mode_view}
-use Rattle.kc_language.specs.Values.{GivenValue, if_within_range, above}
-use Rattle.kc_language.specs.declared.values.Interval.{Interval}
+use Rattle.std.proofs.Common.{Bool, List, None, Option, Some, [], ap, append_assoc, cond, false, is_some, refl, sym, true, ℕ, ◌++◌, ◌∙◌, ◌∷◌, ◌≡◌}
+use Rattle.kc_language.specs.{Expressions.SymbolValue, Symbols.{SymbolFacts, TreeFacts, Warning}, Values.{GivenValue, above, if_within_range}, declared.{expressions.{SymId.SymId, SymbolType.SymbolType, Tri.Tri}, symbols.ChoiceId.ChoiceId, values.Interval.Interval}}
+use Rattle.kc_tree.specs.Places.{mode_view}
 use Rattle.kc_language.specs.Values as v
 use Rattle.kc_language.specs.Texts as w
 use Rattle.kc_values.specs.PartsOfTexts as w_parts
@@ -28,11 +21,11 @@ module _ (tree : TreeFacts) (k : SymId → SymbolValue) where
       e6 ∙ ap (λ x. old ++ x ∷ []) this ∙ ap (λ b. old ++ cond b (w_parts.selected_warning name R D ∷ []) []) (sym yes)
 
   -- a bool or tristate outside a choice
-  pub truth_warned : (name told : List ℕ) (f : SymbolFacts) (choice : Option ℕ) (user : Option GivenValue) (symbol_type : SymbolType) →
+  pub truth_warned : (told : List ℕ) (f : SymbolFacts) (choice : Option ℕ) (user : Option GivenValue) (symbol_type : SymbolType) →
       w.warnings_by_type tree k told f symbol_type user ≡ w.select_warnings tree k told f → f.symbol_type ≡ symbol_type →
-      choice ≡ None → name ≡ told → w.select_warnings tree k name f ≡ w_parts.warnings_by_choice tree k told f choice user
-  truth_warned name told f choice user symbol_type by_type e1 e2 e3 =
-      ap (λ n. w.select_warnings tree k n f) e3 ∙ sym by_type ∙ ap (λ x. w.warnings_by_type tree k told f x user) (sym e1) ∙ ap (λ c. w_parts.warnings_by_choice tree k told f c user) (sym e2)
+      choice ≡ None → w.select_warnings tree k told f ≡ w_parts.warnings_by_choice tree k told f choice user
+  truth_warned told f choice user symbol_type by_type e1 e2 =
+      sym by_type ∙ ap (λ x. w.warnings_by_type tree k told f x user) (sym e1) ∙ ap (λ c. w_parts.warnings_by_choice tree k told f c user) (sym e2)
 
   pub range_joined : (name : List ℕ) (f : SymbolFacts) (user : Option GivenValue) (range : Option Interval) (vis : Tri) (given used default : Option (List ℕ))
       (old mid new : List Warning) → range ≡ v.active_range tree k f → vis ≡ v.visibility tree k f → given ≡ v.visible_text user vis → used ≡ if_within_range f.symbol_type range given →

@@ -1,31 +1,22 @@
 -- What a tree says of a symbol and a choice is what the rows of its layout say.
-use Rattle.std.proofs.Common.{length, ◌≡◌, ℕ, List, Option, Some, None, refl, sym, ap, ◌∙◌}
-use Rattle.std.specs.List.{slice_get}
-use Rattle.std.specs.Prelude.{option_map}
-use Rattle.std.proofs.lemmas.Option.{slice_get-map}
-use Rattle.kc_language.specs.declared.expressions.SymbolType.{SymbolType}
-use Rattle.kc_language.specs.declared.expressions.SymbolType.TheVariants.{Undefined}
-use Rattle.kc_tree.specs.declared.layout.Layout.{Layout}
-use Rattle.kc_tree.specs.declared.rows.Choice.{Choice}
-use Rattle.kc_tree.specs.declared.rows.Symbol.{Symbol}
-use Rattle.kc_tree.specs.Layouts.{IsLayoutOf, facts_of, facts_at, choice_facts}
-use Rattle.kc_language.specs.Symbols.{SymbolFacts, ChoiceFacts, TreeFacts}
-use Rattle.kc_tree.proofs.TreeLemmas.{symbols-at, symbols-length}
-use Rattle.kc_language.specs.Values.{type_in}
+use Rattle.std.proofs.Common.{None, Option, Some, ap, length, refl, sym, ℕ, ◌∙◌, ◌≡◌}
+use Rattle.std.specs.{List.slice_get, Prelude.option_map}
+use Rattle.kc_language.specs.{Symbols.TreeFacts, Values.type_in, declared.expressions.SymbolType.{SymbolType, TheVariants.Undefined}}
+use Rattle.kc_tree.specs.{Layouts.{IsLayoutOf, choice_facts, facts_of}, declared.{layout.Layout.Layout, rows.{Choice.Choice, Symbol.Symbol}}}
 
 module _ (tree : TreeFacts) (l : Layout) (laid : IsLayoutOf tree l) where
-  pub facts_laid : (i : ℕ) → slice_get tree.symbols i ≡ facts_at l i
-  facts_laid i = ap (λ (fs : List SymbolFacts). slice_get fs i) laid.symbols ∙ symbols-at l i
+  pub facts_laid : (i : ℕ) → slice_get tree.symbols i ≡ option_map (facts_of l i) (slice_get l.symbols.items i)
+  facts_laid i = laid.symbols i
 
   pub symbols_count : length tree.symbols ≡ length l.symbols.items
-  symbols_count = ap length laid.symbols ∙ symbols-length l
+  symbols_count = laid.symbol_count
 
-  pub choices_laid : (k : ℕ) → slice_get tree.choices k ≡ option_map (choice_facts l.tables) (slice_get l.tables.choices.items k)
-  choices_laid k = ap (λ (cs : List ChoiceFacts). slice_get cs k) laid.choices ∙ slice_get-map (choice_facts l.tables) l.tables.choices.items k
+  pub choices_laid : (k : ℕ) → slice_get tree.choices k ≡ option_map (choice_facts l k) (slice_get l.choices.items k)
+  choices_laid k = laid.choices k
 
   -- the row of a choice that was found, or not
-  pub choice_found : (k : ℕ) (o : Option Choice) → o ≡ slice_get l.tables.choices.items k → option_map (choice_facts l.tables) o ≡ slice_get tree.choices k
-  choice_found k o e = ap (option_map (choice_facts l.tables)) e ∙ sym (choices_laid k)
+  pub choice_found : (k : ℕ) (o : Option Choice) → o ≡ slice_get l.choices.items k → option_map (choice_facts l k) o ≡ slice_get tree.choices k
+  choice_found k o e = ap (option_map (choice_facts l k)) e ∙ sym (choices_laid k)
 
   -- the same of a symbol
   pub symbol_found : (i : ℕ) (o : Option Symbol) → o ≡ slice_get l.symbols.items i → option_map (facts_of l i) o ≡ slice_get tree.symbols i

@@ -1,16 +1,8 @@
 -- What a well-formed tree says of its choices.
-use Rattle.std.proofs.Common.{◌≡◌, Some, refl, sym, ◌∙◌, ap}
-use Rattle.std.proofs.lemmas.Option.{slice_get_within}
-use Rattle.std.proofs.lemmas.List.Elements.{All-contains}
-use Rattle.kc_language.specs.declared.expressions.Tri.{Tri}
-use Rattle.kc_language.specs.declared.expressions.Tri.TheVariants.{N, M, Y}
-use Rattle.kc_language.specs.Expressions.{lesser}
-use Rattle.kc_language.specs.Symbols.{SymbolFacts, TreeFacts}
-use Rattle.kc_tree.specs.TreeFacts.{IsMemberOf, IsWellFormed}
-use Rattle.kc_language.specs.Values.{and_value}
-use Rattle.kc_values.specs.PartsOfValues.{mode_value, prompt_value}
-use Rattle.kc_values.specs.Laws.{ModeIsPromptCondition}
-use Rattle.kc_values.specs.Members.{MembersAreBools, MembersAreTheirs}
+use Rattle.std.proofs.{Common.{Some, ap, refl, sym, ◌∙◌, ◌≡◌}, lemmas.{List.Elements.All-contains, Option.slice_get_within}}
+use Rattle.kc_language.specs.{Expressions.lesser, Symbols.{SymbolFacts, TreeFacts}, Values.and_value, declared.expressions.Tri.{TheVariants.{M, N, Y}, Tri}}
+use Rattle.kc_entries.specs.WellFormed.{IsMemberOf, IsWellFormed}
+use Rattle.kc_values.specs.{Laws.ModeIsPromptCondition, Members.{MembersAreBools, MembersAreTheirs}, PartsOfValues.{mode_value, prompt_value}}
 
 least-y : (a : Tri) → lesser a Y ≡ a
 least-y N = refl

@@ -1,26 +1,12 @@
 -- What the lines of the list of new symbols give to the values.
-use Rattle.std.proofs.Common.{◌≡◌, ◌⊎◌, ℕ, ◌<◌, ◌↔◌, Bool, true, false, not, ◌&&◌, ◌||◌, cond, Option, Some, None, is_some, refl, sym, ap, subst, ◌∙◌, inl, inr}
-use Rattle.std.specs.Option.{option_map_or}
-use Rattle.std.specs.Prelude.{option_map}
-use Rattle.std.proofs.lemmas.Bool.{and_from, and_parts, cases_Bool, lt-ltb, or_cases, true≢false}
-use Rattle.kc_language.specs.Expressions.{SymbolValue, TextValue, Truth, greater, symbol, truth_of_value}
-use Rattle.kc_language.specs.Symbols.{SymbolFacts, TreeFacts, is_symbol_of}
-use Rattle.kc_language.specs.Texts.{has_value}
-use Rattle.kc_language.specs.declared.expressions.SymId.{SymId}
-use Rattle.kc_language.specs.declared.expressions.SymbolType.{SymbolType}
-use Rattle.kc_language.specs.declared.expressions.SymbolType.TheVariants.{Bool as IsBool, Hex, Int, Str, Tristate, Undefined}
-use Rattle.kc_language.specs.declared.expressions.Tri.{Tri}
-use Rattle.kc_language.specs.declared.expressions.Tri.TheVariants.{M, N, Y}
+use Rattle.std.proofs.{Common.{Bool, None, Option, Some, ap, cond, false, inl, inr, is_some, not, refl, subst, sym, true, ℕ, ◌&&◌, ◌<◌, ◌||◌, ◌↔◌, ◌∙◌, ◌≡◌, ◌⊎◌}, lemmas.Bool.{and_from, and_parts, cases_Bool, lt-ltb, or_cases, true≢false}}
+use Rattle.std.specs.{Option.option_map_or, Prelude.option_map}
+use Rattle.kc_language.specs.{Expressions.{SymbolValue, TextValue, Truth, greater, symbol, truth_of_value}, Symbols.{SymbolFacts, TreeFacts, is_symbol_of}, Texts.has_value, Values.{ChoicePlace, GivenTruth, GivenValue, Member, Solves, SymbolPlace, UserPlace, changes_on_reread, changes_on_reread_truth, choice_at, equations, facts, given_of, is_chosen, is_n, known_from, name_count, rhs, same_tri, selection, user_place}, declared.expressions.{SymId.SymId, SymbolType.{SymbolType, TheVariants.{Bool as IsBool, Hex, Int, Str, Tristate, Undefined}}, Tri.{TheVariants.{M, N, Y}, Tri}}}
 use Rattle.kc_language.specs.Values as v
-use Rattle.kc_language.specs.Values.{ChoicePlace, GivenTruth, GivenValue, Member, Solves, SymbolPlace, UserPlace, changes_on_reread, changes_on_reread_truth, choice_at, equations, facts, given_of, is_chosen, is_n, known_from, name_count, rhs, same_tri, selection, user_place}
 use Rattle.kc_values.specs.PartsOfValues as v_parts
-use Rattle.kc_values.specs.PartsOfValues.{by_choice}
+use Rattle.kc_values.specs.{GivenLines.{is_listed, listed_place}, Laws.NewLinesKeep, PartsOfValues.by_choice}
 use Rattle.kc_user.specs.Places.{AllowedPlaces, allowed}
-use Rattle.kc_values.specs.GivenLines.{is_listed, listed_place}
-use Rattle.kc_values.specs.Laws.{NewLinesKeep}
-use Rattle.kc_values.proofs.FixedLines.{member_at, member_now, names_itself, place_cases, place_of_member}
-use Rattle.kc_values.proofs.IdempotentLines.{Keeps, Settling, member_fixed, not_tristate, settles_facts, user_or_hidden}
-use Rattle.kc_values.proofs.Selection.{selected_again}
+use Rattle.kc_values.proofs.{FixedLines.{member_at, member_now, names_itself, place_cases, place_of_member}, IdempotentLines.{Keeps, Settling, member_fixed, not_tristate, settles_facts, user_or_hidden}, Selection.selected_again}
 
 none_given : (o : Option GivenValue) → not (is_some o) ≡ true → o ≡ None
 none_given None e = refl

@@ -1,33 +1,11 @@
 -- A symbol is new exactly if its question can be answered.
-use Rattle.std.proofs.Common.{◌≡◌, ◌≢◌, ℕ, suc, ◌↔◌, Bool, true, false, not, ◌&&◌, ◌||◌, cond, List, [], ◌∷◌, Option, Some, None, is_some, length, pos, refl, sym, ap, subst, ◌∙◌, inl, inr, arith}
-use Rattle.std.specs.Prelude.{bytes_eq, int_lt, nat_le, option_map, unwrap_or, ℤ}
-use Rattle.std.specs.Cmp.Lexicographic.{same_text}
-use Rattle.std.specs.List.{Contains, find, list_any}
-use Rattle.std.specs.Option.{option_map_or, option_or, option_and_then}
-use Rattle.std.proofs.lemmas.Bool.{and_from, and_parts, cases_Bool, false_from_ne_true, lt-ltb, true_from_ne_false, not_from_false, or_cases, or_left, or_right, true≢false}
-use Rattle.std.proofs.lemmas.List.Folds.{list_any_at}
-use Rattle.kc_language.specs.Expressions.{SymbolValue, TextValue, Truth, same_symbol, symbol, text, truth_of_value}
-use Rattle.kc_language.specs.Symbols.{Bounds, ChoiceFacts, Guarded, SymbolFacts, TreeFacts, is_symbol_of}
-use Rattle.kc_language.specs.Text.{longest_value}
-use Rattle.kc_language.specs.declared.expressions.SymId.{SymId}
-use Rattle.kc_language.specs.declared.expressions.SymbolType.{SymbolType}
-use Rattle.kc_language.specs.declared.expressions.SymbolType.TheVariants.{Bool as IsBool, Hex, Int, Str, Tristate, Undefined}
-use Rattle.kc_language.specs.declared.expressions.Tri.{Tri}
-use Rattle.kc_language.specs.declared.expressions.Tri.TheVariants.{M, N, Y}
-use Rattle.kc_language.specs.declared.values.Interval.{Interval}
+use Rattle.std.proofs.{Common.{Bool, List, None, Option, Some, [], ap, arith, cond, false, inl, inr, is_some, length, not, pos, refl, subst, suc, sym, true, ℕ, ◌&&◌, ◌||◌, ◌↔◌, ◌∙◌, ◌∷◌, ◌≡◌, ◌≢◌}, lemmas.{Bool.{and_from, and_parts, cases_Bool, false_from_ne_true, lt-ltb, not_from_false, or_cases, or_left, or_right, true_from_ne_false, true≢false}, List.Folds.list_any_at}}
+use Rattle.std.specs.{Cmp.Lexicographic.same_text, List.{Contains, find, list_any}, Option.{option_and_then, option_map_or, option_or}, Prelude.{bytes_eq, int_lt, nat_le, option_map, unwrap_or, ℤ}}
+use Rattle.kc_language.specs.{Expressions.{SymbolValue, TextValue, Truth, same_symbol, symbol, text, truth_of_value}, Symbols.{Bounds, ChoiceFacts, Guarded, SymbolFacts, TreeFacts, is_symbol_of}, Text.longest_value, Values.{ChoicePlace, GivenText, GivenTruth, GivenValue, Member, SymbolPlace, UserPlace, given_of, is_n, known_from, name_count, number_or_zero, same_given, same_tri}, declared.{expressions.{SymId.SymId, SymbolType.{SymbolType, TheVariants.{Bool as IsBool, Hex, Int, Str, Tristate, Undefined}}, Tri.{TheVariants.{M, N, Y}, Tri}}, values.Interval.Interval}}
 use Rattle.kc_language.specs.Values as v
-use Rattle.kc_language.specs.Values.{ChoicePlace, GivenText, GivenTruth, GivenValue, Member, SymbolPlace, UserPlace, given_of, is_n, known_from, name_count, number_or_zero, same_given, same_tri}
-use Rattle.kc_values.specs.PartsOfValues.{user_place_by, user_place_of, visible_facts}
+use Rattle.kc_values.specs.{Laws.NewCanBeAnswered, PartsOfValues.{by_choice, chosen_member, text_equation, unselected, user_place_by, user_place_of, visible_facts}}
 use Rattle.kc_user.specs.Places.{allowed_by, allowed_for, allowed_text, members_of}
-use Rattle.kc_values.specs.Laws.{NewCanBeAnswered}
-use Rattle.kc_values.proofs.NumberTexts.{TwoTexts, hex_texts_of, int_texts}
-use Rattle.kc_values.proofs.Same.{same_symbol-true, same_symbol_itself}
-use Rattle.kc_values.proofs.SameValue.{same_text_itself}
-use Rattle.kc_values.proofs.Selection.{in_list}
-use Rattle.kc_values.specs.PartsOfValues.{by_choice}
-use Rattle.kc_values.specs.PartsOfValues.{text_equation}
-use Rattle.kc_values.specs.PartsOfValues.{unselected}
-use Rattle.kc_values.specs.PartsOfValues.{chosen_member}
+use Rattle.kc_values.proofs.{NumberTexts.{TwoTexts, hex_texts_of, int_texts}, Same.{same_symbol-true, same_symbol_itself}, SameValue.same_text_itself, Selection.in_list}
 
 -- ---- booleans and texts
 

@@ -1,17 +1,7 @@
 -- Each number in the limits of its type is written by two short texts.
-use Rattle.std.proofs.Common.{◌≡◌, ℕ, zero, suc, ◌<◌, ◌≤◌, ◌+◌, ◌^◌, Bool, true, false, cond, List, [], ◌∷◌, length, Option, Some, None, drop, pos, refl, sym, ap, arith}
-use Rattle.std.specs.Prelude.{bytes_eq, nat_le, nat_lt, option_map, unwrap_or, ℤ, ◌==◌, ◌/◌, ◌%◌}
-use Rattle.std.specs.Char.{digit_value, is_digit}
-use Rattle.std.specs.Fmt.{digit_glyph, digits, digits_onto}
-use Rattle.std.specs.Str.Parse.{AllDigits, digits_value, starts_with_minus}
-use Rattle.std.proofs.lemmas.Bool.{and_from, and_parts, lt-ltb, ltb-true}
-use Rattle.std.proofs.lemmas.Fmt.{digits_is_IsNumeral}
-use Rattle.std.proofs.lemmas.Bool.{false_from_ne_true, le-leb}
-use Rattle.std.specs.Cmp.Lexicographic.{same_text}
-use Rattle.kc_language.specs.Text.{natural_of, longest_value}
-use Rattle.kc_language.specs.Values.{number_as, number_or_zero}
-use Rattle.kc_language.specs.declared.expressions.SymbolType.{SymbolType}
-use Rattle.kc_language.specs.declared.expressions.SymbolType.TheVariants.{Hex, Int}
+use Rattle.std.proofs.{Common.{Bool, List, None, Option, Some, [], ap, arith, cond, drop, false, length, pos, refl, suc, sym, true, zero, ℕ, ◌+◌, ◌<◌, ◌^◌, ◌∷◌, ◌≡◌, ◌≤◌}, lemmas.{Bool.{and_from, and_parts, false_from_ne_true, le-leb, lt-ltb, ltb-true}, Fmt.digits_is_IsNumeral}}
+use Rattle.std.specs.{Char.{digit_value, is_digit}, Cmp.Lexicographic.same_text, Fmt.{digit_glyph, digits, digits_onto}, Prelude.{bytes_eq, nat_le, nat_lt, option_map, unwrap_or, ℤ, ◌%◌, ◌/◌, ◌==◌}, Str.Parse.{AllDigits, digits_value, starts_with_minus}}
+use Rattle.kc_language.specs.{Text.{longest_value, natural_of}, Values.{number_as, number_or_zero}, declared.expressions.SymbolType.{SymbolType, TheVariants.{Hex, Int}}}
 use Rattle.kc_text.specs.PartsOfText.{all_digits, is_numeral, negated, without_hex_prefix}
 
 onto_short : (k base n : ℕ) (upper : Bool) (acc : List ℕ) → length (digits_onto k base upper n acc) ≤ k + length acc

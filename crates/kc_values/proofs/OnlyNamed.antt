@@ -1,33 +1,15 @@
 -- An equation reads only what it names.
-use Rattle.std.proofs.Common.{◌≡◌, ℕ, Bool, true, false, List, [], ◌∷◌, ◌++◌, refl, sym, ◌∙◌, ap, map, not, Option, None, Some, ◌&&◌, cond, ◌||◌, inl, inr, arith, suc}
-use Rattle.std.specs.List.{AllByRecursion, flat_map, list_any, filter, Contains}
-use Rattle.std.proofs.lemmas.Bool.{cases_Bool, true≢false}
-use Rattle.std.proofs.lemmas.List.Elements.{All-from_recursion}
-use Rattle.kc_language.specs.declared.expressions.SymId.{SymId}
-use Rattle.kc_language.specs.declared.expressions.Tri.{Tri}
-use Rattle.kc_language.specs.declared.expressions.Tri.TheVariants.{N, M, Y}
-use Rattle.kc_language.specs.declared.expressions.SymbolType.{SymbolType}
-use Rattle.kc_language.specs.declared.expressions.SymbolType.TheVariants.{Undefined, Bool as IsBool, Tristate, Str, Int, Hex}
-use Rattle.kc_language.specs.Expressions.{Form, Leaf, Text, Symbol, Single, Related, Negated, LoneM, Every, Some_of, symbols, leaf_symbols, SymbolValue, Truth, TextValue, value, text, least, greatest, lesser, greater, truth_of_value, symbol, same_symbol}
-use Rattle.kc_expr.specs.PartsOfExpressions.{text_of_value}
-use Rattle.kc_expr.specs.Value.{DependsOnSymbols}
-use Rattle.kc_language.specs.Symbols.{Condition, Guarded, Bounds, SymbolFacts, ChoiceFacts, TreeFacts, is_symbol_of, listed}
-use Rattle.kc_language.specs.declared.values.Interval.{Interval}
-use Rattle.kc_language.specs.Values.{facts, name, choice_at, number_or_zero, GivenValue, GivenTruth, GivenText, Member, UserPlace, is_n, upgrade, user_place, known_from, equations}
-use Rattle.kc_values.specs.PartsOfValues.{is_mentioned}
+use Rattle.std.proofs.{Common.{Bool, List, None, Option, Some, [], ap, arith, cond, false, inl, inr, map, not, refl, suc, sym, true, ℕ, ◌&&◌, ◌++◌, ◌||◌, ◌∙◌, ◌∷◌, ◌≡◌}, lemmas.{Bool.{cases_Bool, true≢false}, List.Elements.All-from_recursion}}
+use Rattle.std.specs.List.{AllByRecursion, Contains, filter, flat_map, list_any}
+use Rattle.kc_language.specs.{Expressions.{Every, Form, Leaf, LoneM, Negated, Related, Single, Some_of, Symbol, SymbolValue, Text, TextValue, Truth, greater, greatest, leaf_symbols, least, lesser, same_symbol, symbol, symbols, text, truth_of_value, value}, Needs.{names_of_number, needs_of}, Symbols.{Bounds, ChoiceFacts, Condition, Guarded, SymbolFacts, TreeFacts, is_symbol_of, listed}, Values.{GivenText, GivenTruth, GivenValue, Member, UserPlace, choice_at, equations, facts, is_n, known_from, name, number_or_zero, upgrade, user_place}, declared.{expressions.{SymId.SymId, SymbolType.{SymbolType, TheVariants.{Bool as IsBool, Hex, Int, Str, Tristate, Undefined}}, Tri.{TheVariants.{M, N, Y}, Tri}}, values.Interval.Interval}}
+use Rattle.kc_expr.specs.{PartsOfExpressions.text_of_value, Value.DependsOnSymbols}
+use Rattle.kc_values.specs.{PartsOfNeeds.mode_names, PartsOfValues.{by_choice, chosen_member, is_mentioned, text_equation, unselected}}
 use Rattle.kc_language.specs.Values as v
 use Rattle.kc_values.specs.PartsOfValues as v_parts
 use Rattle.kc_language.specs.Needs as n
 use Rattle.kc_values.specs.PartsOfNeeds as n_parts
-use Rattle.kc_language.specs.Needs.{needs_of}
 use Rattle.kc_order.specs.Solution.{ReadsNeeds}
-use Rattle.kc_values.proofs.Same.{front_of, back_of, map_same, found_same, same_symbol-true}
-use Rattle.kc_language.specs.Needs.{names_of_number}
-use Rattle.kc_values.specs.PartsOfNeeds.{mode_names}
-use Rattle.kc_values.specs.PartsOfValues.{by_choice}
-use Rattle.kc_values.specs.PartsOfValues.{text_equation}
-use Rattle.kc_values.specs.PartsOfValues.{unselected}
-use Rattle.kc_values.specs.PartsOfValues.{chosen_member}
+use Rattle.kc_values.proofs.Same.{back_of, found_same, front_of, map_same, same_symbol-true}
 
 module _ (law : DependsOnSymbols) (tree : TreeFacts) (k l : SymId → SymbolValue) where
   abbrev Same : SymId → Type 0

@@ -1,86 +1,63 @@
--- Steps of the loops over the definitions of a symbol and over the lines that select it.
-use Rattle.std.proofs.Common.{◌≡◌, ℕ, ◌<◌, ◌+◌, List, [], ◌∷◌, ◌++◌, zero, suc, length, take, Option, Some, None, refl, sym, ap, ◌∙◌, arith, append-nil, append_assoc, add-one}
-use Rattle.std.specs.Prelude.{slice_get, is_some, false}
-use Rattle.std.specs.Option.{option_and_then}
-use Rattle.std.specs.List.{filter_map, flat_map, cons_option}
-use Rattle.std.proofs.lemmas.Grind.{flat_map-append}
-use Rattle.kc_language.specs.declared.expressions.SymId.{SymId}
-use Rattle.kc_language.specs.Symbols.{listed}
-use Rattle.kc_values.specs.declared.needs.NeedRow.{NeedRow}
-use Rattle.kc_values.specs.MadeRows.{Adds}
-
-cons_some : {Y : Type 0} (o : Option Y) → cons_option o [] ≡ listed o
-cons_some None = refl
-cons_some (Some y) = refl
-
-cons_before : {Y : Type 0} (o : Option Y) (xs ys : List Y) → cons_option o (xs ++ ys) ≡ cons_option o xs ++ ys
-cons_before None xs ys = refl
-cons_before (Some y) xs ys = refl
-
--- what is found of one place more
-filter_map_next : {X Y : Type 0} (h : X → Option Y) (xs : List X) (i : ℕ) → i < length xs →
-    filter_map h (take (suc i) xs) ≡ filter_map h (take i xs) ++ listed (option_and_then h (slice_get xs i))
-filter_map_next h [] i l = absurd (omega arith)
-filter_map_next h (x ∷ xs) zero l = cons_some (h x)
-filter_map_next h (x ∷ xs) (suc i) l =
-    ap (cons_option (h x)) (filter_map_next h xs i (omega arith))
-    ∙ cons_before (h x) (filter_map h (take i xs)) (listed (option_and_then h (slice_get xs i)))
-
-module _ {X Y Z : Type 0} (f : Y → List Z) (h : X → Option Y) (xs : List X) (i : ℕ) (l : i < length xs) where
-  one_more : flat_map f (filter_map h (take (i + 1) xs)) ≡ flat_map f (filter_map h (take i xs)) ++ flat_map f (listed (option_and_then h (slice_get xs i)))
-  one_more =
-      ap (λ k. flat_map f (filter_map h (take k xs))) (add-one i)
-      ∙ ap (flat_map f) (filter_map_next h xs i l)
-      ∙ flat_map-append f (filter_map h (take i xs)) (listed (option_and_then h (slice_get xs i)))
-
-  pub found_more : (y : Y) → option_and_then h (slice_get xs i) ≡ Some y →
-      flat_map f (filter_map h (take (i + 1) xs)) ≡ flat_map f (filter_map h (take i xs)) ++ f y
-  found_more y e =
-      one_more ∙ ap (λ o. flat_map f (filter_map h (take i xs)) ++ flat_map f (listed o)) e
-      ∙ ap (λ ys. flat_map f (filter_map h (take i xs)) ++ ys) (append-nil (f y))
-
-  pub none_more : option_and_then h (slice_get xs i) ≡ None → flat_map f (filter_map h (take (i + 1) xs)) ≡ flat_map f (filter_map h (take i xs)) ++ []
-  none_more e = one_more ∙ ap (λ o. flat_map f (filter_map h (take i xs)) ++ flat_map f (listed o)) e
-
--- a list that grew by parts
-module _ {X : Type 0} (now mid next a b : List X) (e : mid ≡ now ++ a) where
-  joined : next ≡ mid ++ b → next ≡ now ++ (a ++ b)
-  joined f = f ∙ ap (λ x. x ++ b) e ∙ append_assoc now a b
-
-module _ {X : Type 0} (start now next xs a all : List X) (e : now ≡ start ++ xs) where
-  grown : next ≡ now ++ a → all ≡ xs ++ a → next ≡ start ++ all
-  grown f g = f ∙ ap (λ x. x ++ a) e ∙ append_assoc start xs a ∙ ap (λ x. start ++ x) (sym g)
-
--- what is left beside what is there
-module _ {X : Type 0} (old new s r all total : List X) (e : new ≡ old ++ s) where
-  handed : all ≡ s ++ r → old ++ all ≡ total → new ++ r ≡ total
-  handed f g = ap (λ x. x ++ r) e ∙ append_assoc old s r ∙ ap (λ x. old ++ x) (sym f) ∙ g
-
-pub no_prompt : {X : Type 0} (o : Option X) → is_some o ≡ false → o ≡ None
-no_prompt None e = refl
-no_prompt (Some x) e = cc
-
--- one addition after another
-pub adds_both : (a b c : NeedRow) (n o : List ℕ) (s t : List SymId) → Adds a b n s → Adds b c o t → Adds a c (n ++ o) (s ++ t)
-adds_both a b c n o s t x y = record {
-  nodes_are = joined a.nodes.items b.nodes.items c.nodes.items n o x.nodes_are y.nodes_are;
-  names_are = joined a.names.items b.names.items c.names.items s t x.names_are y.names_are;
-}
-
--- beside what is left
-pub adds_of_left : (a b : NeedRow) (n o all : List ℕ) (s t every : List SymId) (nodes : List ℕ) (names : List SymId) → Adds a b n s → all ≡ n ++ o → every ≡ s ++ t →
-    (a.nodes.items ++ all ≡ nodes) × (a.names.items ++ every ≡ names) → (b.nodes.items ++ o ≡ nodes) × (b.names.items ++ t ≡ names)
-adds_of_left a b n o all s t every nodes names x e f h =
-    (handed a.nodes.items b.nodes.items n o all nodes x.nodes_are e h.0, handed a.names.items b.names.items s t every names x.names_are f h.1)
-
--- behind what was added before
-pub adds_more : (start a b : NeedRow) (n o all : List ℕ) (s t every : List SymId) → (a.nodes.items ≡ start.nodes.items ++ n) × (a.names.items ≡ start.names.items ++ s) →
-    Adds a b o t → all ≡ n ++ o → every ≡ s ++ t → (b.nodes.items ≡ start.nodes.items ++ all) × (b.names.items ≡ start.names.items ++ every)
-adds_more start a b n o all s t every h x e f = (
-  grown start.nodes.items a.nodes.items b.nodes.items n o all h.0 x.nodes_are e,
-  grown start.names.items a.names.items b.names.items s t every h.1 x.names_are f,
-)
+-- How a row of the graph of needs grows: what is added to it, one after another.
+use Rattle.std.proofs.{Common.{Bool, List, ap, append-nil, append_assoc, false, length, subst, sym, take, true, ℕ, ◌++◌, ◌∙◌, ◌≡◌, ◌≤◌}, lemmas.List.take_all}
+use Rattle.std.specs.List.{flat_map, list_any}
+use Rattle.kc_language.specs.{Statements.Numbered, declared.expressions.SymId.SymId}
+use Rattle.kc_entries.specs.{StatementViews.attribute_view, declared.entries.AttributeLine.AttributeLine}
+use Rattle.kc_tree.specs.EntryViews.{statements_of}
+use Rattle.kc_tree.proofs.ListLemmas.{flat-map}
+use Rattle.kc_values.specs.{MadeRows.Adds, NeedRows.{Needed, both, named, nothing, where_true}, declared.needs.NeedRow.NeedRow}
+use Rattle.kc_values.proofs.AnyLemmas.{any_map}
 
 -- nothing was added
-pub adds_nothing : (a : NeedRow) → Adds a a [] []
+pub adds_nothing : (a : NeedRow) → Adds a a nothing
 adds_nothing a = record { nodes_are = sym (append-nil a.nodes.items); names_are = sym (append-nil a.names.items) }
+
+-- one addition after another
+joined : {X : Type 0} (a b c x y : List X) → b ≡ a ++ x → c ≡ b ++ y → c ≡ a ++ (x ++ y)
+joined a b c x y e f = f ∙ ap (λ r. r ++ y) e ∙ append_assoc a x y
+
+pub adds_both : (a b c : NeedRow) (n m : Needed) → Adds a b n → Adds b c m → Adds a c (both n m)
+adds_both a b c n m x y = record {
+  nodes_are = joined a.nodes.items b.nodes.items c.nodes.items n.nodes m.nodes x.nodes_are y.nodes_are;
+  names_are = joined a.names.items b.names.items c.names.items n.names m.names x.names_are y.names_are;
+}
+
+-- On a walk: what was there at first and all that the walk adds is what is there now and what is left.
+pub record IsLeft (start : NeedRow) (all : Needed) (now : NeedRow) (rest : Needed) : Type 0 where
+  pub nodes_are : now.nodes.items ++ rest.nodes ≡ start.nodes.items ++ all.nodes
+  pub names_are : now.names.items ++ rest.names ≡ start.names.items ++ all.names
+
+handed : {X : Type 0} (a b x r : List X) (t : List X) → b ≡ a ++ x → a ++ (x ++ r) ≡ t → b ++ r ≡ t
+handed a b x r t e f = ap (λ k. k ++ r) e ∙ append_assoc a x r ∙ f
+
+pub left_less : (start : NeedRow) (all : Needed) (a b : NeedRow) (n rest : Needed) → IsLeft start all a (both n rest) → Adds a b n → IsLeft start all b rest
+left_less start all a b n rest h x = record {
+  nodes_are = handed a.nodes.items b.nodes.items n.nodes rest.nodes (start.nodes.items ++ all.nodes) x.nodes_are h.nodes_are;
+  names_are = handed a.names.items b.names.items n.names rest.names (start.names.items ++ all.names) x.names_are h.names_are;
+}
+
+pub left_none : (start : NeedRow) (all : Needed) (a : NeedRow) → IsLeft start all a nothing → Adds start a all
+left_none start all a h = record { nodes_are = sym (append-nil a.nodes.items) ∙ h.nodes_are; names_are = sym (append-nil a.names.items) ∙ h.names_are }
+
+-- After all lines of an entry, of each of which the names were added.
+pub lines_added : (g : Numbered → List SymId) (a b : NeedRow) (ls : List AttributeLine) (i : ℕ) → length ls ≤ i → b.nodes.items ≡ a.nodes.items →
+    b.names.items ≡ a.names.items ++ flat_map (λ (x : AttributeLine). g (attribute_view x.attribute)) (take i ls) → Adds a b (named (flat_map g (statements_of ls)))
+lines_added g a b ls i h e f = record {
+  nodes_are = e ∙ sym (append-nil a.nodes.items);
+  names_are =
+      f ∙ ap (λ xs. a.names.items ++ flat_map (λ (x : AttributeLine). g (attribute_view x.attribute)) xs) (take_all i ls h)
+      ∙ ap (λ r. a.names.items ++ r) (sym (flat-map g (λ (x : AttributeLine). attribute_view x.attribute) ls));
+}
+
+-- whether one of them says something
+pub lines_say : (p : Numbered → Bool) (ls : List AttributeLine) (i : ℕ) (read : Bool) → length ls ≤ i → read ≡ list_any (λ (x : AttributeLine). p (attribute_view x.attribute)) (take i ls) →
+    read ≡ list_any p (statements_of ls)
+lines_say p ls i read h e =
+    e ∙ ap (list_any (λ (x : AttributeLine). p (attribute_view x.attribute))) (take_all i ls h) ∙ sym (any_map p (λ (x : AttributeLine). attribute_view x.attribute) ls)
+
+-- one addition, and another one under a condition
+pub adds_where : (a b c : NeedRow) (n m : Needed) (t : Bool) → Adds a b n → t ≡ true → Adds b c m → Adds a c (both n (where_true t m))
+adds_where a b c n m t x e y = adds_both a b c n (where_true t m) x (subst (λ t. Adds b c (where_true t m)) (sym e) y)
+
+pub adds_where_not : (a b : NeedRow) (n m : Needed) (t : Bool) → Adds a b n → t ≡ false → Adds a b (both n (where_true t m))
+adds_where_not a b n m t x e = adds_both a b b n (where_true t m) x (subst (λ t. Adds b b (where_true t m)) (sym e) (adds_nothing b))

@@ -1,9 +1,7 @@
 -- Lists whose symbols are known alike give the same.
-use Rattle.std.proofs.Common.{◌≡◌, Bool, true, false, List, [], ◌∷◌, ◌++◌, refl, sym, ap, map, Option, None, Some, cond, ℕ}
-use Rattle.std.specs.List.{AllByRecursion, flat_map, find}
-use Rattle.std.proofs.lemmas.Bool.{true≢false, eqb-true, eq-eqb}
-use Rattle.kc_language.specs.declared.expressions.SymId.{SymId}
-use Rattle.kc_language.specs.Expressions.{same_symbol}
+use Rattle.std.proofs.{Common.{Bool, List, None, Option, Some, [], ap, cond, false, map, refl, sym, true, ℕ, ◌++◌, ◌∷◌, ◌≡◌}, lemmas.Bool.{eq-eqb, eqb-true, true≢false}}
+use Rattle.std.specs.List.{AllByRecursion, find, flat_map}
+use Rattle.kc_language.specs.{Expressions.same_symbol, declared.expressions.SymId.SymId}
 
 -- P of each element
 pub front_of : {X : Type 0} (P : X → Type 0) (xs ys : List X) → AllByRecursion P (xs ++ ys) → AllByRecursion P xs

@@ -1,19 +1,9 @@
 -- Values of one symbol that are told the same are the same.
-use Rattle.std.proofs.Common.{◌≡◌, ℕ, true, List, [], ◌∷◌, sym, ap, refl, Option, None, Some}
-use Rattle.std.specs.Prelude.{nat_eq}
-use Rattle.std.specs.Cmp.Lexicographic.{pointwise, same_text}
-use Rattle.std.proofs.lemmas.Bool.{true≢false, and_from, eq-eqb}
-use Rattle.kc_language.specs.declared.expressions.SymId.{SymId}
-use Rattle.kc_language.specs.declared.expressions.Tri.{Tri}
-use Rattle.kc_language.specs.declared.expressions.Tri.TheVariants.{N, M, Y}
-use Rattle.kc_language.specs.declared.expressions.SymbolType.{SymbolType}
-use Rattle.kc_language.specs.declared.expressions.SymbolType.TheVariants.{Undefined, Bool as IsBool, Tristate, Str, Int, Hex}
-use Rattle.kc_language.specs.Expressions.{SymbolValue, Truth, TextValue}
-use Rattle.kc_language.specs.Symbols.{SymbolFacts, TreeFacts}
+use Rattle.std.proofs.{Common.{List, None, Option, Some, [], ap, refl, sym, true, ℕ, ◌∷◌, ◌≡◌}, lemmas.Bool.{and_from, eq-eqb, true≢false}}
+use Rattle.std.specs.{Cmp.Lexicographic.{pointwise, same_text}, Prelude.nat_eq}
+use Rattle.kc_language.specs.{Expressions.{SymbolValue, TextValue, Truth}, Symbols.{SymbolFacts, TreeFacts}, Values.{GivenValue, same_tri}, declared.expressions.{SymId.SymId, SymbolType.{SymbolType, TheVariants.{Bool as IsBool, Hex, Int, Str, Tristate, Undefined}}, Tri.{TheVariants.{M, N, Y}, Tri}}}
 use Rattle.kc_language.specs.Values as v
-use Rattle.kc_language.specs.Values.{GivenValue, same_tri}
-use Rattle.kc_values.specs.PartsOfValues.{same_value}
-use Rattle.kc_values.specs.PartsOfValues.{by_choice}
+use Rattle.kc_values.specs.PartsOfValues.{by_choice, same_value}
 
 pub same_tri-true : (t u : Tri) → same_tri t u ≡ true → t ≡ u
 same_tri-true N N e = refl

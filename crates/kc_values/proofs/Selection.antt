@@ -1,19 +1,11 @@
 -- What a choice selects.
-use Rattle.std.proofs.Common.{◌≡◌, Bool, true, false, List, [], ◌∷◌, sym, ◌∙◌, ap, inl, inr, refl, cond, not, ◌&&◌, Option, Some, None, ◌⊎◌, arith, suc}
-use Rattle.std.specs.List.{Contains, find, list_any}
-use Rattle.std.proofs.lemmas.Bool.{and_parts, and_from}
-use Rattle.std.proofs.lemmas.List.Folds.{list_any_at}
-use Rattle.kc_language.specs.declared.expressions.SymId.{SymId}
-use Rattle.kc_language.specs.Expressions.{SymbolValue, same_symbol}
-use Rattle.std.specs.Option.{option_or}
-use Rattle.kc_language.specs.Symbols.{Guarded, ChoiceFacts, TreeFacts}
+use Rattle.std.proofs.{Common.{Bool, List, None, Option, Some, [], ap, arith, cond, false, inl, inr, not, refl, suc, sym, true, ◌&&◌, ◌∙◌, ◌∷◌, ◌≡◌, ◌⊎◌}, lemmas.{Bool.{and_from, and_parts}, List.Folds.list_any_at}}
+use Rattle.std.specs.{List.{Contains, find, list_any}, Option.option_or}
+use Rattle.kc_language.specs.{Expressions.{SymbolValue, same_symbol}, Symbols.{ChoiceFacts, Guarded, TreeFacts}, Values.{GivenText, GivenTruth, GivenValue, Member, is_n}, declared.expressions.SymId.SymId}
 use Rattle.kc_language.specs.Values as v
 use Rattle.kc_values.specs.PartsOfValues as v_parts
-use Rattle.kc_language.specs.Values.{GivenValue, GivenTruth, GivenText, Member, is_n}
-use Rattle.kc_values.proofs.Same.{same_symbol_itself}
-use Rattle.kc_values.proofs.TreeNeeds.{among}
-use Rattle.kc_values.specs.PartsOfValues.{unselected}
-use Rattle.kc_values.specs.PartsOfValues.{chosen_member}
+use Rattle.kc_values.proofs.{Same.same_symbol_itself, TreeNeeds.among}
+use Rattle.kc_values.specs.PartsOfValues.{chosen_member, unselected}
 
 found_at : {X : Type 0} (p : X → Bool) (b : Bool) (x y : X) (xs : List X) → p x ≡ b → (find p xs ≡ Some y → (p y ≡ true) × Contains xs y) → cond b (Some x) (find p xs) ≡ Some y →
     (p y ≡ true) × Contains (x ∷ xs) y

@@ -1,14 +1,8 @@
 -- The numbers of texts are below 2^64.
-use Rattle.std.proofs.Common.{◌≡◌, ℕ, zero, suc, ◌<◌, ◌+◌, ◌^◌, Bool, true, false, ◌&&◌, not, cond, List, drop, Option, Some, None, pos, unwrap_or, refl, arith}
-use Rattle.std.specs.Prelude.{unsigned_abs, nat_lt, int_lt, option_map}
-use Rattle.std.specs.Str.Parse.{digits_value, starts_with_minus}
-use Rattle.std.proofs.lemmas.Bool.{and_parts, ltb-true}
-use Rattle.kc_language.specs.Text.{natural_of}
+use Rattle.std.proofs.{Common.{Bool, List, None, Option, Some, arith, cond, drop, false, not, pos, refl, suc, true, unwrap_or, zero, ℕ, ◌&&◌, ◌+◌, ◌<◌, ◌^◌, ◌≡◌}, lemmas.Bool.{and_parts, ltb-true}}
+use Rattle.std.specs.{Prelude.{int_lt, nat_lt, option_map, unsigned_abs}, Str.Parse.{digits_value, starts_with_minus}}
+use Rattle.kc_language.specs.{Text.natural_of, Values.{clamped, is_within_range, number_or_zero, number_text}, declared.{expressions.SymbolType.{SymbolType, TheVariants.{Bool as IsBool, Hex, Int, Str, Tristate, Undefined}}, values.Interval.Interval}}
 use Rattle.kc_text.specs.PartsOfText.{is_numeral, negated, without_hex_prefix}
-use Rattle.kc_language.specs.declared.expressions.SymbolType.{SymbolType}
-use Rattle.kc_language.specs.declared.expressions.SymbolType.TheVariants.{Undefined, Bool as IsBool, Tristate, Str, Int, Hex}
-use Rattle.kc_language.specs.Values.{number_or_zero, number_text, is_within_range, clamped}
-use Rattle.kc_language.specs.declared.values.Interval.{Interval}
 
 below_if : (b : Bool) (n limit : ℕ) → 0 < limit → (b ≡ true → n < limit) → unwrap_or (cond b (Some n) None) 0 < limit
 below_if true n limit l h = h refl

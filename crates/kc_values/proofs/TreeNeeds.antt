@@ -1,24 +1,11 @@
 -- The needs of a tree, as rows.
-use Rattle.std.proofs.Common.{◌≡◌, ℕ, ◌<◌, ◌≤◌, Bool, true, false, List, [], ◌∷◌, zero, suc, Option, sym, ◌∙◌, ap, inl, inr, ◌||◌, arith, length, cond, refl, map, subst}
-use Rattle.std.specs.List.{Contains, list_any, filter}
-use Rattle.std.proofs.lemmas.Bool.{true≢false, cases_Bool, cases_lt, ltb-true}
-use Rattle.std.proofs.lemmas.List.FromFn.{length-map-range_with_len, get_or-map-range_with_len}
-use Rattle.std.proofs.lemmas.List.{get_or_past}
-use Rattle.std.proofs.lemmas.Option.{slice_get_past}
+use Rattle.std.proofs.{Common.{Bool, List, Option, [], ap, arith, cond, false, inl, inr, length, map, refl, subst, suc, sym, true, zero, ℕ, ◌<◌, ◌||◌, ◌∙◌, ◌∷◌, ◌≡◌, ◌≤◌}, lemmas.{Bool.{cases_Bool, cases_lt, ltb-true, true≢false}, List.{FromFn.{get_or-map-range_with_len, length-map-range_with_len}, get_or_past}, Option.slice_get_past}}
+use Rattle.std.specs.List.{Contains, filter, list_any}
 use Rattle.kc_expr.specs.Value.{DependsOnSymbols}
-use Rattle.kc_language.specs.declared.expressions.SymId.{SymId}
-use Rattle.kc_language.specs.Needs.{needs_in, needs, needs_of, named_by}
-use Rattle.kc_order.specs.PartsOfNeeds.{AreAccepted as IsAccepted}
-use Rattle.kc_order.specs.PartsOfNeeds.{NothingUnordered}
-use Rattle.kc_values.specs.PartsOfNeeds.{mentioned_numbers}
-use Rattle.kc_order.specs.Needs.{AreWithin, NeedsBelow}
-use Rattle.kc_order.specs.Solution.{ReadsNeeds}
-use Rattle.kc_language.specs.Symbols.{TreeFacts}
-use Rattle.kc_language.specs.Values.{UserPlace, GivenValue, name_count, equations}
-use Rattle.kc_values.specs.PartsOfValues.{is_mentioned}
-use Rattle.kc_language.specs.Expressions.{same_symbol}
-use Rattle.kc_values.proofs.Same.{same_symbol-true}
-use Rattle.kc_values.proofs.OnlyNamed.{reads_needs}
+use Rattle.kc_language.specs.{Expressions.same_symbol, Needs.{named_by, needs, needs_in, needs_of}, Symbols.TreeFacts, Values.{GivenValue, UserPlace, equations, name_count}, declared.expressions.SymId.SymId}
+use Rattle.kc_order.specs.{Needs.{AreWithin, NeedsBelow}, PartsOfNeeds.{AreAccepted as IsAccepted, NothingUnordered}, Solution.ReadsNeeds}
+use Rattle.kc_values.specs.{PartsOfNeeds.mentioned_numbers, PartsOfValues.is_mentioned}
+use Rattle.kc_values.proofs.{OnlyNamed.reads_needs, Same.same_symbol-true}
 
 within_kept : {X : Type 0} (p : X → Bool) (g : X → ℕ) (b : Bool) (x : X) (n t : ℕ) (r : List X) → p x ≡ b → (p x ≡ true → g x < n) → (Contains (map g r) t → t < n) →
     Contains (map g (cond b (x ∷ r) r)) t → t < n

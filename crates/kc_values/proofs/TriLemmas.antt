@@ -1,17 +1,7 @@
 -- The least and the greatest of truths.
-use Rattle.std.proofs.Common.{◌≡◌, List, [], ◌∷◌, ◌++◌, map, reverse, refl, sym, ap, ◌∙◌}
-use Rattle.std.proofs.lemmas.List.{map-append}
-use mathlib.Core.List.{reverse-cons}
-use Rattle.std.specs.Coded.{Coded-set}
-use Rattle.kc_language.specs.declared.expressions.Tri.{Tri}
-use Rattle.kc_language.specs.declared.expressions.Tri.TheVariants.{N, M, Y}
-use Rattle.kc_language.specs.contracts.expressions.Tri as tri
-use Rattle.kc_language.specs.Expressions.{lesser, greater, least, greatest}
+use Rattle.std.proofs.Common.{List, [], ap, refl, sym, ◌++◌, ◌∙◌, ◌∷◌, ◌≡◌}
+use Rattle.kc_language.specs.{Expressions.{greater, greatest, least, lesser}, declared.expressions.Tri.{TheVariants.{M, N, Y}, Tri}}
 use Rattle.kc_values.specs.Computed.{rank}
-
--- two truths are the same in one way at most
-pub one_way : (a b : Tri) → IsProp (a ≡ b)
-one_way a b = Coded-set tri.the_row.coded a b
 
 pub rank-same : (a b : Tri) → rank a ≡ rank b → a ≡ b
 rank-same N N e = refl
@@ -29,7 +19,7 @@ lesser_y N = refl
 lesser_y M = refl
 lesser_y Y = refl
 
-pub lesser_n : (a : Tri) → lesser a N ≡ N
+lesser_n : (a : Tri) → lesser a N ≡ N
 lesser_n N = refl
 lesser_n M = refl
 lesser_n Y = refl
@@ -55,7 +45,7 @@ greater_n N = refl
 greater_n M = refl
 greater_n Y = refl
 
-pub greater_y : (a : Tri) → greater a Y ≡ Y
+greater_y : (a : Tri) → greater a Y ≡ Y
 greater_y N = refl
 greater_y M = refl
 greater_y Y = refl
@@ -67,7 +57,7 @@ greater_comm M M = refl
 greater_comm M Y = refl
 greater_comm Y b = sym (greater_y b)
 
-pub greater_assoc : (a b c : Tri) → greater (greater a b) c ≡ greater a (greater b c)
+greater_assoc : (a b c : Tri) → greater (greater a b) c ≡ greater a (greater b c)
 greater_assoc N b c = refl
 greater_assoc M N c = refl
 greater_assoc M M N = refl
@@ -83,17 +73,6 @@ least-append (x ∷ xs) ys = ap (lesser x) (least-append xs ys) ∙ sym (lesser_
 pub greatest-append : (xs ys : List Tri) → greatest (xs ++ ys) ≡ greater (greatest xs) (greatest ys)
 greatest-append [] ys = refl
 greatest-append (x ∷ xs) ys = ap (greater x) (greatest-append xs ys) ∙ sym (greater_assoc x (greatest xs) (greatest ys))
-
--- the order does not count
-pub greatest-reverse : {X : Type 0} (f : X → Tri) (xs : List X) → greatest (map f (reverse xs)) ≡ greatest (map f xs)
-greatest-reverse f [] = refl
-greatest-reverse f (x ∷ xs) =
-    ap (λ ys. greatest (map f ys)) (reverse-cons x xs)
-    ∙ ap greatest (map-append f (reverse xs) (x ∷ []))
-    ∙ greatest-append (map f (reverse xs)) (f x ∷ [])
-    ∙ ap (λ t. greater t (greater (f x) N)) (greatest-reverse f xs)
-    ∙ ap (greater (greatest (map f xs))) (greater_n (f x))
-    ∙ greater_comm (greatest (map f xs)) (f x)
 
 -- one step of what is taken the greatest of
 pub greater-step : (g h a b r : Tri) → b ≡ greater h a → greater g b ≡ r → greater (greater g h) a ≡ r

@@ -1,10 +1,6 @@
 -- A bool or tristate under its own value as the user's.
-use Rattle.std.proofs.Common.{◌≡◌, Bool, true, false, not, ◌&&◌, cond, inl, inr, refl, ◌⊎◌}
-use Rattle.std.proofs.lemmas.Bool.{true≢false}
-use Rattle.kc_language.specs.declared.expressions.Tri.{Tri}
-use Rattle.kc_language.specs.declared.expressions.Tri.TheVariants.{N, M, Y}
-use Rattle.kc_language.specs.Expressions.{lesser, greater}
-use Rattle.kc_language.specs.Values.{is_n, upgrade, above}
+use Rattle.std.proofs.{Common.{Bool, cond, false, inl, inr, not, refl, true, ◌&&◌, ◌≡◌, ◌⊎◌}, lemmas.Bool.true≢false}
+use Rattle.kc_language.specs.{Expressions.{greater, lesser}, Values.{above, is_n, upgrade}, declared.expressions.Tri.{TheVariants.{M, N, Y}, Tri}}
 
 -- the tristate upgrade, under a test
 abbrev pub upgrade_if : Bool → Tri → Tri

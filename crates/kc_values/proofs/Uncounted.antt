@@ -1,15 +1,7 @@
 -- What was given for a symbol that is not visible counts for nothing.
-use Rattle.std.proofs.Common.{◌≡◌, ◌&&◌, not, false, Option, Some, None, refl, ap, unwrap_or}
+use Rattle.std.proofs.{Common.{None, Option, Some, ap, false, not, refl, unwrap_or, ◌&&◌, ◌≡◌}, lemmas.Bool.true≢false}
 use Rattle.std.specs.Option.{is_some}
-use Rattle.std.proofs.lemmas.Bool.{true≢false}
-use Rattle.kc_language.specs.Expressions.{SymbolValue, Truth, TextValue, greater}
-use Rattle.kc_language.specs.declared.expressions.SymId.{SymId}
-use Rattle.kc_language.specs.declared.expressions.Tri.{Tri}
-use Rattle.kc_language.specs.declared.expressions.Tri.TheVariants.{N, M, Y}
-use Rattle.kc_language.specs.declared.expressions.SymbolType.{SymbolType}
-use Rattle.kc_language.specs.declared.expressions.SymbolType.TheVariants.{Undefined, Bool as IsBool, Tristate, Str, Int, Hex}
-use Rattle.kc_language.specs.Symbols.{SymbolFacts, TreeFacts}
-use Rattle.kc_language.specs.Values.{GivenValue, GivenTruth, GivenText, Member, if_within_range, clamped}
+use Rattle.kc_language.specs.{Expressions.{SymbolValue, TextValue, Truth, greater}, Symbols.{SymbolFacts, TreeFacts}, Values.{GivenText, GivenTruth, GivenValue, Member, clamped, if_within_range}, declared.expressions.{SymId.SymId, SymbolType.{SymbolType, TheVariants.{Bool as IsBool, Hex, Int, Str, Tristate, Undefined}}, Tri.{TheVariants.{M, N, Y}, Tri}}}
 use Rattle.kc_language.specs.Values as v
 use Rattle.kc_values.specs.PartsOfValues as v_parts
 use Rattle.kc_values.specs.PartsOfValues.{text_equation}

@@ -1,18 +1,8 @@
 -- The tristate upgrade, by whether the type is tristate under the values.
-use Rattle.std.proofs.Common.{◌≡◌, Bool, true, false, Option, Some, None, reverse, refl, sym, ap, ◌∙◌, cond}
+use Rattle.std.proofs.Common.{Bool, cond, false, refl, sym, true, ◌≡◌}
 use Rattle.std.specs.Prelude.{not}
-use Rattle.kc_language.specs.Expressions.{SymbolValue}
-use Rattle.kc_language.specs.declared.expressions.SymId.{SymId}
-use Rattle.kc_language.specs.declared.expressions.Tri.{Tri}
-use Rattle.kc_language.specs.declared.expressions.Tri.TheVariants.{N, M, Y}
-use Rattle.kc_language.specs.declared.expressions.SymbolType.{SymbolType}
-use Rattle.kc_language.specs.declared.expressions.SymbolType.TheVariants.{Undefined, Bool as IsBool, Tristate, Str, Int, Hex}
-use Rattle.kc_tree.specs.declared.layout.Tables.{Tables}
-use Rattle.kc_tree.specs.declared.rows.SelectorId.{SelectorId}
-use Rattle.kc_tree.specs.Layouts.{selectors_from}
-use Rattle.kc_language.specs.Symbols.{TreeFacts}
+use Rattle.kc_language.specs.{Expressions.SymbolValue, Symbols.TreeFacts, declared.expressions.{SymId.SymId, SymbolType.{SymbolType, TheVariants.{Bool as IsBool, Hex, Int, Str, Tristate, Undefined}}, Tri.{TheVariants.{M, N, Y}, Tri}}}
 use Rattle.kc_language.specs.Values as v
-use Rattle.kc_values.proofs.ChainLemmas.{selector_values_from, selector_values-reverse}
 
 module _ (tree : TreeFacts) (known : SymId → SymbolValue) where
   either : (b : Bool) (t : Tri) → v.upgrade t ≡ t → t ≡ cond b (v.upgrade t) t
@@ -59,15 +49,3 @@ module _ (tree : TreeFacts) (known : SymId → SymbolValue) where
   m_kept Str e = absurd cc
   m_kept Int e = absurd cc
   m_kept Hex e = absurd cc
-
-  -- the upgrade of what no line selects or implies
-  pub none_upgraded : (tables : Tables) (symbol_type : SymbolType) (last : Option SelectorId) → last ≡ None →
-      N ≡ v.upgraded tree known symbol_type (v.selector_values tree known (reverse (selectors_from tables last)))
-  none_upgraded tables symbol_type last none = rw none (n_stays symbol_type)
-
-  -- and of what some line does
-  pub some_upgraded : (tables : Tables) (symbol_type : SymbolType) (last : Option SelectorId) (id : SelectorId) (values result : Tri) → last ≡ Some id →
-      values ≡ selector_values_from tables tree known (Some id) → result ≡ v.upgraded tree known symbol_type values →
-      result ≡ v.upgraded tree known symbol_type (v.selector_values tree known (reverse (selectors_from tables last)))
-  some_upgraded tables symbol_type last id values result some are is =
-      is ∙ ap (v.upgraded tree known symbol_type) (are ∙ sym (selector_values-reverse tables tree known (Some id)) ∙ ap (λ l. v.selector_values tree known (reverse (selectors_from tables l))) (sym some))

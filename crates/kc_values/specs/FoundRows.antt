@@ -1,21 +1,9 @@
 -- For proofs: What a search in the rows of a table has found.
-use Rattle.std.specs.Prelude.{◌≡◌, Option, Some, None}
-use Rattle.std.specs.Borrow.{Bor}
-use Rattle.kc_language.specs.Expressions.{Form}
+use Rattle.std.specs.{Borrow.Bor, Prelude.{None, Option, Some, ◌≡◌}}
+use Rattle.kc_language.specs.{Expressions.Form, Symbols.{Bounds, Guarded}, Values.condition, declared.expressions.Tri.Tri}
 use Rattle.kc_expr.specs.Form.{form_of, leaf_of}
-use Rattle.kc_language.specs.declared.expressions.Tri.{Tri}
-use Rattle.kc_tree.specs.declared.rows.Definition.{Definition}
-use Rattle.kc_tree.specs.declared.rows.DefinitionId.{DefinitionId}
-use Rattle.kc_tree.specs.declared.rows.SymbolDefault.{SymbolDefault}
-use Rattle.kc_tree.specs.declared.rows.SymbolRange.{SymbolRange}
-use Rattle.kc_language.specs.Symbols.{Guarded, Bounds}
-use Rattle.kc_values.specs.declared.table.Table.{Table}
-use Rattle.kc_values.specs.TableFacts.{definition_row, known_at}
-use Rattle.kc_language.specs.Values.{condition}
-
--- the table has this row of a definition
-abbrev pub IsDefinitionAt : Table → Definition → Type 0
-IsDefinitionAt t d = (id : DefinitionId) × (definition_row t id ≡ Some d)
+use Rattle.kc_entries.specs.declared.statement.{SymbolDefault.SymbolDefault, SymbolRange.SymbolRange}
+use Rattle.kc_values.specs.{TableFacts.known_at, declared.table.Table.Table}
 
 -- the search found this default, with the value of its condition
 abbrev pub IsMetDefault : Table → Option (Guarded Form) → Option (Bor SymbolDefault × Tri) → Type 0

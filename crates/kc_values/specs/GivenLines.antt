@@ -1,11 +1,6 @@
 -- Trusted: The lines that give values back as user values: those of the minimal file, and those of all written symbols.
-use Rattle.std.specs.Prelude.{◌≡◌, ℕ, ◌<◌, ◌&&◌, Bool, false, true, find, Option, Some, None, if◌then◌else◌, option_map}
-use Rattle.kc_language.specs.Expressions.{symbol, SymbolValue}
-use Rattle.kc_language.specs.Symbols.{TreeFacts}
-use Rattle.kc_language.specs.Texts.{has_value}
-use Rattle.kc_language.specs.declared.expressions.SymId.{SymId}
-use Rattle.std.specs.Option.{option_map_or}
-use Rattle.kc_language.specs.Values.{GivenValue, Member, UserPlace, SymbolPlace, ChoicePlace, is_new, is_yes, differs, given_of, selection, choice_at, name_count, known_from, user_place, written}
+use Rattle.std.specs.{Option.option_map_or, Prelude.{Bool, None, Option, Some, false, find, if◌then◌else◌, option_map, true, ℕ, ◌&&◌, ◌<◌, ◌≡◌}}
+use Rattle.kc_language.specs.{Expressions.{SymbolValue, symbol}, Symbols.TreeFacts, Texts.has_value, Values.{ChoicePlace, GivenValue, Member, SymbolPlace, UserPlace, choice_at, differs, given_of, is_new, is_yes, known_from, name_count, selection, user_place, written}, declared.expressions.SymId.SymId}
 use Rattle.kc_user.specs.Places.{allowed, members_of}
 
 -- For the user values `user` and the values V.

@@ -1,22 +1,11 @@
 -- Trusted: Laws of the equations of a tree.
-use Rattle.std.specs.List.{Contains}
-use Rattle.std.specs.Prelude.{◌≡◌, ◌≢◌, ℕ, ◌<◌, ◌↔◌, map, None, Option, Some, Bool, true, false, slice_get, option_map}
-use Rattle.kc_language.specs.Expressions.{SymbolValue, symbol}
-use Rattle.kc_language.specs.declared.expressions.SymId.{SymId}
-use Rattle.kc_tree.specs.Layouts.{IsLayoutOf, facts_of}
-use Rattle.kc_language.specs.Symbols.{Condition, ChoiceFacts, TreeFacts}
-use Rattle.kc_tree.specs.TreeFacts.{IsWellFormed}
-use Rattle.kc_tree.specs.declared.layout.Layout.{Layout}
-use Rattle.kc_language.specs.Texts.{has_value}
-use Rattle.kc_order.specs.Loop.{HoldsNeeding}
-use Rattle.kc_language.specs.Needs.{needs_in, IsAccepted, needs}
-use Rattle.kc_order.specs.Needs.{AreWithin}
-use Rattle.kc_language.specs.Values.{ChoicePlace, Member, Solves, IsOnlySolution, SymbolPlace, choice_at, facts, GivenValue, UserPlace, condition, is_chosen, is_new, known_from, name_count, equations, rhs, same_given, selected, selection, user_place, differs, given_of, changes_on_reread, visible}
-use Rattle.kc_values.specs.PartsOfValues.{prompt_value}
-use Rattle.kc_order.specs.Solution.{HasOneSolution, ReadsNeeds}
-use Rattle.kc_order.specs.Minimal.{Restores, NothingCanGo}
-use Rattle.kc_user.specs.Places.{allowed, AllowedPlaces, members_of}
-use Rattle.kc_values.specs.GivenLines.{TellsDiffering, is_listed, listed_place, minimal_line, reread_places}
+use Rattle.std.specs.{List.Contains, Prelude.{Bool, None, Option, Some, false, map, option_map, slice_get, true, ℕ, ◌<◌, ◌↔◌, ◌≡◌, ◌≢◌}}
+use Rattle.kc_language.specs.{Expressions.{SymbolValue, symbol}, Needs.{IsAccepted, needs, needs_in}, Symbols.{ChoiceFacts, Condition, TreeFacts}, Texts.has_value, Values.{ChoicePlace, GivenValue, IsOnlySolution, Member, Solves, SymbolPlace, UserPlace, changes_on_reread, choice_at, condition, differs, equations, facts, given_of, is_chosen, is_new, known_from, name_count, rhs, same_given, selected, selection, user_place, visible}, declared.expressions.SymId.SymId}
+use Rattle.kc_tree.specs.{Layouts.{IsLayoutOf, facts_of}, declared.layout.Layout.Layout}
+use Rattle.kc_entries.specs.WellFormed.{IsWellFormed}
+use Rattle.kc_order.specs.{Loop.HoldsNeeding, Minimal.{NothingCanGo, Restores}, Needs.AreWithin, Solution.{HasOneSolution, ReadsNeeds}}
+use Rattle.kc_values.specs.{GivenLines.{TellsDiffering, is_listed, listed_place, minimal_line, reread_places}, PartsOfValues.prompt_value}
+use Rattle.kc_user.specs.Places.{AllowedPlaces, allowed, members_of}
 
 -- An equation reads only what its symbol needs, for any user values.
 abbrev pub EquationsReadNeeds : Type 0

@@ -1,10 +1,6 @@
 -- For proofs: The members of choices in a well-formed tree.
-use Rattle.std.specs.Prelude.{◌≡◌, ℕ, ◌<◌, Some}
-use Rattle.std.specs.List.{Contains}
-use Rattle.kc_language.specs.declared.expressions.SymId.{SymId}
-use Rattle.kc_language.specs.declared.expressions.SymbolType.TheVariants.{Bool as IsBool}
-use Rattle.kc_language.specs.Symbols.{ChoiceFacts, SymbolFacts, TreeFacts}
-use Rattle.kc_language.specs.Values.{choice_at, facts, name_count}
+use Rattle.std.specs.{List.Contains, Prelude.{Some, ℕ, ◌<◌, ◌≡◌}}
+use Rattle.kc_language.specs.{Symbols.{ChoiceFacts, SymbolFacts, TreeFacts}, Values.{choice_at, facts, name_count}, declared.expressions.{SymId.SymId, SymbolType.TheVariants.Bool as IsBool}}
 
 -- a member of a choice is a symbol of that choice
 abbrev pub MembersAreTheirs : TreeFacts → Type 0

@@ -1,65 +1,36 @@
--- Trusted: The rows of the graph of needs: for each node the contexts and choices that it needs, and the names.
-use Rattle.std.specs.Prelude.{◌≡◌, ℕ, ◌<◌, ◌==◌, ◌&&◌, ◌||◌, if◌then◌else◌, Bool, true, false, List, [], ◌∷◌, ◌++◌, filter, map, length, nat_lt, is_some, Option, Some, None, slice_get, slice_index_or}
-use Rattle.std.specs.Option.{option_and_then}
-use Rattle.std.specs.List.{filter_map, flat_map, range_with_len}
-use Rattle.kc_language.specs.Expressions.{Form, leaf_symbols, symbols}
-use Rattle.kc_expr.specs.Form.{form_of, leaf_of}
-use Rattle.kc_language.specs.declared.expressions.SymbolType.{SymbolType}
-use Rattle.kc_language.specs.declared.expressions.SymbolType.TheVariants.{Undefined, Bool as IsBool, Tristate, Str, Int, Hex}
-use Rattle.kc_language.specs.declared.expressions.SymId.{SymId}
+-- Trusted: The rows of the graph of needs: for each node the nodes that it needs, and the names.
+use Rattle.std.specs.{List.{flat_map, range_with_len}, Prelude.{Bool, List, None, Option, Some, [], false, filter, if◌then◌else◌, length, map, nat_lt, reverse, slice_get, suc, true, ℕ, ◌&&◌, ◌++◌, ◌==◌, ◌||◌, ◌∷◌, ◌≡◌}}
+use Rattle.kc_language.specs.{Expressions.{Form, leaf_symbols, symbol, symbols}, Statements.{ChoiceLine, IfLine, InputPrompt, Numbered}, Symbols.{Bounds, StatedDefault, TreeFacts, dependency_in, range_in, stated_default, visible_in}, declared.{expressions.{SymId.SymId, SymbolType.{SymbolType, TheVariants.{Bool as IsBool, Hex, Int, Str, Tristate, Undefined}}}, symbols.{ChoiceId.ChoiceId, SelectOrImply.SelectOrImply}}}
+use Rattle.kc_language.specs.declared.symbols.SelectOrImply.TheVariants as word
 use Rattle.kc_order.specs.Graph.{Nodes}
-use Rattle.kc_expr.specs.When.{when_view}
-use Rattle.kc_tree.specs.declared.layout.Layout.{Layout}
-use Rattle.kc_tree.specs.declared.rows.Choice.{Choice}
-use Rattle.kc_tree.specs.declared.rows.ChoiceDefault.{ChoiceDefault}
-use Rattle.kc_language.specs.declared.symbols.ChoiceId.{ChoiceId}
-use Rattle.kc_tree.specs.declared.rows.Context.{Context}
-use Rattle.kc_tree.specs.declared.rows.Definition.{Definition}
-use Rattle.kc_tree.specs.declared.rows.DefinitionId.{DefinitionId}
-use Rattle.kc_tree.specs.declared.rows.EntryPrompt.{EntryPrompt}
-use Rattle.kc_tree.specs.declared.rows.Selector.{Selector}
-use Rattle.kc_tree.specs.declared.rows.SelectorId.{SelectorId}
-use Rattle.kc_tree.specs.declared.rows.Symbol.{Symbol}
-use Rattle.kc_tree.specs.declared.rows.SymbolDefault.{SymbolDefault}
-use Rattle.kc_tree.specs.declared.rows.SymbolRange.{SymbolRange}
-use Rattle.kc_tree.specs.Chains.{chain_of, chains_of}
-use Rattle.kc_tree.specs.Contexts.{IsContextAt, condition_in, top}
-use Rattle.kc_tree.specs.Spans.{definition_ids, slice_of}
-use Rattle.kc_language.specs.Symbols.{TreeFacts}
-use Rattle.kc_values.specs.PartsOfNeeds.{type_names}
-use Rattle.kc_values.specs.Nodes.{choice_number, context_number, node_count}
+use Rattle.kc_entries.specs.{StatementViews.head_view, declared.entries.Entry.Entry}
+use Rattle.kc_tree.specs.{Layouts.{definitions_at, entry_at, lines_up_to, member_named, outer_context, outer_visible, place_of, prompt_in, said_at, symbol_at, target_in}, Places.says, declared.{layout.Layout.Layout, rows.{Choice.Choice, EntryId.EntryId, EntryPlace.EntryPlace, Selector.Selector, Symbol.Symbol}}}
+use Rattle.kc_values.specs.{Nodes.{choice_number, context_number, dependency_number, node_count, visible_number}, PartsOfNeeds.type_names}
 
--- names, if this is the modules symbol
-module _ (modules : Option SymId) where
-  abbrev pub when_names : Option Form → List SymId
-  when_names None = []
-  when_names (Some f) = symbols modules f
+-- Nodes that are needed, by number, and names.
+pub record Needed : Type 0 where
+  pub nodes : List ℕ
+  pub names : List SymId
 
-  abbrev pub prompt_names : Option EntryPrompt → List SymId
-  prompt_names None = []
-  prompt_names (Some p) = when_names (when_view p.when)
+abbrev pub nothing : Needed
+nothing = record { nodes = []; names = [] }
 
-  abbrev pub names_of_choice : Option Choice → List SymId
-  names_of_choice None = []
-  names_of_choice (Some c) = prompt_names c.prompt
+abbrev pub node : ℕ → Needed
+node t = record { nodes = t ∷ []; names = [] }
 
-  -- the names in the prompt of a definition
-  abbrev pub entry_names : Definition → List SymId
-  entry_names d = prompt_names d.prompt
+abbrev pub named : List SymId → Needed
+named ss = record { nodes = []; names = ss }
 
-  -- the names in a `select` or `imply` line
-  abbrev pub source_names : Selector → Option Definition → List SymId
-  source_names r None = []
-  source_names r (Some d) = d.symbol ∷ when_names (when_view r.when)
+abbrev pub both : Needed → Needed → Needed
+both a b = record { nodes = a.nodes ++ b.nodes; names = a.names ++ b.names }
 
-  abbrev pub default_names : SymbolDefault → List SymId
-  default_names d = symbols modules (form_of d.value.value) ++ when_names (when_view d.when)
+abbrev pub where_true : Bool → Needed → Needed
+where_true true n = n
+where_true false n = nothing
 
-  abbrev pub range_names : SymbolRange → List SymId
-  range_names r = leaf_symbols (leaf_of r.low) ++ leaf_symbols (leaf_of r.high) ++ when_names (when_view r.when)
-
-  abbrev pub choice_default_names : ChoiceDefault → List SymId
-  choice_default_names d = when_names (when_view d.when)
+-- what each element needs, one after another
+abbrev pub each : {X : Type 0} → (X → Needed) → List X → Needed
+each f xs = record { nodes = flat_map (λ x. (f x).nodes) xs; names = flat_map (λ x. (f x).names) xs }
 
 abbrev pub is_number : SymbolType → Bool
 is_number Undefined = false
@@ -77,201 +48,208 @@ is_truth Str = false
 is_truth Int = false
 is_truth Hex = false
 
--- these numbers, if the list has an element
-abbrev pub where_some : {X : Type 0} → List X → List ℕ → List ℕ
-where_some [] nodes = []
-where_some (x ∷ xs) nodes = nodes
+-- names, if this is the modules symbol
+module _ (modules : Option SymId) where
+  abbrev pub when_names : Option Form → List SymId
+  when_names None = []
+  when_names (Some f) = symbols modules f
+
+  abbrev pub default_names : StatedDefault → List SymId
+  default_names d = symbols modules d.value ++ when_names d.when
+
+  abbrev pub range_names : Bounds × Option Form → List SymId
+  range_names r = leaf_symbols r.0.low ++ leaf_symbols r.0.high ++ when_names r.1
+
+  -- the names in a line of a definition; those in a range, if ranges count
+  abbrev pub names_of_range : Bool → Option (Bounds × Option Form) → List SymId
+  names_of_range counts None = []
+  names_of_range counts (Some r) = if counts then range_names r else []
+
+  abbrev pub names_of_line : Bool → Option StatedDefault → Option (Bounds × Option Form) → List SymId
+  names_of_line counts None r = names_of_range counts r
+  names_of_line counts (Some d) r = default_names d
+
+  abbrev pub line_names : Bool → Numbered → List SymId
+  line_names counts line = names_of_line counts (stated_default line) (range_in line)
+
+-- the last line that selects or implies a symbol with this row, by its number as it is stored
+abbrev pub last_line : Symbol → SelectOrImply → ℕ
+last_line row word.Select = row.last_select.0
+last_line row word.Imply = row.last_imply.0
 
 module _ (l : Layout) where
-  -- a context, unless it is the top one
-  abbrev pub context_nodes : ℕ → List ℕ
-  context_nodes c = if c == 0 then [] else context_number l c ∷ []
+  -- ---- Parts of rows
+  -- what an entry depends on, but for the top; what a menu asks of what is visible, if there is such a menu
+  abbrev pub context : ℕ → Needed
+  context at = record { nodes = if at == 0 then [] else context_number l at ∷ []; names = [] }
 
-  abbrev pub prompt_nodes : Option EntryPrompt → List ℕ
-  prompt_nodes None = []
-  prompt_nodes (Some p) = context_nodes p.visible.0
+  abbrev pub visible : ℕ → Needed
+  visible v = record { nodes = if v == 0 then [] else visible_number l v ∷ []; names = [] }
 
-  abbrev pub choice_prompt_nodes : Choice → List ℕ
-  choice_prompt_nodes c = (if is_some c.prompt then context_nodes c.within.0 else []) ++ prompt_nodes c.prompt
+  -- the names in these `depends on` lines
+  abbrev pub depends : List Numbered → Needed
+  depends own = named (flat_map (λ line. when_names l.modules (dependency_in line)) own)
 
-  abbrev pub choice_row : Option ChoiceId → Option Choice
-  choice_row o = option_and_then (λ (k : ChoiceId). slice_get l.tables.choices.items k.0) o
+  -- a prompt of an entry with this place, but for what the entry depends on
+  abbrev pub prompt : EntryPlace → InputPrompt Form → Needed
+  prompt p q = both (visible p.visible.0) (named (when_names l.modules q.when))
 
-  abbrev pub nodes_of_choice : Option Choice → List ℕ
-  nodes_of_choice None = []
-  nodes_of_choice (Some c) = choice_prompt_nodes c
+  -- ---- Menus, contexts, and what choices depend on themselves
+  abbrev pub visible_row : ℕ → Needed
+  visible_row menu = both (visible (outer_visible l menu)) (named (flat_map (λ line. when_names l.modules (visible_in line)) (said_at l menu)))
 
-  abbrev pub mode_nodes : Option ChoiceId → List ℕ
-  mode_nodes o = nodes_of_choice (choice_row o)
+  -- the mode of a choice, as an entry with these attributes; the nodes of choices come after it, so it repeats the `depends on` lines
+  abbrev pub mode_by : EntryPlace → List Numbered → Option (InputPrompt Form) → Needed
+  mode_by p own None = nothing
+  mode_by p own (Some q) = both (depends own) (prompt p q)
 
-  abbrev pub mode_names : Option ChoiceId → List SymId
-  mode_names o = names_of_choice l.modules (choice_row o)
+  -- what an entry with this first line and these attributes asks for itself
+  abbrev pub asked : EntryPlace → Numbered → List Numbered → Needed
+  asked p (IfLine e) own = named (symbols l.modules e)
+  asked p ChoiceLine own = mode_by p own (prompt_in l p)
+  asked p _ own = depends own
 
-  -- what a context requires in addition to its outer context
-  abbrev pub context_row_nodes : Context → List ℕ
-  context_row_nodes c = context_nodes c.outer.0 ++ (if is_some c.own_condition then [] else mode_nodes c.mode)
+  abbrev pub context_by : ℕ → Option Entry → Needed
+  context_by at None = nothing
+  context_by at (Some x) = both (context (outer_context l at)) (asked (place_of l at) (head_view x.head) (said_at l at))
 
-  abbrev pub context_row_names : Context → List SymId
-  context_row_names c = if is_some c.own_condition then when_names l.modules (when_view c.own_condition) else mode_names c.mode
+  -- an entry that is not its own context needs nothing
+  abbrev pub context_row : ℕ → Needed
+  context_row at = where_true ((place_of l at).context.0 == at) (context_by at (entry_at l at))
 
-  -- the definitions of a symbol
-  abbrev pub stored_definition : DefinitionId → Option Definition
-  stored_definition id = slice_get l.tables.definitions.items id.0
+  abbrev pub dependency_row : Choice → Needed
+  dependency_row c = both (context (outer_context l c.entry.0)) (depends (said_at l c.entry.0))
 
-  abbrev pub definitions_of : List DefinitionId → List Definition
-  definitions_of ids = filter_map stored_definition ids
+  -- ---- Symbols
+  -- a definition's prompt with what the definition depends on
+  abbrev pub own_prompt : EntryPlace → Option (InputPrompt Form) → Needed
+  own_prompt p None = nothing
+  own_prompt p (Some q) = both (context p.context.0) (prompt p q)
 
-  abbrev pub defaults_of : Definition → List SymbolDefault
-  defaults_of d = slice_of l.tables.defaults.items d.defaults
+  -- the same, but without a prompt too, if something else is read under what the definition depends on
+  abbrev pub asking : Bool → EntryPlace → Option (InputPrompt Form) → Needed
+  asking read p None = where_true read (context p.context.0)
+  asking read p (Some q) = both (context p.context.0) (prompt p q)
 
-  abbrev pub ranges_of : Definition → List SymbolRange
-  ranges_of d = slice_of l.tables.ranges.items d.ranges
+  -- a line of a definition of a symbol of this type counts; or its equation reads what the definition depends on
+  abbrev pub is_read : SymbolType → List Numbered → Bool
+  is_read symbol_type own = is_truth symbol_type || (says stated_default own || (says range_in own && is_number symbol_type))
 
-  -- the nodes of their prompts alone
-  abbrev pub entry_nodes : Definition → List ℕ
-  entry_nodes d = (if is_some d.prompt then context_nodes d.within.0 else []) ++ prompt_nodes d.prompt
+  -- the entry with a number as it is stored, as a definition of a symbol of this type
+  abbrev pub definition : SymbolType → ℕ → Needed
+  definition symbol_type at =
+      let p = place_of l at in
+      let own = said_at l at in
+      both (asking (is_read symbol_type own) p (prompt_in l p)) (named (flat_map (line_names l.modules (is_number symbol_type)) own))
 
-  abbrev pub prompts_nodes_of : List DefinitionId → List ℕ
-  prompts_nodes_of ids = flat_map entry_nodes (definitions_of ids)
+  -- the definitions of a symbol from one on; their prompts alone
+  abbrev pub definitions : SymbolType → SymId → ℕ → Needed
+  definitions symbol_type s at = each (λ e. definition symbol_type (suc e)) (definitions_at l s at)
 
-  abbrev pub prompts_names_of : List DefinitionId → List SymId
-  prompts_names_of ids = flat_map (entry_names l.modules) (definitions_of ids)
+  abbrev pub prompts : SymId → ℕ → Needed
+  prompts s at = each (λ e. let p = place_of l (suc e) in own_prompt p (prompt_in l p)) (definitions_at l s at)
 
-  abbrev pub prompts_nodes : Symbol → List ℕ
-  prompts_nodes s = prompts_nodes_of (definition_ids s)
+  -- a line that selects or implies: the symbol that it stands at, and its condition
+  abbrev pub selector_by : EntryPlace → Option SymId → Option (SelectOrImply × SymId × Option Form) → Needed
+  selector_by p None t = nothing
+  selector_by p (Some s) None = nothing
+  selector_by p (Some s) (Some t) = both (both (named (s ∷ [])) (context p.context.0)) (named (when_names l.modules (t.2)))
 
-  abbrev pub prompts_names : Symbol → List SymId
-  prompts_names s = prompts_names_of (definition_ids s)
+  abbrev pub selector : Selector → Needed
+  selector r = selector_by (place_of l r.entry.0) (symbol_at l r.entry.0) (target_in l r)
 
-  -- the equation of a symbol of this type reads the dependency of its definition
-  abbrev pub is_read : SymbolType → Definition → Bool
-  is_read symbol_type d = is_truth symbol_type || (is_some d.prompt || (nat_lt 0 (length (defaults_of d)) || (is_number symbol_type && nat_lt 0 (length (ranges_of d)))))
+  abbrev pub selector_at : Option Selector → Needed
+  selector_at None = nothing
+  selector_at (Some r) = selector r
 
-  abbrev pub definition_nodes : SymbolType → Definition → List ℕ
-  definition_nodes symbol_type d = (if is_read symbol_type d then context_nodes d.within.0 else []) ++ prompt_nodes d.prompt
+  -- the lines that select or imply a symbol up to one, from the last on
+  abbrev pub selectors : SelectOrImply → SymId → ℕ → Needed
+  selectors w s at = each (λ j. selector_at (slice_get l.selectors.items j)) (reverse (lines_up_to l w s at))
 
-  abbrev pub definition_names : SymbolType → Definition → List SymId
-  definition_names symbol_type d =
-      prompt_names l.modules d.prompt ++ flat_map (default_names l.modules) (defaults_of d) ++ (if is_number symbol_type then flat_map (range_names l.modules) (ranges_of d) else [])
+  -- ---- Choices
+  abbrev pub member_by : SymId → Option Symbol → Needed
+  member_by s None = nothing
+  member_by s (Some row) = prompts s row.first.0
 
-  abbrev pub definitions_nodes_of : SymbolType → List DefinitionId → List ℕ
-  definitions_nodes_of symbol_type ids = flat_map (definition_nodes symbol_type) (definitions_of ids)
+  -- the prompts of members
+  abbrev pub members : List SymId → Needed
+  members ms = each (λ m. member_by m (slice_get l.symbols.items m.0)) ms
 
-  abbrev pub definitions_names_of : SymbolType → List DefinitionId → List SymId
-  definitions_names_of symbol_type ids = flat_map (definition_names symbol_type) (definitions_of ids)
+  abbrev pub choice_mode : ℕ → EntryPlace → Option (InputPrompt Form) → Needed
+  choice_mode k p None = nothing
+  choice_mode k p (Some q) = both (node (dependency_number l k)) (prompt p q)
 
-  abbrev pub definitions_nodes : Symbol → List ℕ
-  definitions_nodes s = definitions_nodes_of s.symbol_type (definition_ids s)
+  -- the condition of a default that names a member
+  abbrev pub names_of_default : Option SymId → Option StatedDefault → List SymId
+  names_of_default member None = []
+  names_of_default None (Some d) = []
+  names_of_default (Some m) (Some d) = when_names l.modules d.when
 
-  abbrev pub definitions_names : Symbol → List SymId
-  definitions_names s = definitions_names_of s.symbol_type (definition_ids s)
+  abbrev pub choice_default_names : ℕ → Numbered → List SymId
+  choice_default_names k line = names_of_default (member_named l k line) (stated_default line)
 
-  -- the `select` or `imply` lines, from this one on
-  abbrev pub selector_row : ℕ → Option Selector
-  selector_row i = slice_get l.tables.selector_rows.lines.items i
+  abbrev pub choice_defaults : ℕ → List Numbered → Needed
+  choice_defaults k own = both (named (flat_map (choice_default_names k) own)) (where_true (says (member_named l k) own) (node (dependency_number l k)))
 
-  abbrev pub lines_from : Option SelectorId → List Selector
-  lines_from last = filter_map selector_row (chain_of (chains_of l.tables.selector_rows.lines.items) last)
+  abbrev pub choice : ℕ → Choice → Needed
+  choice k c =
+      let p = place_of l c.entry.0 in
+      both (both (members c.members.items) (choice_mode k p (prompt_in l p))) (choice_defaults k (said_at l c.entry.0))
 
-  abbrev pub source_nodes : Option Definition → List ℕ
-  source_nodes None = []
-  source_nodes (Some d) = context_nodes d.within.0
-
-  abbrev pub selectors_nodes : Option SelectorId → List ℕ
-  selectors_nodes last = flat_map (λ (r : Selector). source_nodes (stored_definition r.source)) (lines_from last)
-
-  abbrev pub selectors_names : Option SelectorId → List SymId
-  selectors_names last = flat_map (λ (r : Selector). source_names l.modules r (stored_definition r.source)) (lines_from last)
-
-  abbrev pub last_select : ℕ → Option SelectorId
-  last_select s = slice_index_or l.tables.selector_rows.selects.items s None
-
-  abbrev pub last_imply : ℕ → Option SelectorId
-  last_imply s = slice_index_or l.tables.selector_rows.implies.items s None
-
-  abbrev pub truth_nodes : ℕ → Symbol → List ℕ
-  truth_nodes i s = definitions_nodes s ++ selectors_nodes (last_select i) ++ selectors_nodes (last_imply i)
-
-  abbrev pub nodes_by_type : ℕ → Symbol → SymbolType → List ℕ
-  nodes_by_type i s Undefined = []
-  nodes_by_type i s IsBool = truth_nodes i s
-  nodes_by_type i s Tristate = truth_nodes i s
-  nodes_by_type i s Str = definitions_nodes s
-  nodes_by_type i s Int = definitions_nodes s
-  nodes_by_type i s Hex = definitions_nodes s
-
-  abbrev pub nodes_by_choice : ℕ → Symbol → Option ChoiceId → List ℕ
-  nodes_by_choice i s (Some k) = choice_number l k.0 ∷ []
-  nodes_by_choice i s None = nodes_by_type i s s.symbol_type
-
-  abbrev pub symbol_nodes : ℕ → Symbol → List ℕ
-  symbol_nodes i s = nodes_by_choice i s s.choice
-
-  -- the selection of a choice
-  abbrev pub choice_defaults_nodes : Choice → List ℕ
-  choice_defaults_nodes c = where_some c.defaults.items (context_nodes c.within.0)
-
-  abbrev pub member_row : SymId → Option Symbol
-  member_row s = slice_get l.symbols.items s.0
-
-  abbrev pub members_nodes : List SymId → List ℕ
-  members_nodes ms = flat_map prompts_nodes (filter_map member_row ms)
-
-  abbrev pub members_names : List SymId → List SymId
-  members_names ms = flat_map prompts_names (filter_map member_row ms)
-
-  abbrev pub choice_nodes : Choice → List ℕ
-  choice_nodes c = members_nodes c.members.items ++ choice_prompt_nodes c ++ choice_defaults_nodes c
-
-  abbrev pub choice_names : Choice → List SymId
-  choice_names c = members_names c.members.items ++ prompt_names l.modules c.prompt ++ flat_map (choice_default_names l.modules) c.defaults.items
-
+  -- ---- Rows
   -- the numbers of the symbols among these names
   abbrev pub numbers : List SymId → List ℕ
   numbers names = map (λ (s : SymId). s.0) (filter (λ (s : SymId). nat_lt s.0 (length l.symbols.items)) names)
 
-  -- the rows of choices
-  abbrev pub choice_row_of : Choice → List ℕ
-  choice_row_of c = choice_nodes c ++ numbers (choice_names c)
+  abbrev pub row_of : Needed → List ℕ
+  row_of n = n.nodes ++ numbers n.names
+
+  -- none comes first, and needs nothing
+  abbrev pub visible_rows : List (List ℕ)
+  visible_rows = [] ∷ map (λ (menu : EntryId). row_of (visible_row menu.0)) l.visibles.items
+
+  abbrev pub context_rows : List (List ℕ)
+  context_rows = map (λ at. row_of (context_row at)) (range_with_len 0 (suc (length l.places.items)))
+
+  abbrev pub dependency_rows : List (List ℕ)
+  dependency_rows = map (λ c. row_of (dependency_row c)) l.choices.items
+
+  abbrev pub choice_by : ℕ → Option Choice → Needed
+  choice_by k None = nothing
+  choice_by k (Some c) = choice k c
 
   abbrev pub choice_rows : List (List ℕ)
-  choice_rows = map choice_row_of l.tables.choices.items
+  choice_rows = map (λ k. row_of (choice_by k (slice_get l.choices.items k))) (range_with_len 0 (length l.choices.items))
 
 module _ (tree : TreeFacts) (l : Layout) where
-  abbrev pub truth_names : ℕ → Symbol → List SymId
-  truth_names i s = definitions_names l s ++ selectors_names l (last_select l i) ++ selectors_names l (last_imply l i) ++ type_names tree s.symbol_type
+  -- a bool or tristate outside a choice
+  abbrev pub truth : SymId → Symbol → Needed
+  truth s row =
+      both (both (both (definitions l row.symbol_type s row.first.0) (selectors l word.Select s (last_line row word.Select))) (selectors l word.Imply s (last_line row word.Imply)))
+      (named (type_names tree row.symbol_type))
 
-  abbrev pub names_by_type : ℕ → Symbol → SymbolType → List SymId
-  names_by_type i s Undefined = []
-  names_by_type i s IsBool = truth_names i s
-  names_by_type i s Tristate = truth_names i s
-  names_by_type i s Str = definitions_names l s
-  names_by_type i s Int = definitions_names l s
-  names_by_type i s Hex = definitions_names l s
+  abbrev pub by_type : SymId → Symbol → SymbolType → Needed
+  by_type s row Undefined = nothing
+  by_type s row IsBool = truth s row
+  by_type s row Tristate = truth s row
+  by_type s row Str = definitions l row.symbol_type s row.first.0
+  by_type s row Int = definitions l row.symbol_type s row.first.0
+  by_type s row Hex = definitions l row.symbol_type s row.first.0
 
-  abbrev pub symbol_names : ℕ → Symbol → List SymId
-  symbol_names i s = if is_some s.choice then [] else names_by_type i s s.symbol_type
+  -- a member needs what the selection of its choice does
+  abbrev pub by_choice : SymId → Symbol → Option ChoiceId → Needed
+  by_choice s row (Some k) = node (choice_number l k.0)
+  by_choice s row None = by_type s row row.symbol_type
 
-  abbrev pub symbol_row : ℕ → Option Symbol → List ℕ
-  symbol_row i None = []
-  symbol_row i (Some s) = symbol_nodes l i s ++ numbers l (symbol_names i s)
+  abbrev pub symbol_by : ℕ → Option Symbol → Needed
+  symbol_by i None = nothing
+  symbol_by i (Some row) = by_choice (symbol i) row row.choice
 
   abbrev pub symbol_rows : List (List ℕ)
-  symbol_rows = map (λ i. symbol_row i (slice_get l.symbols.items i)) (range_with_len 0 (length l.symbols.items))
+  symbol_rows = map (λ i. row_of l (symbol_by i (slice_get l.symbols.items i))) (range_with_len 0 (length l.symbols.items))
 
--- the row of a context: empty if it requires nothing, like the top; otherwise a context with that number requires what the row holds
-pub data IsContextRow (l : Layout) (i : ℕ) (row : List ℕ) : Type 0 where
-  of_top : condition_in l.tables.contexts i ≡ top → row ≡ [] → IsContextRow l i row
-  of_inner : (c : Context) → IsContextAt l.tables.contexts i c → row ≡ context_row_nodes l c ++ numbers l (context_row_names l c) → IsContextRow l i row
-
--- the rows of the contexts: each one holds what the context of that number requires
-abbrev pub AreContextRows : Layout → List (List ℕ) → Type 0
-AreContextRows l rows = (length rows ≡ length l.tables.contexts) × ((i : ℕ) → i < length rows → IsContextRow l i (slice_index_or rows i []))
-
--- the graph of a tree's needs: its symbols, contexts and choices
+-- The graph of a tree's needs: its symbols; the menus with a `visible if` line; the entries; what the choices depend on themselves; and the choices.
 pub record AreNodeRows (tree : TreeFacts) (l : Layout) (g : Nodes) : Type 0 where
   pub symbols_are : g.symbols ≡ length l.symbols.items
   pub count : length g.rows ≡ node_count l
-  pub contexts : List (List ℕ)
-  pub contexts_are : AreContextRows l contexts
-  pub rows_are : g.rows ≡ symbol_rows tree l ++ contexts ++ choice_rows l
+  pub rows_are : g.rows ≡ (((symbol_rows tree l ++ visible_rows l) ++ context_rows l) ++ dependency_rows l) ++ choice_rows l

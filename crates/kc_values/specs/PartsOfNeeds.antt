@@ -1,14 +1,7 @@
 -- Trusted: Names for parts of the definitions of Needs.
-use Rattle.std.specs.List.{filter, flat_map}
-use Rattle.std.specs.Prelude.{List, None, Option, Some, [], map, ℕ, ◌++◌, ◌∷◌}
-use Rattle.kc_language.specs.Expressions.{leaf_symbols}
-use Rattle.kc_language.specs.Needs.{condition_names, conjunct_names, names_by_type, names_of_choice}
-use Rattle.kc_language.specs.Symbols.{Bounds, ChoiceFacts, SymbolFacts, TreeFacts, listed}
-use Rattle.kc_language.specs.Values.{choice_at}
+use Rattle.std.specs.{List.{filter, flat_map}, Prelude.{List, None, Option, Some, [], map, ℕ, ◌++◌, ◌∷◌}}
+use Rattle.kc_language.specs.{Expressions.leaf_symbols, Needs.{condition_names, conjunct_names, names_by_type, names_of_choice}, Symbols.{Bounds, ChoiceFacts, SymbolFacts, TreeFacts, listed}, Values.choice_at, declared.expressions.{SymId.SymId, SymbolType.{SymbolType, TheVariants.{Bool as IsBool, Hex, Int, Str, Tristate, Undefined}}}}
 use Rattle.kc_values.specs.PartsOfValues.{is_mentioned}
-use Rattle.kc_language.specs.declared.expressions.SymId.{SymId}
-use Rattle.kc_language.specs.declared.expressions.SymbolType.{SymbolType}
-use Rattle.kc_language.specs.declared.expressions.SymbolType.TheVariants.{Bool as IsBool, Hex, Int, Str, Tristate, Undefined}
 
 abbrev pub one_name : SymId → List SymId
 one_name s = s ∷ []

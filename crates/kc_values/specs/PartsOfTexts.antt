@@ -1,14 +1,6 @@
 -- Trusted: Names for parts of the definitions of Texts.
-use Rattle.std.specs.List.{flat_map}
-use Rattle.std.specs.Prelude.{List, None, Option, Some, [], ℕ}
-use Rattle.kc_language.specs.Expressions.{Form, SymbolValue, symbol, tri_text}
-use Rattle.kc_language.specs.Symbols.{Guarded, SymbolFacts, TreeFacts, Warning}
-use Rattle.kc_language.specs.Texts.{warnings_by_type, warnings_of}
-use Rattle.kc_language.specs.Values.{GivenValue, SymbolPlace, UserPlace, clamped, direct, facts, known_from, name, number_text, selected_to, single_text}
-use Rattle.kc_language.specs.declared.expressions.SymId.{SymId}
-use Rattle.kc_language.specs.declared.expressions.SymbolType.{SymbolType}
-use Rattle.kc_language.specs.declared.expressions.Tri.{Tri}
-use Rattle.kc_language.specs.declared.values.Interval.{Interval}
+use Rattle.std.specs.{List.flat_map, Prelude.{List, None, Option, Some, [], ℕ}}
+use Rattle.kc_language.specs.{Expressions.{Form, SymbolValue, symbol, tri_text}, Symbols.{Guarded, SymbolFacts, TreeFacts, Warning}, Texts.{warnings_by_type, warnings_of}, Values.{GivenValue, SymbolPlace, UserPlace, clamped, direct, facts, known_from, name, number_text, selected_to, single_text}, declared.{expressions.{SymId.SymId, SymbolType.SymbolType, Tri.Tri}, values.Interval.Interval}}
 use Rattle.kc_language.specs.declared.diagnostics.Warning.TheVariants as warning
 
 -- a symbol is selected above its dependency

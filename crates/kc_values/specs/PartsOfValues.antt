@@ -1,15 +1,6 @@
 -- Trusted: Names for parts of the definitions of Values.
-use Rattle.std.specs.List.{find}
-use Rattle.std.specs.Option.{is_some, option_or}
-use Rattle.std.specs.Prelude.{Bool, List, None, Option, Some, false, if◌then◌else◌, nat_lt, not, option_map, unwrap_or, ℕ, ◌&&◌, ◌||◌}
-use Rattle.kc_language.specs.Expressions.{SymbolValue, Truth, greater, lesser, text}
-use Rattle.kc_language.specs.Symbols.{Bounds, ChoiceFacts, Condition, Guarded, SymbolFacts, TreeFacts, is_symbol_of}
-use Rattle.kc_language.specs.Values.{ChoicePlace, GivenValue, Member, SymbolPlace, UserPlace, and_value, by_type, changes_on_reread_truth, choice_at, condition, conditions, default_text, direct, first_met, given_of, implied_to, is_n, is_visible, mode_of, name_count, number_or_zero, same_given, selected, visibility, visible, visible_member, visible_text, written_by_type}
-use Rattle.kc_language.specs.declared.expressions.SymId.{SymId}
-use Rattle.kc_language.specs.declared.expressions.SymbolType.{SymbolType}
-use Rattle.kc_language.specs.declared.expressions.Tri.{Tri}
-use Rattle.kc_language.specs.declared.expressions.Tri.TheVariants.{N, Y}
-use Rattle.kc_language.specs.declared.values.Interval.{Interval}
+use Rattle.std.specs.{List.find, Option.{is_some, option_or}, Prelude.{Bool, List, None, Option, Some, false, if◌then◌else◌, nat_lt, not, option_map, unwrap_or, ℕ, ◌&&◌, ◌||◌}}
+use Rattle.kc_language.specs.{Expressions.{SymbolValue, Truth, greater, lesser, text}, Symbols.{Bounds, ChoiceFacts, Condition, Guarded, SymbolFacts, TreeFacts, is_symbol_of}, Values.{ChoicePlace, GivenValue, Member, SymbolPlace, UserPlace, and_value, by_type, changes_on_reread_truth, choice_at, condition, conditions, default_text, direct, first_met, given_of, implied_to, is_n, is_visible, mode_of, name_count, number_or_zero, same_given, selected, visibility, visible, visible_member, visible_text, written_by_type}, declared.{expressions.{SymId.SymId, SymbolType.SymbolType, Tri.{TheVariants.{N, Y}, Tri}}, values.Interval.Interval}}
 
 abbrev pub is_mentioned : TreeFacts → SymId → Bool
 is_mentioned tree s = nat_lt s.0 (name_count tree)

@@ -1,8 +1,6 @@
 -- Trusted: The user values that members read.
-use Rattle.std.specs.Prelude.{ℕ, List, Option, Some, None, slice_index_or}
-use Rattle.kc_language.specs.declared.expressions.SymId.{SymId}
-use Rattle.kc_language.specs.declared.symbols.ChoiceId.{ChoiceId}
-use Rattle.kc_language.specs.Values.{GivenValue}
+use Rattle.std.specs.Prelude.{List, None, Option, Some, slice_index_or, ℕ}
+use Rattle.kc_language.specs.{Values.GivenValue, declared.{expressions.SymId.SymId, symbols.ChoiceId.ChoiceId}}
 use Rattle.kc_user.specs.PartsOfConfigFile.{member_place}
 
 -- the member that the user chose for choice c

@@ -1,13 +1,8 @@
 -- Trusted: A table of values by symbol number. Some places may be empty.
-use Rattle.std.specs.Prelude.{ℕ, List, Option, Some, None, slice_index_or}
-use Rattle.kc_language.specs.Expressions.{SymbolValue, Truth, TextValue}
+use Rattle.std.specs.Prelude.{List, None, Option, Some, slice_index_or, ℕ}
+use Rattle.kc_language.specs.{Expressions.{SymbolValue, TextValue, Truth}, Symbols.TreeFacts, Values.{facts, name, type_in}, declared.expressions.{SymId.SymId, SymbolType.SymbolType, Tri.TheVariants.N}}
 use Rattle.kc_expr.specs.Value.{value_by_type}
-use Rattle.kc_language.specs.declared.expressions.SymId.{SymId}
-use Rattle.kc_language.specs.declared.expressions.Tri.TheVariants.{N}
 use Rattle.kc_language.specs.declared.expressions.Tri as tri
-use Rattle.kc_language.specs.declared.expressions.SymbolType.{SymbolType}
-use Rattle.kc_language.specs.Symbols.{TreeFacts}
-use Rattle.kc_language.specs.Values.{facts, type_in, name}
 use Rattle.kc_values.specs.declared.table.Value.{Value}
 use Rattle.kc_values.specs.declared.table.Value.TheVariants as value
 

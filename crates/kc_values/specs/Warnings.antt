@@ -1,7 +1,5 @@
 -- Trusted: The warnings about values (our own).
-use Rattle.std.specs.Prelude.{ℕ, List, map}
-use Rattle.std.specs.declared.alloc.Global.{Global}
-use Rattle.std.specs.declared.vec.Vec.{Vec}
+use Rattle.std.specs.{Prelude.{List, map, ℕ}, declared.{alloc.Global.Global, vec.Vec.Vec}}
 use Rattle.kc_diagnostics.specs.Warnings.{owned_warning}
 use Rattle.kc_language.specs.Symbols.{Warning}
 use Rattle.kc_language.specs.declared.diagnostics.Warning as declared

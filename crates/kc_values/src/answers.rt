@@ -6,6 +6,7 @@ ghost use Rattle.std.specs.List.{list_any};
 ghost use Rattle.kc_language.specs.Expressions.{same_symbol};
 ghost use Rattle.kc_language.specs.declared.values.Interval.{Interval};
 ghost use Rattle.kc_values.specs.AtTable as spec;
+ghost use Rattle.kc_values.specs.TableFacts.{IsRowOf};
 
 use crate::choices::visible;
 use crate::conditions::is_n;
@@ -19,6 +20,7 @@ use kc_user::value::UserValue;
 
 // Whether this truth value as the user value would change the value of a bool or tristate symbol outside a choice.
 fn changes(table: &Table<'_>, id: SymId, symbol: &Symbol, answer: Tri) -> bool
+    requires { IsRowOf table.now id symbol.now }
     ensures { result ≡ spec.changes table.now id symbol.now answer }
 {
     let given = UserValue::Tri(answer);
@@ -36,16 +38,18 @@ fn has_room(range: Option<Interval>) -> bool
 }
 
 /// Whether a symbol is visible: the condition of one of its prompts is not n (kconfiglib's `visibility`).
-pub fn is_visible(table: &Table<'_>, symbol: &Symbol) -> bool
-    ensures { result ≡ spec.is_visible table.now symbol.now }
+pub fn is_visible(table: &Table<'_>, id: SymId, symbol: &Symbol) -> bool
+    requires { IsRowOf table.now id symbol.now }
+    ensures { result ≡ spec.is_visible table.now id symbol.now }
 {
-    !is_n(visibility(table, symbol))
+    !is_n(visibility(table, id, symbol))
 }
 
 /// Whether some user value would change the value of a symbol outside a choice, if all other values stay the same (our
 /// own). A bool can be y or n, a tristate y, m or n, a string any text, an int or hex a number. A number can have more
 /// leading zeros. So a visible int or hex can change unless its active range is empty.
 pub fn can_change(table: &Table<'_>, id: SymId, symbol: &Symbol) -> bool
+    requires { IsRowOf table.now id symbol.now }
     ensures { result ≡ spec.can_change table.now id symbol.now }
 {
     match symbol.symbol_type {
@@ -58,9 +62,9 @@ pub fn can_change(table: &Table<'_>, id: SymId, symbol: &Symbol) -> bool
                 || changes(table, id, symbol, Tri::M)
                 || changes(table, id, symbol, Tri::N)
         }
-        SymbolType::Str => is_visible(table, symbol),
+        SymbolType::Str => is_visible(table, id, symbol),
         SymbolType::Int | SymbolType::Hex => {
-            is_visible(table, symbol) && has_room(active_range(table, symbol))
+            is_visible(table, id, symbol) && has_room(active_range(table, id, symbol))
         }
     }
 }
@@ -78,9 +82,14 @@ fn is_other_visible(table: &Table<'_>, selected: SymId, members: &[SymId]) -> bo
 }
 
 // Whether a choice has a visible member other than its default selection.
-fn has_other_member(table: &Table<'_>, choice: &Choice, default: Option<SymId>) -> bool
-    requires { default ≡ spec.selected_by table.now choice.now None }
-    ensures { result ≡ spec.has_other_member table.now choice.now }
+fn has_other_member(
+    table: &Table<'_>,
+    id: ChoiceId,
+    choice: &Choice,
+    default: Option<SymId>,
+) -> bool
+    requires { default ≡ spec.selected_by table.now id.0 choice.now None }
+    ensures { result ≡ spec.has_other_member table.now id.0 choice.now }
 {
     match default {
         Some(selected) => is_other_visible(table, selected, &choice.members),
@@ -95,7 +104,7 @@ pub fn has_other(table: &Table<'_>, choice: ChoiceId, default: Option<SymId>) ->
     ensures { result ≡ spec.has_other table.now choice.0 }
 {
     match table.layout.choice(choice) {
-        Some(found) => has_other_member(table, found, default),
+        Some(found) => has_other_member(table, choice, found, default),
         None => false,
     }
 }

@@ -1,17 +1,15 @@
 //! The selections of choices.
 
-ghost use Rattle.std.specs.Prelude.{◌≡◌, Some};
-ghost use Rattle.std.specs.List.{list_any};
-ghost use Rattle.kc_language.specs.Expressions.{same_symbol};
+ghost use Rattle.std.specs.Prelude.{◌≡◌};
 ghost use Rattle.kc_user.specs.PartsOfConfigFile.{member_place};
-ghost use Rattle.kc_language.specs.Values.{choice_at};
-ghost use Rattle.kc_values.specs.TableFacts.{IsSelected};
+ghost use Rattle.kc_values.specs.TableFacts.{IsChoiceRow, IsSelected};
 ghost use Rattle.kc_values.specs.AtTable as spec;
 
-use crate::conditions::{condition, is_n, mode_of};
+use crate::conditions::{choice_dependency, guarded, is_n, mode_of};
 use crate::table::Table;
 use crate::truths::prompts_condition;
 use kc_expr::expression::{SymId, Tri};
+use kc_tree::attributes::stated_default;
 use kc_tree::rows::{Choice, ChoiceId};
 
 /// Whether the condition of one of the symbol's prompts is not n. An undefined name has no prompts (kconfiglib's
@@ -20,33 +18,31 @@ pub(crate) fn visible(table: &Table<'_>, id: SymId) -> bool
     ensures { result ≡ spec.visible table.now id }
 {
     match table.layout.symbol(id) {
-        Some(symbol) => !is_n(prompts_condition(table, symbol)),
+        Some(symbol) => !is_n(prompts_condition(table, id, symbol)),
         None => false,
     }
 }
 
-// Whether the symbol is a visible member of the choice.
-fn visible_member(table: &Table<'_>, choice: &Choice, id: SymId) -> bool
-    ensures { result ≡ spec.visible_member table.now choice.now id }
+// Whether it is a member of the choice with a visible prompt.
+fn visible_member(table: &Table<'_>, choice: ChoiceId, id: SymId) -> bool
+    ensures { result ≡ spec.visible_member table.now choice.0 id }
 {
-    visible(table, id) && is_among(id, &choice.members)
+    table.layout.is_member(choice, id) && visible(table, id)
 }
 
-fn is_among(id: SymId, members: &[SymId]) -> bool
-    ensures { result ≡ list_any (same_symbol id) members.now }
+// The first default whose condition is not n and that names a visible member.
+fn first_default(table: &Table<'_>, id: ChoiceId, choice: &Choice) -> Option<SymId>
+    requires { IsChoiceRow table.now id.0 choice.now }
+    ensures { result ≡ spec.first_default table.now id.0 choice.now }
 {
-    members.iter().any(|member| id.0 == member.0)
-}
-
-// The member of the first default whose condition is not n and whose member is visible.
-fn first_default(table: &Table<'_>, choice: &Choice) -> Option<SymId>
-    ensures { result ≡ spec.first_default table.now choice.now }
-{
-    for default in &choice.defaults {
-        if !is_n(condition(table, choice.within, &default.when))
-            && visible_member(table, choice, default.member)
-        {
-            return Some(default.member);
+    let within = choice_dependency(table, id);
+    for line in table.layout.attributes(choice.entry) {
+        if let Some(stated) = stated_default(&line.attribute) {
+            if let Some(member) = table.layout.default_member(id, &line.attribute) {
+                if !is_n(guarded(within, &stated.when, table)) && visible(table, member) {
+                    return Some(member);
+                }
+            }
         }
     }
     None
@@ -63,11 +59,12 @@ fn first_visible(table: &Table<'_>, members: &[SymId]) -> Option<SymId>
     None
 }
 
-// The default selection: that member, otherwise the first visible member.
-fn unselected(table: &Table<'_>, choice: &Choice) -> Option<SymId>
-    ensures { result ≡ spec.unselected table.now choice.now }
+// The default selection: that default, else the first visible member.
+fn unselected(table: &Table<'_>, id: ChoiceId, choice: &Choice) -> Option<SymId>
+    requires { IsChoiceRow table.now id.0 choice.now }
+    ensures { result ≡ spec.unselected table.now id.0 choice.now }
 {
-    match first_default(table, choice) {
+    match first_default(table, id, choice) {
         Some(id) => Some(id),
         None => first_visible(table, &choice.members),
     }
@@ -76,15 +73,15 @@ fn unselected(table: &Table<'_>, choice: &Choice) -> Option<SymId>
 // The selection of a choice; none if its mode is n. It is the user's member if that is a visible member of the choice.
 // Otherwise it is the default selection.
 fn selected(table: &Table<'_>, id: ChoiceId, choice: &Choice, user: Option<SymId>) -> Option<SymId>
-    requires { choice_at table.now.tree.now id.0 ≡ Some (spec.choice_in table.now choice.now) }
-    ensures { result ≡ spec.selected_by table.now choice.now (member_place user) }
+    requires { IsChoiceRow table.now id.0 choice.now }
+    ensures { result ≡ spec.selected_by table.now id.0 choice.now (member_place user) }
 {
     if is_n(mode_of(table, id)) {
         return None;
     }
     match user {
-        Some(member) if visible_member(table, choice, member) => Some(member),
-        _ => unselected(table, choice),
+        Some(member) if visible_member(table, id, member) => Some(member),
+        _ => unselected(table, id, choice),
     }
 }
 

@@ -33,9 +33,9 @@ pub fn own_differs(
     match symbol.symbol_type {
         SymbolType::Bool => Ok(table.tri(id) != truth_equation(table, id, symbol, None)),
         SymbolType::Tristate => Ok(table.tri(id) != truth_equation(table, id, symbol, None)),
-        SymbolType::Str => Ok(table.text(id) != default_text(table, symbol)),
-        SymbolType::Int => differs_from_default(alloc, table, symbol, table.text(id)),
-        SymbolType::Hex => differs_from_default(alloc, table, symbol, table.text(id)),
+        SymbolType::Str => Ok(table.text(id) != default_text(table, id, symbol)),
+        SymbolType::Int => differs_from_default(alloc, table, id, symbol, table.text(id)),
+        SymbolType::Hex => differs_from_default(alloc, table, id, symbol, table.text(id)),
         SymbolType::Undefined => Ok(table.text(id) != name(table.tree, id)),
     }
 }

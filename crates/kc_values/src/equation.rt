@@ -2,7 +2,7 @@
 
 ghost use Rattle.std.specs.Prelude.{◌≡◌, None, slice_index_or, IfOk};
 ghost use Rattle.kc_values.specs.AtTable as spec;
-ghost use Rattle.kc_values.specs.TableFacts.{own_value, AreSelected};
+ghost use Rattle.kc_values.specs.TableFacts.{own_value, AreSelected, IsRowOf};
 ghost use Rattle.kc_values.specs.Selections.{given_for};
 ghost use Rattle.kc_values.specs.Table.{known_value};
 ghost use Rattle.kc_values.specs.User.{given_in};
@@ -27,21 +27,22 @@ pub fn own_equation(
     symbol: &Symbol,
     user: Option<&UserValue>,
 ) -> Result<Value, AllocError>
+    requires { IsRowOf table.now id symbol.now }
     ensures { IfOk result (λ x. known_value symbol.now.symbol_type x ≡ own_value table.now id symbol.now (given_in user.entry)) }
 {
     match symbol.symbol_type {
         SymbolType::Bool => Ok(Value::Truth(truth_equation(table, id, symbol, user))),
         SymbolType::Tristate => Ok(Value::Truth(truth_equation(table, id, symbol, user))),
         SymbolType::Str => {
-            let text = text_equation(alloc, table, symbol, user)?;
+            let text = text_equation(alloc, table, id, symbol, user)?;
             Ok(Value::Text(text))
         }
         SymbolType::Int => {
-            let text = number_equation(alloc, table, symbol, user)?;
+            let text = number_equation(alloc, table, id, symbol, user)?;
             Ok(Value::Text(text))
         }
         SymbolType::Hex => {
-            let text = number_equation(alloc, table, symbol, user)?;
+            let text = number_equation(alloc, table, id, symbol, user)?;
             Ok(Value::Text(text))
         }
         SymbolType::Undefined => {
@@ -72,6 +73,7 @@ pub fn equation(
     user: Option<&UserValue>,
     users: &[Option<SymId>],
 ) -> Result<Value, AllocError>
+    requires row { IsRowOf table.now id symbol.now }
     requires selected { AreSelected table.now users.now }
     ensures { IfOk result (λ x. known_value symbol.now.symbol_type x
         ≡ spec.equation table.now id symbol.now (given_for symbol.now.choice (given_in user.entry) users.now)) }

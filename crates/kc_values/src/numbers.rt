@@ -4,6 +4,7 @@ ghost use Rattle.std.specs.Prelude.{◌≡◌, ◌<◌, None, Some, IfOk, IfSome
 ghost use Rattle.std.specs.Option.{option_copied};
 ghost use Rattle.kc_text.specs.PartsOfText.{hex_limit};
 ghost use Rattle.kc_values.specs.AtTable as spec;
+ghost use Rattle.kc_values.specs.TableFacts.{condition_at, IsRowOf};
 ghost use Rattle.kc_values.specs.FoundRows.{IsMetRange};
 ghost use Rattle.kc_language.specs.Values as digits;
 ghost use Rattle.kc_values.specs.Small.{HasSmallBounds};
@@ -12,12 +13,13 @@ ghost use Rattle.kc_values.specs.User.{given_in};
 use crate::conditions::{condition, is_n};
 use crate::table::Table;
 use crate::texts::{default_text, visible_text_of};
-use crate::truths::definition;
-use kc_expr::expression::SymbolType;
+use kc_entries::statement::SymbolRange;
+use kc_expr::expression::{SymId, SymbolType};
 use kc_expr::values::text;
 pub use kc_language::values::Interval;
 use kc_text::{read_hex, read_int};
-use kc_tree::rows::{Definition, Symbol, SymbolRange};
+use kc_tree::attributes::range_of;
+use kc_tree::rows::{EntryId, EntryPlace, Symbol};
 use kc_user::value::UserValue;
 use std::alloc::{AllocError, Global};
 
@@ -33,7 +35,7 @@ pub(crate) fn number_as(symbol_type: SymbolType, text: &[u8]) -> Option<i128>
     }
 }
 
-// The number that a text holds; 0 if it holds none.
+// The number of a text, or 0.
 #[tactic(auto, using(crate::proofs::SmallNumbers::number_or_zero_below))]
 fn number_or_zero(symbol_type: SymbolType, text: &[u8]) -> i128
     ensures number { result ≡ digits.number_or_zero symbol_type text.now }
@@ -42,8 +44,8 @@ fn number_or_zero(symbol_type: SymbolType, text: &[u8]) -> i128
     number_as(symbol_type, text).unwrap_or(0)
 }
 
-// The bounds of a range.
-fn bounds_of(table: &Table<'_>, symbol_type: SymbolType, range: &SymbolRange) -> Interval
+/// The bounds of a range.
+pub fn bounds_of(table: &Table<'_>, symbol_type: SymbolType, range: &SymbolRange) -> Interval
     ensures range { Some result ≡ spec.interval table.now symbol_type range.now }
     ensures small { HasSmallBounds result }
 {
@@ -53,13 +55,16 @@ fn bounds_of(table: &Table<'_>, symbol_type: SymbolType, range: &SymbolRange) ->
     }
 }
 
-// The first range of a definition whose condition is not n.
-fn first_met<'t>(table: &Table<'t>, definition: &Definition) -> Option<&'t SymbolRange>
-    ensures { IsMetRange table.now (spec.first_met table.now (spec.definition_in table.now definition.now).ranges) result }
+// The first range of a definition with this place whose condition is not n.
+fn first_met<'t>(table: &Table<'t>, at: EntryId, place: EntryPlace) -> Option<&'t SymbolRange>
+    ensures { IsMetRange table.now (spec.range_at table.now at.0 (condition_at table.now place.context.0)) result }
 {
-    for range in table.layout.ranges(definition) {
-        if !is_n(condition(table, definition.within, &range.when)) {
-            return Some(range);
+    let layout = table.layout;
+    for line in layout.attributes(at) {
+        if let Some(range) = range_of(&line.attribute) {
+            if !is_n(condition(table, place.context, &range.when)) {
+                return Some(range);
+            }
         }
     }
     None
@@ -67,16 +72,20 @@ fn first_met<'t>(table: &Table<'t>, definition: &Definition) -> Option<&'t Symbo
 
 /// The active range of a symbol: the first range whose condition is not n (the kernel's kconfig-language document,
 /// "Menu attributes": numerical ranges). A bound that is not a number counts as 0 (our own).
-pub fn active_range(table: &Table<'_>, symbol: &Symbol) -> Option<Interval>
-    ensures range { result ≡ spec.active_range table.now symbol.now }
+pub fn active_range(table: &Table<'_>, id: SymId, symbol: &Symbol) -> Option<Interval>
+    requires { IsRowOf table.now id symbol.now }
+    ensures range { result ≡ spec.active_range table.now id symbol.now }
     ensures small { IfSome result HasSmallBounds }
 {
-    for i in 0..symbol.definition_count() {
-        if let Some(definition) = definition(table, symbol, i) {
-            if let Some(range) = first_met(table, definition) {
+    let mut at = symbol.first;
+    'definitions: while at.is_some() {
+        let place = table.layout.place(at);
+        if place.has_range {
+            if let Some(range) = first_met(table, at, place) {
                 return Some(bounds_of(table, symbol.symbol_type, range));
             }
         }
+        at = place.next;
     }
     None
 }
@@ -163,35 +172,39 @@ pub fn clamped(
 pub(crate) fn number_equation(
     alloc: Global,
     table: &Table<'_>,
+    id: SymId,
     symbol: &Symbol,
     user: Option<&UserValue>,
 ) -> Result<Vec<u8>, AllocError>
-    ensures { IfOk result (λ v. v.items ≡ spec.number_equation table.now symbol.now (given_in user.entry)) }
+    requires { IsRowOf table.now id symbol.now }
+    ensures { IfOk result (λ v. v.items ≡ spec.number_equation table.now id symbol.now (given_in user.entry)) }
 {
-    let range = active_range(table, symbol);
-    let given = visible_text_of(table, symbol, user);
+    let range = active_range(table, id, symbol);
+    let given = visible_text_of(table, id, symbol, user);
     if let Some(bytes) = if_within_range(symbol.symbol_type, range, given) {
         let copy = Vec::from_slice(alloc, bytes)?;
         return Ok(copy);
     }
-    let default = default_text(table, symbol);
+    let default = default_text(table, id, symbol);
     let value = clamped(alloc, symbol.symbol_type, range, default)?;
     Ok(value)
 }
 
-/// Whether a text differs from the value of an int or hex symbol outside a choice without its user value, which is the
-/// first default's text, clamped (our own rule of the minimal file). Fails only if there is not enough memory.
+/// Whether a text is another than the value of an int or hex symbol outside a choice without the user's: the first default's
+/// text, clamped (our own rule of the minimal file). Fails only when it is out of memory.
 #[tactic(auto, using(crate::proofs::SmallNumbers::inside_keeps))]
 pub(crate) fn differs_from_default(
     alloc: Global,
     table: &Table<'_>,
+    id: SymId,
     symbol: &Symbol,
     text: &[u8],
 ) -> Result<bool, AllocError>
-    ensures { IfOk result (λ b. b ≡ not (bytes_eq text.now (spec.number_equation table.now symbol.now None))) }
+    requires { IsRowOf table.now id symbol.now }
+    ensures { IfOk result (λ b. b ≡ not (bytes_eq text.now (spec.number_equation table.now id symbol.now None))) }
 {
-    let range = active_range(table, symbol);
-    let default = default_text(table, symbol);
+    let range = active_range(table, id, symbol);
+    let default = default_text(table, id, symbol);
     if is_within_range(symbol.symbol_type, range, default) {
         return Ok(text != default);
     }

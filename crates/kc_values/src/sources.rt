@@ -4,6 +4,7 @@ ghost use Rattle.std.specs.Prelude.{◌≡◌};
 ghost use Rattle.std.specs.Option.{option_copied};
 ghost use Rattle.kc_user.specs.PartsOfConfigFile.{member_place};
 ghost use Rattle.kc_values.specs.AtTable as at;
+ghost use Rattle.kc_values.specs.TableFacts.{IsRowOf};
 ghost use Rattle.kc_values.specs.Sources as spec;
 ghost use Rattle.kc_values.specs.User.{given_in};
 
@@ -16,19 +17,20 @@ use crate::texts::{default_text, visible_text_of};
 use crate::truths::{default_truth, given_or_implied, implied, met_default, selected_to, upgraded};
 use crate::warnings::is_above;
 use kc_expr::expression::{SymId, SymbolType};
-use kc_language::explanations::Source;
+use kc_language::sources::Source;
 use kc_tree::rows::{ChoiceId, Symbol};
 use kc_user::value::UserValue;
 
 // The default that applied, either unchanged or moved into the active range.
-fn default_source(table: &Table<'_>, symbol: &Symbol) -> Source
-    ensures { result ≡ spec.default_source table.now symbol.now }
+fn default_source(table: &Table<'_>, id: SymId, symbol: &Symbol) -> Source
+    requires { IsRowOf table.now id symbol.now }
+    ensures { result ≡ spec.default_source table.now id symbol.now }
 {
-    if met_default(table, symbol).is_none() {
+    if met_default(table, id, symbol).is_none() {
         return Source::NoDefault;
     }
-    let range = active_range(table, symbol);
-    if is_within_range(symbol.symbol_type, range, default_text(table, symbol)) {
+    let range = active_range(table, id, symbol);
+    if is_within_range(symbol.symbol_type, range, default_text(table, id, symbol)) {
         Source::Default
     } else {
         Source::MovedDefault
@@ -36,11 +38,12 @@ fn default_source(table: &Table<'_>, symbol: &Symbol) -> Source
 }
 
 // Whether the user gave a truth value and the symbol is visible.
-fn is_truth_used(table: &Table<'_>, symbol: &Symbol, user: Option<&UserValue>) -> bool
-    ensures { result ≡ spec.is_truth_used table.now symbol.now (given_in user.entry) }
+fn is_truth_used(table: &Table<'_>, id: SymId, symbol: &Symbol, user: Option<&UserValue>) -> bool
+    requires { IsRowOf table.now id symbol.now }
+    ensures { result ≡ spec.is_truth_used table.now id symbol.now (given_in user.entry) }
 {
     match user {
-        Some(UserValue::Tri(_)) => is_visible(table, symbol),
+        Some(UserValue::Tri(_)) => is_visible(table, id, symbol),
         _ => false,
     }
 }
@@ -48,12 +51,15 @@ fn is_truth_used(table: &Table<'_>, symbol: &Symbol, user: Option<&UserValue>) -
 // The source of a bool or tristate symbol without user value and `select`: an `imply` that raises the default,
 // otherwise the default.
 fn implied_source(table: &Table<'_>, id: SymId, symbol: &Symbol) -> Source
+    requires { IsRowOf table.now id symbol.now }
     ensures { result ≡ spec.implied_source table.now id symbol.now }
 {
-    if is_above(implied(table, id, symbol), default_truth(table, symbol)) {
+    let default = upgraded(table, symbol.symbol_type, default_truth(table, id, symbol));
+    let raised = upgraded(table, symbol.symbol_type, implied(table, id, symbol));
+    if is_above(raised, default) {
         Source::Implied
     } else {
-        default_source(table, symbol)
+        default_source(table, id, symbol)
     }
 }
 
@@ -65,9 +71,10 @@ fn unselected_source(
     symbol: &Symbol,
     user: Option<&UserValue>,
 ) -> Source
+    requires { IsRowOf table.now id symbol.now }
     ensures { result ≡ spec.unselected_source table.now id symbol.now (given_in user.entry) }
 {
-    if is_truth_used(table, symbol, user) {
+    if is_truth_used(table, id, symbol, user) {
         Source::User
     } else {
         implied_source(table, id, symbol)
@@ -76,6 +83,7 @@ fn unselected_source(
 
 // The source of a bool or tristate symbol: a `select` that raises its value, otherwise `unselected_source`.
 fn truth_source(table: &Table<'_>, id: SymId, symbol: &Symbol, user: Option<&UserValue>) -> Source
+    requires { IsRowOf table.now id symbol.now }
     ensures { result ≡ spec.truth_source table.now id symbol.now (given_in user.entry) }
 {
     let rest = given_or_implied(table, id, symbol, user);
@@ -88,23 +96,26 @@ fn truth_source(table: &Table<'_>, id: SymId, symbol: &Symbol, user: Option<&Use
 }
 
 // The source of a string, int or hex symbol: the user's text if it is used, otherwise the default.
-fn text_source(table: &Table<'_>, symbol: &Symbol, used: Option<&[u8]>) -> Source
-    ensures { result ≡ spec.text_source table.now symbol.now (option_copied used.entry) }
+fn text_source(table: &Table<'_>, id: SymId, symbol: &Symbol, used: Option<&[u8]>) -> Source
+    requires { IsRowOf table.now id symbol.now }
+    ensures { result ≡ spec.text_source table.now id symbol.now (option_copied used.entry) }
 {
     match used {
         Some(_) => Source::User,
-        None => default_source(table, symbol),
+        None => default_source(table, id, symbol),
     }
 }
 
 // The source of an int or hex symbol. The user's text must be inside its range.
-fn number_source(table: &Table<'_>, symbol: &Symbol, user: Option<&UserValue>) -> Source
-    ensures { result ≡ spec.number_source table.now symbol.now (given_in user.entry) }
+fn number_source(table: &Table<'_>, id: SymId, symbol: &Symbol, user: Option<&UserValue>) -> Source
+    requires { IsRowOf table.now id symbol.now }
+    ensures { result ≡ spec.number_source table.now id symbol.now (given_in user.entry) }
 {
-    let range = active_range(table, symbol);
-    let given = visible_text_of(table, symbol, user);
+    let range = active_range(table, id, symbol);
+    let given = visible_text_of(table, id, symbol, user);
     text_source(
         table,
+        id,
         symbol,
         if_within_range(symbol.symbol_type, range, given),
     )
@@ -116,15 +127,16 @@ fn number_source(table: &Table<'_>, symbol: &Symbol, user: Option<&UserValue>) -
 /// Otherwise: the default that applied, which the active range may have moved, or none. A symbol without a type has no
 /// source.
 pub fn own_source(table: &Table<'_>, id: SymId, symbol: &Symbol, user: Option<&UserValue>) -> Source
+    requires { IsRowOf table.now id symbol.now }
     ensures { result ≡ spec.own_source table.now id symbol.now (given_in user.entry) }
 {
     match symbol.symbol_type {
         SymbolType::Undefined => Source::Untyped,
         SymbolType::Bool => truth_source(table, id, symbol, user),
         SymbolType::Tristate => truth_source(table, id, symbol, user),
-        SymbolType::Str => text_source(table, symbol, visible_text_of(table, symbol, user)),
-        SymbolType::Int => number_source(table, symbol, user),
-        SymbolType::Hex => number_source(table, symbol, user),
+        SymbolType::Str => text_source(table, id, symbol, visible_text_of(table, id, symbol, user)),
+        SymbolType::Int => number_source(table, id, symbol, user),
+        SymbolType::Hex => number_source(table, id, symbol, user),
     }
 }
 

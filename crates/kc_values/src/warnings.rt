@@ -4,7 +4,8 @@ ghost use Rattle.std.specs.Prelude.{◌≡◌, ◌++◌, IfOk, IfSome, OnOk};
 ghost use Rattle.std.specs.Option.{option_copied};
 ghost use Rattle.kc_diagnostics.specs.Warnings.{owned_warning};
 ghost use Rattle.kc_values.specs.AtTable as at;
-ghost use Rattle.kc_language.specs.Values.{number_text, above};
+ghost use Rattle.kc_values.specs.TableFacts.{IsRowOf};
+ghost use Rattle.kc_language.specs.Values.{name, number_text, above};
 ghost use Rattle.kc_values.specs.Small.{HasSmallBounds};
 ghost use Rattle.kc_values.specs.User.{given_in};
 ghost use Rattle.kc_language.specs.Texts as spec;
@@ -170,19 +171,21 @@ fn default_warning(
 fn range_warnings(
     alloc: Global,
     table: &Table<'_>,
-    name: &[u8],
+    id: SymId,
     symbol: &Symbol,
     visibility: Tri,
     user: Option<&UserValue>,
     out: &mut Vec<Warning<Vec<u8>>>,
 ) -> Result<(), AllocError>
-    requires { visibility ≡ at.visibility table.now symbol.now }
-    ensures { OnOk result (held out.new.items ≡ held out.old.items ++ at.range_warnings table.now name.now symbol.now (given_in user.entry)) }
+    requires row { IsRowOf table.now id symbol.now }
+    requires visibility { visibility ≡ at.visibility table.now id symbol.now }
+    ensures { OnOk result (held out.new.items ≡ held out.old.items ++ at.range_warnings table.now (name table.now.tree.now id) id symbol.now (given_in user.entry)) }
 {
-    let range = active_range(table, symbol);
+    let range = active_range(table, id, symbol);
     let given = visible_text(user, visibility);
     let used = if_within_range(symbol.symbol_type, range, given);
-    let default = met_text(table, symbol);
+    let default = met_text(table, id, symbol);
+    let name = name(table.tree, id);
     user_warning(alloc, symbol.symbol_type, name, range, given, out)?;
     default_warning(alloc, symbol.symbol_type, name, range, used, default, out)?;
     Ok(())
@@ -192,23 +195,23 @@ fn range_warnings(
 fn select_warnings(
     alloc: Global,
     table: &Table<'_>,
-    name: &[u8],
     id: SymId,
     symbol: &Symbol,
     out: &mut Vec<Warning<Vec<u8>>>,
 ) -> Result<(), AllocError>
-    ensures { OnOk result (held out.new.items ≡ held out.old.items ++ at.select_warnings table.now name.now id symbol.now) }
+    requires { IsRowOf table.now id symbol.now }
+    ensures { OnOk result (held out.new.items ≡ held out.old.items ++ at.select_warnings table.now (name table.now.tree.now id) id symbol.now) }
 {
     let selected_to = selected_to(table, id, symbol);
     // A symbol that is not selected can't be above its direct dependency.
     if let Tri::N = selected_to {
         return Ok(());
     }
-    let direct = direct(table, symbol);
+    let direct = direct(table, id, symbol);
     if !is_above(selected_to, direct) {
         return Ok(());
     }
-    let warning = selected_warning(alloc, name, selected_to, direct)?;
+    let warning = selected_warning(alloc, name(table.tree, id), selected_to, direct)?;
     out.push(warning)?;
     Ok(())
 }
@@ -226,19 +229,19 @@ pub fn warnings_into(
     user: Option<&UserValue>,
     out: &mut Vec<Warning<Vec<u8>>>,
 ) -> Result<(), AllocError>
-    requires { visibility ≡ at.visibility table.now symbol.now }
+    requires row { IsRowOf table.now id symbol.now }
+    requires visibility { visibility ≡ at.visibility table.now id symbol.now }
     ensures { OnOk result (held out.new.items ≡ held out.old.items ++ at.warnings_of table.now id symbol.now (given_in user.entry)) }
 {
     if symbol.choice.is_some() {
         return Ok(());
     }
-    let name = name(table.tree, id);
     match symbol.symbol_type {
         SymbolType::Undefined => Ok(()),
-        SymbolType::Bool => select_warnings(alloc, table, name, id, symbol, out),
-        SymbolType::Tristate => select_warnings(alloc, table, name, id, symbol, out),
+        SymbolType::Bool => select_warnings(alloc, table, id, symbol, out),
+        SymbolType::Tristate => select_warnings(alloc, table, id, symbol, out),
         SymbolType::Str => Ok(()),
-        SymbolType::Int => range_warnings(alloc, table, name, symbol, visibility, user, out),
-        SymbolType::Hex => range_warnings(alloc, table, name, symbol, visibility, user, out),
+        SymbolType::Int => range_warnings(alloc, table, id, symbol, visibility, user, out),
+        SymbolType::Hex => range_warnings(alloc, table, id, symbol, visibility, user, out),
     }
 }

@@ -2,6 +2,7 @@
 
 ghost use Rattle.std.specs.Prelude.{◌≡◌};
 ghost use Rattle.kc_values.specs.AtTable as spec;
+ghost use Rattle.kc_values.specs.TableFacts.{IsRowOf};
 
 use crate::conditions::is_n;
 use crate::table::Table;
@@ -11,33 +12,36 @@ use kc_tree::rows::Symbol;
 
 // Whether a bool or tristate symbol outside a choice is written.
 fn truth_is_written(table: &Table<'_>, id: SymId, symbol: &Symbol, visibility: Tri) -> bool
-    requires { visibility ≡ spec.visibility table.now symbol.now }
+    requires row { IsRowOf table.now id symbol.now }
+    requires visibility { visibility ≡ spec.visibility table.now id symbol.now }
     ensures { result ≡ spec.written_truth table.now id symbol.now }
 {
     !is_n(visibility)
-        || !is_n(default_truth(table, symbol))
+        || !is_n(default_truth(table, id, symbol))
         || !is_n(selected_to(table, id, symbol))
-        || (!is_n(implied_to(table, id, symbol)) && !is_n(direct(table, symbol)))
+        || (!is_n(implied_to(table, id, symbol)) && !is_n(direct(table, id, symbol)))
 }
 
 // Whether a string, int or hex symbol is written.
-fn text_is_written(table: &Table<'_>, symbol: &Symbol, visibility: Tri) -> bool
-    requires { visibility ≡ spec.visibility table.now symbol.now }
-    ensures { result ≡ spec.written_text table.now symbol.now }
+fn text_is_written(table: &Table<'_>, id: SymId, symbol: &Symbol, visibility: Tri) -> bool
+    requires row { IsRowOf table.now id symbol.now }
+    requires visibility { visibility ≡ spec.visibility table.now id symbol.now }
+    ensures { result ≡ spec.written_text table.now id symbol.now }
 {
-    !is_n(visibility) || met_default(table, symbol).is_some()
+    !is_n(visibility) || met_default(table, id, symbol).is_some()
 }
 
 // Whether a symbol outside a choice is written, by its type.
 fn own_is_written(table: &Table<'_>, id: SymId, symbol: &Symbol, visibility: Tri) -> bool
-    requires { visibility ≡ spec.visibility table.now symbol.now }
+    requires row { IsRowOf table.now id symbol.now }
+    requires visibility { visibility ≡ spec.visibility table.now id symbol.now }
     ensures { result ≡ spec.written_by_type table.now id symbol.now }
 {
     match symbol.symbol_type {
         SymbolType::Undefined => false,
         SymbolType::Bool | SymbolType::Tristate => truth_is_written(table, id, symbol, visibility),
         SymbolType::Str | SymbolType::Int | SymbolType::Hex => text_is_written(
-            table, symbol, visibility,
+            table, id, symbol, visibility,
         ),
     }
 }
@@ -48,7 +52,8 @@ fn own_is_written(table: &Table<'_>, id: SymId, symbol: &Symbol, visibility: Tri
 /// without a type has none (kconfiglib's `config_string`). The caller passes the visibility, so that it is computed
 /// once.
 pub fn written(table: &Table<'_>, id: SymId, symbol: &Symbol, visibility: Tri) -> bool
-    requires { visibility ≡ spec.visibility table.now symbol.now }
+    requires row { IsRowOf table.now id symbol.now }
+    requires visibility { visibility ≡ spec.visibility table.now id symbol.now }
     ensures { result ≡ spec.is_written table.now id symbol.now }
 {
     match symbol.choice.get() {

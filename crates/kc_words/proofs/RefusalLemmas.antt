@@ -11,7 +11,7 @@ use Rattle.clap.specs.declared.error.kind.ErrorKind.TheVariants as kind
 use Rattle.kc_language.specs.Text.{longest_prefix}
 use Rattle.kc_words.specs.CommandLine.{kconf_app, depth_option, exclusion_of, prefix_option, IsRefused, depth_of, no_depth_text, no_prefix_text, refusal_of}
 use Rattle.kc_language.specs.ConfigFile.{is_prefix}
-use Rattle.kc_words.specs.PartsOfCommandLine.{are_exclusive, depth_refusal, exclusion_text, explains_many, explains_many_text, is_one_of_many, lacks_check, lacks_target, no_check_text, one_of_many_text, target_text, first_report, value_refusal}
+use Rattle.kc_words.specs.PartsOfCommandLine.{are_exclusive, dead_of_many_text, depth_refusal, exclusion_text, explains_dead, explains_dead_text, explains_many, explains_many_text, is_dead_of_many, is_one_of_many, lacks_check, lacks_target, no_check_text, one_of_many_text, target_text, first_report, value_refusal}
 use Rattle.kc_words.specs.Refusals.{IsBadFor, IsKindOf, IsNoRequest, IsNoValue, IsTold}
 use Rattle.kc_words.specs.declared.usage.UsageError.{UsageError}
 use Rattle.kc_words.specs.declared.usage.UsageError.TheVariants as usage
@@ -82,15 +82,18 @@ front (x ∷ xs) y h = omega arith
 long : (e t : Text) → Some e ≡ Some t → 0 < length e → 0 < length t
 long e t is h = let same : e ≡ t = cc in subst (λ (x : Text). 0 < length x) same h
 
-told_exclusion : (a n b d e : Bool) (t : Text)
-    → (if a then Some exclusion_text else if n then Some no_check_text else if b then Some one_of_many_text else if d then Some explains_many_text else if e then Some target_text else None) ≡ Some t
+told_exclusion : (a n b d m x e : Bool) (t : Text)
+    → (if a then Some exclusion_text else if n then Some no_check_text else if b then Some one_of_many_text else if d then Some explains_many_text
+    else if m then Some dead_of_many_text else if x then Some explains_dead_text else if e then Some target_text else None) ≡ Some t
     → 0 < length t
-told_exclusion true n b d e t h = long exclusion_text t h (positive exclusion_text refl)
-told_exclusion false true b d e t h = long no_check_text t h (positive no_check_text refl)
-told_exclusion false false true d e t h = long one_of_many_text t h (positive one_of_many_text refl)
-told_exclusion false false false true e t h = long explains_many_text t h (positive explains_many_text refl)
-told_exclusion false false false false true t h = long target_text t h (positive target_text refl)
-told_exclusion false false false false false t h = absurd (cc)
+told_exclusion true n b d m x e t h = long exclusion_text t h (positive exclusion_text refl)
+told_exclusion false true b d m x e t h = long no_check_text t h (positive no_check_text refl)
+told_exclusion false false true d m x e t h = long one_of_many_text t h (positive one_of_many_text refl)
+told_exclusion false false false true m x e t h = long explains_many_text t h (positive explains_many_text refl)
+told_exclusion false false false false true x e t h = long dead_of_many_text t h (positive dead_of_many_text refl)
+told_exclusion false false false false false true e t h = long explains_dead_text t h (positive explains_dead_text refl)
+told_exclusion false false false false false false true t h = long target_text t h (positive target_text refl)
+told_exclusion false false false false false false false t h = absurd (cc)
 
 told_depth : (d : Text) (b : Bool) (t : Text) → (if b then None else Some (no_depth_text d)) ≡ Some t → 0 < length t
 told_depth d true t h = absurd (cc)
@@ -101,7 +104,7 @@ told_value p d true t h = told_depth d (is_some (depth_of d)) t h
 told_value p d false t h = long (no_prefix_text p) t h (front (codes "error: invalid value '") _ (positive (codes "error: invalid value '") refl))
 
 told_first : (rows : List Row) (o : Option Text) (t : Text) → exclusion_of rows ≡ o → first_report o (value_refusal (prefix_option rows) (depth_option rows)) ≡ Some t → 0 < length t
-told_first rows (Some e) t is h = told_exclusion (are_exclusive rows) (lacks_check rows) (is_one_of_many rows) (explains_many rows) (lacks_target rows) t (is ∙ h)
+told_first rows (Some e) t is h = told_exclusion (are_exclusive rows) (lacks_check rows) (is_one_of_many rows) (explains_many rows) (is_dead_of_many rows) (explains_dead rows) (lacks_target rows) t (is ∙ h)
 told_first rows None t is h = told_value (prefix_option rows) (depth_option rows) (is_prefix (prefix_option rows)) t h
 
 pub told-request : (rows : List Row) (u : UsageError) → IsNoRequest rows u → IsTold u

@@ -3,8 +3,9 @@
 -- the value `true`.
 use Rattle.std.specs.{Prelude.{◌≡◌, ◌≢◌, ◌==◌, ◌<◌, ◌&&◌, ◌||◌, ◌⊎◌, ◌++◌, ◌^◌, ℕ, List, [], ◌∷◌, Bool, true, false, not, Option, Some, None, is_some, unwrap_or, option_map, String, string_bytes, codes, decimal, bytes_eq, nat_eq, if◌then◌else◌, map, fold, filter, flat_map, length, drop, slice_index_or}, List.{last_or, list_any, slice_split, starts_with}, Option.option_or, Str.Lines.lines, declared.alloc.Global.Global}
 use Rattle.clap.specs.{Words.{App, IsAmong, Kinds, Row, Rule, Text, all_of, first_of, matches_of, new_app, new_rule, with_rule}, Simple.on_top, declared.{builder.action.ArgAction.TheVariants.{Append, SetTrue}, error.kind.ErrorKind.{ErrorKind, TheVariants.{DisplayHelp, DisplayVersion}}}}
-use Rattle.kc_language.specs.{Text.{byte, longest_prefix, natural_of}, ConfigFile.{Notation, is_prefix}, Outcome.Options, declared.outcome.Delivery.{Delivery, TheVariants.{Check, Replace, Write}}}
-use Rattle.kc_words.specs.declared.{each.Each.Each, options.Request.{Request, TheVariants.{One, Each as Many}}, usage.UsageError.{UsageError, TheVariants.{Help, Version, Bad, Memory}}}
+use Rattle.kc_language.specs.{Text.{byte, longest_prefix, natural_of}, ConfigFile.{Notation, is_prefix}}
+use Rattle.kc_outcome.specs.{Outcome.{Options}, declared.outcome.{Delivery.{Delivery, TheVariants.{Check, Replace, Write}}, Output.{Output, TheVariants.{Config, DependencyFile, Explanation, GoneLines, Header, Minimal, NewSymbols}}}}
+use Rattle.kc_words.specs.declared.{each.Each.Each, options.{DeadList.DeadList, Request.{Request, TheVariants.{Dead, One, Each as Many}}}, usage.UsageError.{UsageError, TheVariants.{Help, Version, Bad, Memory}}}
 
 -- ---- The command
 -- The rules: --NAME VALUE; --NAME; --NAME VALUE, which may be repeated; KCONFIG, which is required; and the arguments after it.
@@ -32,7 +33,7 @@ unfoldable pub with_options : App → App
 with_options app = fold with_rule app
     (option_rule (codes "root") ∷ flag_rule (codes "flat") ∷ option_rule (codes "include") ∷ option_rule (codes "config") ∷ option_rule (codes "out") ∷ option_rule (codes "header")
     ∷ option_rule (codes "savedefconfig") ∷ option_rule (codes "list-new") ∷ flag_rule (codes "with-help") ∷ option_rule (codes "list-gone")
-    ∷ option_rule (codes "depfile") ∷ option_rule (codes "prefix")
+    ∷ option_rule (codes "list-dead") ∷ option_rule (codes "depfile") ∷ option_rule (codes "prefix")
     ∷ flag_rule (codes "raw-strings")
     ∷ flag_rule (codes "must-exist") ∷ flag_rule (codes "strict") ∷ flag_rule (codes "strict-tree") ∷ flag_rule (codes "quiet-tree")
     ∷ flag_rule (codes "hints") ∷ flag_rule (codes "warn-lost")
@@ -87,19 +88,30 @@ unless_explained rows absent asked = if has_value (codes "explain") rows then ab
 abbrev pub delivery_of : List Row → Delivery
 delivery_of rows = if is_given (codes "check") rows then Check else if is_given (codes "replace") rows then Replace else Write
 
+-- The outputs that are asked for, with their files. `out` is the file of the full `.config`. The others follow it in the order of `other_outputs`. With
+-- --explain there are only the explanations, which go to standard output.
+abbrev pub other_outputs : List (Text × Output)
+other_outputs = (codes "header", Header) ∷ (codes "savedefconfig", Minimal) ∷ (codes "list-new", NewSymbols) ∷ (codes "list-gone", GoneLines)
+    ∷ (codes "depfile", DependencyFile) ∷ []
+
+abbrev pub output_if : Output → Option Text → List (Output × Text)
+output_if kind None = []
+output_if kind (Some file) = (kind, file) ∷ []
+
+abbrev pub asked_outputs : List Row → Option Text → List (Output × Text)
+asked_outputs rows out = unless_explained rows ((Explanation, codes "/dev/stdout") ∷ [])
+    (output_if Config out ++ flat_map (λ other. output_if other.1 (first_of other.0 rows)) other_outputs)
+
+abbrev pub outputs_of : Options → List (Output × Text)
+outputs_of options = map (λ wanted. (wanted.kind, string_bytes wanted.file)) options.outputs.items
+
 -- The options that are the same for one configuration and for many: the values of the arguments, or the defaults.
 pub record AreSharedOptions (rows : List Row) (options : Options) : Type 0 where
   pub root : string_bytes options.root ≡ unwrap_or (first_of (codes "root") rows) (codes ".")
   pub kconfig : string_bytes options.kconfig ≡ unwrap_or (first_of (codes "KCONFIG") rows) []
   pub is_flat : options.is_flat ≡ is_given (codes "flat") rows
   pub include : option_map string_bytes options.include ≡ first_of (codes "include") rows
-  pub header : option_map string_bytes options.header ≡ unless_explained rows None (first_of (codes "header") rows)
-  pub minimal : option_map string_bytes options.minimal ≡ unless_explained rows None (first_of (codes "savedefconfig") rows)
-  pub list_new : option_map string_bytes options.list_new ≡ unless_explained rows None (first_of (codes "list-new") rows)
   pub with_help : options.with_help ≡ is_given (codes "with-help") rows
-  pub list_gone : option_map string_bytes options.list_gone ≡ unless_explained rows None (first_of (codes "list-gone") rows)
-  pub depfile : option_map string_bytes options.depfile ≡ unless_explained rows None (first_of (codes "depfile") rows)
-  pub explanation : option_map string_bytes options.explanation ≡ unless_explained rows (Some (codes "/dev/stdout")) None
   pub explain : map string_bytes options.explain.items ≡ values_of (codes "explain") rows
   pub explain_depth : Some options.explain_depth ≡ depth_of (depth_option rows)
   pub explain_lost : options.explain_lost ≡ is_given (codes "explain-lost") rows
@@ -117,7 +129,7 @@ pub record AreSharedOptions (rows : List Row) (options : Options) : Type 0 where
 pub record AreOptionsOf (rows : List Row) (options : Options) : Type 0 where
   pub shared : AreSharedOptions rows options
   pub config : string_bytes options.config ≡ unwrap_or (first_of (codes "config") rows) (codes ".config")
-  pub out : option_map string_bytes options.out ≡ unless_explained rows None (Some (unwrap_or (first_of (codes "out") rows) (string_bytes options.config)))
+  pub outputs : outputs_of options ≡ asked_outputs rows (Some (unwrap_or (first_of (codes "out") rows) (string_bytes options.config)))
   pub fragments : map string_bytes options.fragments.items ≡ values_of (codes "FRAGMENT") rows ++ values_of (codes "fragment") rows
   pub must_exist : options.must_exist ≡ is_given (codes "must-exist") rows
   pub names_config : options.names_config ≡ false
@@ -126,17 +138,29 @@ pub record AreOptionsOf (rows : List Row) (options : Options) : Type 0 where
 pub record IsEachOf (rows : List Row) (each : Each) : Type 0 where
   pub shared : AreSharedOptions rows each.options
   pub config : string_bytes each.options.config ≡ []
-  pub out : option_map string_bytes each.options.out ≡ unless_explained rows None (first_of (codes "out") rows)
+  pub outputs : outputs_of each.options ≡ asked_outputs rows (first_of (codes "out") rows)
   pub fragments : map string_bytes each.options.fragments.items ≡ values_of (codes "fragment") rows
   pub must_exist : each.options.must_exist ≡ true
   pub names_config : each.options.names_config ≡ true
   pub configurations : map string_bytes each.configurations.items ≡ values_of (codes "FRAGMENT") rows
   pub list : option_map string_bytes each.list ≡ first_of (codes "each-from") rows
 
--- One configuration, or many configurations.
+-- A list of dead prompts in this file. Nothing else is read or written.
+pub record IsDeadOf (rows : List Row) (file : Text) (dead : DeadList) : Type 0 where
+  pub shared : AreSharedOptions rows dead.options
+  pub outputs : outputs_of dead.options ≡ []
+  pub names_config : dead.options.names_config ≡ false
+  pub file_is : string_bytes dead.file ≡ file
+
+-- One configuration, a list of dead prompts, or many configurations.
+abbrev pub AsksAlone : List Row → Request → Type 0
+AsksAlone rows (One options) = (first_of (codes "list-dead") rows ≡ None) × AreOptionsOf rows options
+AsksAlone rows (Dead dead) = (file : Text) × (first_of (codes "list-dead") rows ≡ Some file) × IsDeadOf rows file dead
+AsksAlone rows (Many each) = ⊥
+
 abbrev pub AsksFor : List Row → Request → Type 0
-AsksFor rows (One options) = (is_each rows ≡ false) × AreOptionsOf rows options
 AsksFor rows (Many each) = (is_each rows ≡ true) × IsEachOf rows each
+AsksFor rows request = (is_each rows ≡ false) × AsksAlone rows request
 
 -- ---- Refusals
 -- The end of an error about the arguments.
@@ -154,6 +178,10 @@ exclusion_of rows =
     then Some (with_hint (codes "error: the argument '--config <FILE>' cannot be used with '--each'"))
     else if is_each rows && has_value (codes "explain") rows
     then Some (with_hint (codes "error: the argument '--explain <NAME>' cannot be used with '--each'"))
+    else if has_value (codes "list-dead") rows && is_each rows
+    then Some (with_hint (codes "error: the argument '--list-dead <FILE>' cannot be used with '--each'"))
+    else if has_value (codes "list-dead") rows && has_value (codes "explain") rows
+    then Some (with_hint (codes "error: the argument '--list-dead <FILE>' cannot be used with '--explain'"))
     else if is_each rows && (has_value (codes "depfile") rows && not (has_value (codes "out") rows))
     then Some (with_hint (codes "error: the argument '--depfile <FILE>' needs '--out <FILE>' with '--each'"))
     else None
@@ -211,21 +239,15 @@ filled_parts config (first ∷ others) = first ++ flat_map (filled_part config) 
 abbrev pub filled : Text → Text → Text
 filled config pattern = filled_parts config (slice_split (λ b. b == byte "{") pattern)
 
--- The options of one of many configurations: the shared options, with this name, and with the patterns filled in. None explains a symbol.
+-- The options of one of many configurations: the shared options, with this name, and with the patterns of the outputs filled in. None explains a symbol.
 pub record AreOptionsFor (each : Each) (name : Text) (options : Options) : Type 0 where
   pub root : string_bytes options.root ≡ string_bytes each.options.root
   pub config : string_bytes options.config ≡ name
-  pub out : option_map string_bytes options.out ≡ option_map (λ p. filled name (string_bytes p)) each.options.out
+  pub outputs : outputs_of options ≡ map (λ wanted. (wanted.kind, filled name (string_bytes wanted.file))) each.options.outputs.items
   pub kconfig : string_bytes options.kconfig ≡ string_bytes each.options.kconfig
   pub is_flat : options.is_flat ≡ each.options.is_flat
   pub include : option_map string_bytes options.include ≡ option_map string_bytes each.options.include
-  pub header : option_map string_bytes options.header ≡ option_map (λ p. filled name (string_bytes p)) each.options.header
-  pub minimal : option_map string_bytes options.minimal ≡ option_map (λ p. filled name (string_bytes p)) each.options.minimal
-  pub list_new : option_map string_bytes options.list_new ≡ option_map (λ p. filled name (string_bytes p)) each.options.list_new
   pub with_help : options.with_help ≡ each.options.with_help
-  pub list_gone : option_map string_bytes options.list_gone ≡ option_map (λ p. filled name (string_bytes p)) each.options.list_gone
-  pub depfile : option_map string_bytes options.depfile ≡ option_map (λ p. filled name (string_bytes p)) each.options.depfile
-  pub explanation : options.explanation ≡ None
   pub explain : options.explain.items ≡ []
   pub explain_depth : options.explain_depth ≡ each.options.explain_depth
   pub explain_lost : options.explain_lost ≡ each.options.explain_lost
@@ -242,14 +264,8 @@ pub record AreOptionsFor (each : Each) (name : Text) (options : Options) : Type 
   pub names_config : options.names_config ≡ each.options.names_config
 
 -- The files that a configuration writes; and those from which it reads user values.
-abbrev pub filled_if : Text → Option (String Global) → List Text
-filled_if config None = []
-filled_if config (Some pattern) = filled config (string_bytes pattern) ∷ []
-
 abbrev pub writes : Each → Text → List Text
-writes each config = filled_if config each.options.out ++ (filled_if config each.options.header
-    ++ (filled_if config each.options.minimal ++ (filled_if config each.options.list_new
-    ++ (filled_if config each.options.list_gone ++ filled_if config each.options.depfile))))
+writes each config = map (λ wanted. filled config (string_bytes wanted.file)) each.options.outputs.items
 
 abbrev pub reads : Each → Text → List Text
 reads each config = config ∷ map string_bytes each.options.fragments.items

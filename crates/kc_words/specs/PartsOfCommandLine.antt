@@ -16,6 +16,12 @@ is_one_of_many rows = is_each rows && has_value (codes "config") rows
 abbrev pub explains_many : List Row → Bool
 explains_many rows = is_each rows && has_value (codes "explain") rows
 
+abbrev pub is_dead_of_many : List Row → Bool
+is_dead_of_many rows = has_value (codes "list-dead") rows && is_each rows
+
+abbrev pub explains_dead : List Row → Bool
+explains_dead rows = has_value (codes "list-dead") rows && has_value (codes "explain") rows
+
 abbrev pub lacks_target : List Row → Bool
 lacks_target rows = is_each rows && (has_value (codes "depfile") rows && not (has_value (codes "out") rows))
 
@@ -30,6 +36,12 @@ one_of_many_text = codes "error: the argument '--config <FILE>' cannot be used w
 
 abbrev pub explains_many_text : Text
 explains_many_text = codes "error: the argument '--explain <NAME>' cannot be used with '--each'\n\nFor more information, try '--help'.\n"
+
+abbrev pub dead_of_many_text : Text
+dead_of_many_text = codes "error: the argument '--list-dead <FILE>' cannot be used with '--each'\n\nFor more information, try '--help'.\n"
+
+abbrev pub explains_dead_text : Text
+explains_dead_text = codes "error: the argument '--list-dead <FILE>' cannot be used with '--explain'\n\nFor more information, try '--help'.\n"
 
 abbrev pub target_text : Text
 target_text = codes "error: the argument '--depfile <FILE>' needs '--out <FILE>' with '--each'\n\nFor more information, try '--help'.\n"

@@ -2,7 +2,7 @@
 use Rattle.std.specs.{Prelude.{◌≡◌, ◌≢◌, ◌<◌, List, Option, None, Some, String, Vec, false, codes, length, map, string_bytes}, Str.IsUtf8, declared.alloc.Global.Global}
 use Rattle.clap.specs.{Words.{Row, Text}, declared.error.kind.ErrorKind.ErrorKind}
 use Rattle.kc_language.specs.ConfigFile.{is_prefix}
-use Rattle.kc_language.specs.Outcome.{out_of_memory_line}
+use Rattle.kc_language.specs.Statements.{out_of_memory_line}
 use Rattle.kc_words.specs.{CommandLine.{depth_of, listed, no_depth_text, no_prefix_text, refusal_of, value_error}, declared.usage.UsageError.UsageError}
 use Rattle.clap.specs.declared.error.kind.ErrorKind.TheVariants as kind
 use Rattle.kc_words.specs.declared.usage.UsageError.TheVariants as usage

@@ -82,6 +82,11 @@ const LIST_GONE: OptionTexts = OptionTexts {
     help: "Write the lines of input files that name no symbol of the tree to FILE",
 };
 
+const LIST_DEAD: OptionTexts = OptionTexts {
+    value: "FILE",
+    help: "Only write the names of the symbols whose prompts no .config makes visible to FILE",
+};
+
 const DEPFILE: OptionTexts = OptionTexts {
     value: "FILE",
     help: "Write a make dependency file to FILE, like gcc -MP",
@@ -237,6 +242,7 @@ fn with_options<'a>(alloc: Global, command: Command<'a>) -> Result<Command<'a>, 
     let command = with_option(alloc, command, "list-new", LIST_NEW)?;
     let command = with_flag(alloc, command, "with-help", WITH_HELP)?;
     let command = with_option(alloc, command, "list-gone", LIST_GONE)?;
+    let command = with_option(alloc, command, "list-dead", LIST_DEAD)?;
     let command = with_option(alloc, command, "depfile", DEPFILE)?;
     let command = with_option(alloc, command, "prefix", PREFIX)?;
     let command = with_flag(alloc, command, "raw-strings", RAW_STRINGS)?;

@@ -2,20 +2,20 @@
 
 ghost use Rattle.std.specs.Prelude.{◌≡◌, IfOk, IfErr, OnOk, map, option_map, string_bytes};
 ghost use Rattle.kc_words.specs.CommandLine.{AreApart, IsClash, writes, AreOptionsFor};
+ghost use Rattle.kc_words.specs.Inputs.{filled_file, filled_view, output_view};
 
 use crate::apart;
-use crate::patterns::{filled_if, push_filled};
+use crate::patterns::filled;
 use crate::usage::UsageError;
-use kc_config_file::prefix::Prefix;
-use kc_options::Options;
+use kc_input::prefix::Prefix;
+use kc_options::{Options, WantedOutput};
 use std::alloc::{AllocError, Global};
 
 /// What is requested for each of many configurations of one tree (our own).
 #[derive(Drop)]
 pub struct Each {
-    /// The options of each configuration. Its `out`, `header`, `minimal`, `list_new`, `list_gone` and `depfile` are
-    /// patterns of names: `{}` is the configuration as given, and `{/}` its file name without the folder. Its `config`
-    /// is empty.
+    /// The options of each. The files of its outputs are patterns of names, in which `{}` stands for the configuration as given and
+    /// `{/}` for its file name without the folder. Its `config` is empty.
     pub options: Options,
     /// The configurations in the arguments.
     pub configurations: Vec<String>,
@@ -51,6 +51,40 @@ fn copy_if(alloc: Global, name: &Option<String>) -> Result<Option<String>, Alloc
     }
 }
 
+// The outputs, with the patterns of their names filled.
+fn filled_outputs(
+    alloc: Global,
+    config: &str,
+    outputs: &[WantedOutput],
+) -> Result<Vec<WantedOutput>, AllocError>
+    ensures { IfOk result (λ made. map output_view made.items ≡ map (filled_view config.now) outputs.now) }
+{
+    let mut made = Vec::new(alloc);
+    for wanted in outputs {
+        let file = filled(alloc, config, wanted.file.as_str())?;
+        made.push(WantedOutput {
+            kind: wanted.kind,
+            file,
+        })?;
+    }
+    Ok(made)
+}
+
+// The files of the outputs, with their patterns filled.
+fn filled_files(
+    alloc: Global,
+    config: &str,
+    outputs: &[WantedOutput],
+) -> Result<Vec<String>, AllocError>
+    ensures { IfOk result (λ names. map string_bytes names.items ≡ map (filled_file config.now) outputs.now) }
+{
+    let mut names = Vec::new(alloc);
+    for wanted in outputs {
+        names.push(filled(alloc, config, wanted.file.as_str())?)?;
+    }
+    Ok(names)
+}
+
 impl Each {
     /// Returns the options of the configuration of this name. The patterns are filled in: `{}` with the whole name,
     /// `{/}` with the part after its last `/` (as GNU parallel does). The name itself is not filled in again. No symbol
@@ -62,16 +96,10 @@ impl Each {
         Ok(Options {
             root: String::from_str(alloc, asked.root.as_str())?,
             config: String::from_str(alloc, config)?,
-            out: filled_if(alloc, config, &asked.out)?,
+            outputs: filled_outputs(alloc, config, &asked.outputs)?,
             kconfig: String::from_str(alloc, asked.kconfig.as_str())?,
             is_flat: asked.is_flat,
-            header: filled_if(alloc, config, &asked.header)?,
-            minimal: filled_if(alloc, config, &asked.minimal)?,
-            list_new: filled_if(alloc, config, &asked.list_new)?,
             with_help: asked.with_help,
-            list_gone: filled_if(alloc, config, &asked.list_gone)?,
-            depfile: filled_if(alloc, config, &asked.depfile)?,
-            explanation: None,
             explain: Vec::new(alloc),
             explain_depth: asked.explain_depth,
             explain_lost: asked.explain_lost,
@@ -94,14 +122,7 @@ impl Each {
     pub(crate) fn written_by(&self, alloc: Global, config: &str) -> Result<Vec<String>, AllocError>
         ensures { IfOk result (λ names. map string_bytes names.items ≡ writes self.now config.now) }
     {
-        let mut names = Vec::new(alloc);
-        push_filled(alloc, config, &self.options.out, &mut names)?;
-        push_filled(alloc, config, &self.options.header, &mut names)?;
-        push_filled(alloc, config, &self.options.minimal, &mut names)?;
-        push_filled(alloc, config, &self.options.list_new, &mut names)?;
-        push_filled(alloc, config, &self.options.list_gone, &mut names)?;
-        push_filled(alloc, config, &self.options.depfile, &mut names)?;
-        Ok(names)
+        filled_files(alloc, config, &self.options.outputs)
     }
 
     /// Checks that the configurations of these names can be run one after another: no file that one of them writes is

@@ -15,5 +15,5 @@ mod usage;
 
 pub use each::Each;
 pub use list::list_of;
-pub use options::{Request, request_of};
+pub use options::{DeadList, Request, request_of};
 pub use usage::UsageError;

@@ -1,10 +1,11 @@
 //! What the arguments of the command line request.
 
-ghost use Rattle.std.specs.Prelude.{◌≡◌, ◌++◌, ◌<◌, [], IfOk, IfErr, None, Some, codes, false, length, map, option_map, string_bytes, unwrap_or, true};
+ghost use Rattle.std.specs.Prelude.{◌≡◌, ◌++◌, ◌<◌, [], IfOk, IfErr, OnOk, Some, codes, false, length, map, option_map, string_bytes, unwrap_or, true};
 ghost use Rattle.kc_language.specs.ConfigFile.{is_prefix};
 ghost use Rattle.clap.specs.Words.{takes, rows_of, found_of, kind_of, first_of, fault_of};
-ghost use Rattle.kc_words.specs.CommandLine.{exclusion_of, has_value, is_each, is_given, values_of, AreOptionsOf, AreSharedOptions, AsksFor, IsEachOf, IsRequestOf, delivery_of, depth_of, prefix_option, kconf_app, arguments_of, rows_for, IsRefused, refusal_of, unless_explained};
-ghost use Rattle.kc_words.specs.Inputs.{AreOutputs, AreValues, HasInputs};
+ghost use Rattle.kc_words.specs.CommandLine.{exclusion_of, has_value, is_each, is_given, values_of, AreOptionsOf, AreSharedOptions, AsksAlone, AsksFor, IsDeadOf, IsEachOf, IsRequestOf, asked_outputs, delivery_of, other_outputs, output_if, depth_of, prefix_option, kconf_app, arguments_of, rows_for, IsRefused, refusal_of, unless_explained};
+ghost use Rattle.std.specs.List.{flat_map};
+ghost use Rattle.kc_words.specs.Inputs.{AreValues, HasInputs, output_view};
 ghost use Rattle.kc_words.specs.Refusals.{IsKindOf, IsNoDepth, IsNoPrefix, IsNoRequest, IsNoValue, IsBadWords, IsTold};
 
 use crate::command::command;
@@ -13,8 +14,8 @@ use crate::each::Each;
 use crate::usage::{UsageError, bad};
 use clap::error::ErrorKind;
 use clap::{ArgMatches, Error};
-use kc_config_file::prefix::Prefix;
-use kc_options::{Delivery, Options};
+use kc_input::prefix::Prefix;
+use kc_options::{Delivery, Options, Output, WantedOutput};
 use std::alloc::{AllocError, Global};
 
 /// What the arguments request.
@@ -24,27 +25,27 @@ pub enum Request {
     One(Options),
     /// Runs of many configurations of one tree.
     Each(Each),
+    /// A list of the prompts that no input makes visible.
+    Dead(DeadList),
+}
+
+/// A list of the prompts that no input makes visible, and its file. The options have no outputs.
+#[derive(Drop)]
+pub struct DeadList {
+    /// What else is asked for.
+    pub options: Options,
+    /// The file that the list is written to.
+    pub file: String,
 }
 
 // The options that differ between one configuration and many.
 #[derive(Drop)]
 struct Inputs {
     config: String,
-    out: Option<String>,
+    outputs: Vec<WantedOutput>,
     fragments: Vec<String>,
     must_exist: bool,
     names_config: bool,
-}
-
-// The files that are written in addition to the full `.config`.
-#[derive(Drop)]
-struct Outputs {
-    header: Option<String>,
-    minimal: Option<String>,
-    list_new: Option<String>,
-    list_gone: Option<String>,
-    depfile: Option<String>,
-    explanation: Option<String>,
 }
 
 // The values that may be refused.
@@ -65,6 +66,12 @@ const CONFIG_AND_EACH: &str =
 
 const EXPLAIN_AND_EACH: &str =
     "error: the argument '--explain <NAME>' cannot be used with '--each'\n\nFor more information, try '--help'.\n";
+
+const DEAD_AND_EACH: &str =
+    "error: the argument '--list-dead <FILE>' cannot be used with '--each'\n\nFor more information, try '--help'.\n";
+
+const DEAD_AND_EXPLAIN: &str =
+    "error: the argument '--list-dead <FILE>' cannot be used with '--explain'\n\nFor more information, try '--help'.\n";
 
 const DEPFILE_WITHOUT_OUT: &str =
     "error: the argument '--depfile <FILE>' needs '--out <FILE>' with '--each'\n\nFor more information, try '--help'.\n";
@@ -196,6 +203,12 @@ fn exclusion_of(matches: &ArgMatches<'_>) -> Option<&'static str>
     if is_each(matches) && has_value(matches, "explain") {
         return Some(EXPLAIN_AND_EACH);
     }
+    if has_value(matches, "list-dead") && is_each(matches) {
+        return Some(DEAD_AND_EACH);
+    }
+    if has_value(matches, "list-dead") && has_value(matches, "explain") {
+        return Some(DEAD_AND_EXPLAIN);
+    }
     if is_each(matches) && has_value(matches, "depfile") && !has_value(matches, "out") {
         return Some(DEPFILE_WITHOUT_OUT);
     }
@@ -225,38 +238,67 @@ fn flag_unless_explained(matches: &ArgMatches<'_>, id: &str) -> bool
     !has_value(matches, "explain") && flag_of(matches, id)
 }
 
-// The file of the option, unless an explanation is requested.
-fn file_of(alloc: Global, matches: &ArgMatches<'_>, id: &str) -> Result<Option<String>, AllocError>
-    ensures { IfOk result (λ file. option_map string_bytes file ≡ unless_explained (rows_of (found_of matches.now)) None (first_of id.now (rows_of (found_of matches.now)))) }
+// Adds an output, if there is a file for it.
+fn push_output(
+    kind: Output,
+    file: Option<String>,
+    outputs: &mut Vec<WantedOutput>,
+) -> Result<(), AllocError>
+    ensures { OnOk result (map output_view outputs.new.items ≡ map output_view outputs.old.items ++ output_if kind (option_map string_bytes file)) }
 {
-    if has_value(matches, "explain") {
-        return Ok(None);
+    if let Some(file) = file {
+        outputs.push(WantedOutput { kind, file })?;
     }
-    text_of(alloc, matches, id)
+    Ok(())
 }
 
-// The file of the explanations, if they are requested.
-fn explanation_of(alloc: Global, matches: &ArgMatches<'_>) -> Result<Option<String>, AllocError>
-    ensures { IfOk result (λ file. option_map string_bytes file ≡ unless_explained (rows_of (found_of matches.now)) (Some (codes "/dev/stdout")) None) }
+// Adds the output of this argument, if it is there.
+fn push_asked(
+    alloc: Global,
+    matches: &ArgMatches<'_>,
+    id: &str,
+    kind: Output,
+    outputs: &mut Vec<WantedOutput>,
+) -> Result<(), AllocError>
+    ensures { OnOk result (map output_view outputs.new.items ≡ map output_view outputs.old.items ++ output_if kind (first_of id.now (rows_of (found_of matches.now)))) }
 {
-    if has_value(matches, "explain") {
-        return Ok(Some(String::from_str(alloc, "/dev/stdout")?));
-    }
-    Ok(None)
+    let file = text_of(alloc, matches, id)?;
+    push_output(kind, file, outputs)
 }
 
-// Reads which files are written in addition to the full `.config`.
-fn read_outputs(alloc: Global, matches: &ArgMatches<'_>) -> Result<Outputs, AllocError>
-    ensures { IfOk result (AreOutputs (rows_of (found_of matches.now))) }
+// Adds the outputs besides the full `.config`.
+fn push_others(
+    alloc: Global,
+    matches: &ArgMatches<'_>,
+    outputs: &mut Vec<WantedOutput>,
+) -> Result<(), AllocError>
+    ensures { OnOk result (map output_view outputs.new.items ≡ map output_view outputs.old.items
+        ++ flat_map (λ other. output_if other.1 (first_of other.0 (rows_of (found_of matches.now)))) other_outputs) }
 {
-    Ok(Outputs {
-        header: file_of(alloc, matches, "header")?,
-        minimal: file_of(alloc, matches, "savedefconfig")?,
-        list_new: file_of(alloc, matches, "list-new")?,
-        list_gone: file_of(alloc, matches, "list-gone")?,
-        depfile: file_of(alloc, matches, "depfile")?,
-        explanation: explanation_of(alloc, matches)?,
-    })
+    push_asked(alloc, matches, "header", Output::Header, outputs)?;
+    push_asked(alloc, matches, "savedefconfig", Output::Minimal, outputs)?;
+    push_asked(alloc, matches, "list-new", Output::NewSymbols, outputs)?;
+    push_asked(alloc, matches, "list-gone", Output::GoneLines, outputs)?;
+    push_asked(alloc, matches, "depfile", Output::DependencyFile, outputs)
+}
+
+// The outputs that are asked for, where this is the file of the full `.config`.
+fn asked_outputs(
+    alloc: Global,
+    matches: &ArgMatches<'_>,
+    out: Option<String>,
+) -> Result<Vec<WantedOutput>, AllocError>
+    ensures { IfOk result (λ outputs. map output_view outputs.items ≡ asked_outputs (rows_of (found_of matches.now)) (option_map string_bytes out)) }
+{
+    let mut outputs = Vec::new(alloc);
+    if has_value(matches, "explain") {
+        let file = String::from_str(alloc, "/dev/stdout")?;
+        push_output(Output::Explanation, Some(file), &mut outputs)?;
+        return Ok(outputs);
+    }
+    push_output(Output::Config, out, &mut outputs)?;
+    push_others(alloc, matches, &mut outputs)?;
+    Ok(outputs)
 }
 
 // Reads the values that may be refused. Reports the first that is not valid.
@@ -291,22 +333,15 @@ fn read_options(
     let root = text_or(alloc, matches, "root", ".")?;
     let kconfig = text_or(alloc, matches, "KCONFIG", "")?;
     let include = text_of(alloc, matches, "include")?;
-    let outputs = read_outputs(alloc, matches)?;
     let explain = texts_of(alloc, matches, "explain")?;
     let values = read_values(alloc, matches)?;
     Ok(Options {
         root,
         config: inputs.config,
-        out: inputs.out,
+        outputs: inputs.outputs,
         kconfig,
         is_flat: flag_of(matches, "flat"),
-        header: outputs.header,
-        minimal: outputs.minimal,
-        list_new: outputs.list_new,
         with_help: flag_of(matches, "with-help"),
-        list_gone: outputs.list_gone,
-        depfile: outputs.depfile,
-        explanation: outputs.explanation,
         explain,
         explain_depth: values.explain_depth,
         explain_lost: flag_of(matches, "explain-lost"),
@@ -325,32 +360,17 @@ fn read_options(
     })
 }
 
-// The full `.config` of one configuration.
-fn out_of(
-    alloc: Global,
-    matches: &ArgMatches<'_>,
-    config: &str,
-) -> Result<Option<String>, AllocError>
-    ensures { let rows = rows_of (found_of matches.now) in
-        IfOk result (λ out. option_map string_bytes out ≡ unless_explained rows None (Some (unwrap_or (first_of (codes "out") rows) config.now))) }
-{
-    if has_value(matches, "explain") {
-        return Ok(None);
-    }
-    Ok(Some(text_or(alloc, matches, "out", config)?))
-}
-
 // Reads the options of one configuration.
 fn read_one(alloc: Global, matches: &ArgMatches<'_>) -> Result<Options, UsageError>
     ensures ok { IfOk result (AreOptionsOf (rows_of (found_of matches.now))) }
     ensures err { IfErr result (IsNoValue (rows_of (found_of matches.now))) }
 {
     let config = text_or(alloc, matches, "config", ".config")?;
-    let out = out_of(alloc, matches, config.as_str())?;
+    let out = text_or(alloc, matches, "out", config.as_str())?;
     let fragments = texts_of_both(alloc, matches, "FRAGMENT", "fragment")?;
     let inputs = Inputs {
         config,
-        out,
+        outputs: asked_outputs(alloc, matches, Some(out))?,
         fragments,
         must_exist: flag_of(matches, "must-exist"),
         names_config: false,
@@ -363,9 +383,10 @@ fn read_each(alloc: Global, matches: &ArgMatches<'_>) -> Result<Each, UsageError
     ensures ok { IfOk result (IsEachOf (rows_of (found_of matches.now))) }
     ensures err { IfErr result (IsNoValue (rows_of (found_of matches.now))) }
 {
+    let out = text_of(alloc, matches, "out")?;
     let inputs = Inputs {
         config: String::new(alloc),
-        out: file_of(alloc, matches, "out")?,
+        outputs: asked_outputs(alloc, matches, out)?,
         fragments: texts_of(alloc, matches, "fragment")?,
         must_exist: true,
         names_config: true,
@@ -382,6 +403,41 @@ fn read_each(alloc: Global, matches: &ArgMatches<'_>) -> Result<Each, UsageError
     }
 }
 
+// Reads the request for a list of dead prompts in this file.
+fn read_dead(alloc: Global, matches: &ArgMatches<'_>, file: String) -> Result<DeadList, UsageError>
+    ensures ok { IfOk result (λ dead. IsDeadOf (rows_of (found_of matches.now)) (string_bytes file) dead) }
+    ensures err { IfErr result (IsNoValue (rows_of (found_of matches.now))) }
+{
+    let inputs = Inputs {
+        config: text_or(alloc, matches, "config", ".config")?,
+        outputs: Vec::new(alloc),
+        fragments: Vec::new(alloc),
+        must_exist: false,
+        names_config: false,
+    };
+    match read_options(alloc, matches, inputs) {
+        Ok(options) => Ok(DeadList { options, file }),
+        Err(usage) => Err(usage),
+    }
+}
+
+// Reads the request for one configuration, or for a list of dead prompts.
+fn read_alone(alloc: Global, matches: &ArgMatches<'_>) -> Result<Request, UsageError>
+    ensures ok { IfOk result (AsksAlone (rows_of (found_of matches.now))) }
+    ensures err { IfErr result (IsNoValue (rows_of (found_of matches.now))) }
+{
+    if let Some(file) = text_of(alloc, matches, "list-dead")? {
+        return match read_dead(alloc, matches, file) {
+            Ok(dead) => Ok(Request::Dead(dead)),
+            Err(usage) => Err(usage),
+        };
+    }
+    match read_one(alloc, matches) {
+        Ok(options) => Ok(Request::One(options)),
+        Err(usage) => Err(usage),
+    }
+}
+
 // Reads the request.
 fn read_taken(alloc: Global, matches: &ArgMatches<'_>) -> Result<Request, UsageError>
     ensures ok { IfOk result (AsksFor (rows_of (found_of matches.now))) }
@@ -393,10 +449,7 @@ fn read_taken(alloc: Global, matches: &ArgMatches<'_>) -> Result<Request, UsageE
             Err(usage) => Err(usage),
         };
     }
-    match read_one(alloc, matches) {
-        Ok(options) => Ok(Request::One(options)),
-        Err(usage) => Err(usage),
-    }
+    read_alone(alloc, matches)
 }
 
 // Reads the request from arguments that do not exclude each other.
@@ -445,29 +498,29 @@ fn usage_of(alloc: Global, error: &Error) -> UsageError
 
 /// Reads the arguments after the program's name, as the command line `[--root DIR] [--flat] [--include DIR] [--config
 /// FILE] [--out FILE] [--header FILE] [--savedefconfig FILE] [--list-new FILE] [--with-help] [--list-gone FILE]
-/// [--depfile FILE] [--prefix TEXT] [--must-exist] [--strict] [--strict-tree] [--quiet-tree] [--hints] [--warn-lost]
-/// [--explain-lost] [--explain NAME ..] [--explain-depth N] [--replace] [--check] [--diff] [--fragment FILE ..] KCONFIG
-/// [FRAGMENT ..]`, `.. [--each] [--each-from FILE] .. KCONFIG [CONFIGURATION ..]`, `--help`, `-h`, `--version` or `-V`
-/// (our own; Rust's `clap` reads the arguments, and its documentation has the rules).
+/// [--list-dead FILE] [--depfile FILE] [--prefix TEXT] [--must-exist] [--strict] [--strict-tree] [--quiet-tree] [--hints]
+/// [--warn-lost] [--explain-lost] [--explain NAME ..] [--explain-depth N] [--replace] [--check] [--diff] [--fragment
+/// FILE ..] KCONFIG [FRAGMENT ..]`, `.. [--each] [--each-from FILE] .. KCONFIG [CONFIGURATION ..]`, `--help`, `-h`,
+/// `--version` or `-V` (our own; Rust's `clap` reads the arguments, and its documentation has the rules).
 ///
-/// Each field has the value of its argument, or the default: root `.`, config `.config`, out the file of `--config`,
-/// prefix `CONFIG_`, include, header, minimal, the two lists and depfile none, explain depth 3, each flag false. The
-/// texts are written; with `--replace` they are replaced, with `--check` compared. The files of `--fragment` come after
-/// the other fragments.
+/// Each field is what the arguments hold, or for an absent option: root `.`, config `.config`, the full `.config` to the file of
+/// `--config`, prefix `CONFIG_`, include and each other output none, explain depth 3, each flag false; the texts are written, or
+/// with `--replace` replaced, or with `--check` compared. The files of `--fragment` follow the others.
 ///
-/// With `--explain` the explanation is written to `/dev/stdout`, and nothing else is written, whatever other options
-/// are set: out, header, minimal, the two lists and depfile are none, nothing is strict, the texts are neither replaced
-/// nor compared, and no difference is shown.
+/// With `--explain` the explanation is the only output, to `/dev/stdout`, whatever else is given. Nothing is strict, the texts are
+/// neither replaced nor compared, and no difference is shown.
 ///
 /// With `--each` or `--each-from` each argument after KCONFIG is a configuration of its own, and only the files of
 /// `--fragment` are fragments. A configuration must exist. Without `--out` no full `.config` is written.
 ///
+/// With `--list-dead` the list is the only output, whatever else is given, and there are no fragments.
+///
 /// # Errors
 ///
 /// Those of [`UsageError`]. They change nothing. `--check` and `--replace` exclude each other; `--diff` needs
-/// `--check`; `--config` and `--each` or `--each-from` exclude each other, as do `--explain` and these; `--depfile`
-/// needs `--out` together with them. The first of these errors is reported; the prefix and the depth are checked after
-/// them.
+/// `--check`; `--config` and `--each` or `--each-from` exclude each other, as do `--explain` and these; `--list-dead`
+/// excludes them and `--explain`; `--depfile` needs `--out` together with them. The first of these errors is reported;
+/// the prefix and the depth are checked after them.
 #[inline(never)]
 pub fn request_of(alloc: Global, words: &[String]) -> Result<Request, UsageError>
     // Each field has the value of its argument, or the default.

@@ -1,7 +1,7 @@
 //! Patterns of names, filled in for one configuration.
 
-ghost use Rattle.std.specs.Prelude.{◌≡◌, ◌++◌, IfOk, OnOk, string_bytes, option_map, map};
-ghost use Rattle.kc_words.specs.CommandLine.{filled_if, file_name, filled, filled_part};
+ghost use Rattle.std.specs.Prelude.{◌≡◌, ◌++◌, IfOk, OnOk, string_bytes};
+ghost use Rattle.kc_words.specs.CommandLine.{file_name, filled, filled_part};
 
 use std::alloc::{AllocError, Global};
 
@@ -47,33 +47,4 @@ pub(crate) fn filled(alloc: Global, config: &str, pattern: &str) -> Result<Strin
         }
     }
     Ok(made)
-}
-
-// The same for an optional pattern.
-pub(crate) fn filled_if(
-    alloc: Global,
-    config: &str,
-    pattern: &Option<String>,
-) -> Result<Option<String>, AllocError>
-    ensures { IfOk result (λ name. option_map string_bytes name ≡ option_map (λ p. filled config.now (string_bytes p)) pattern.now) }
-{
-    match pattern {
-        Some(pattern) => Ok(Some(filled(alloc, config, pattern.as_str())?)),
-        None => Ok(None),
-    }
-}
-
-// Adds the name of an optional file.
-pub(crate) fn push_filled(
-    alloc: Global,
-    config: &str,
-    pattern: &Option<String>,
-    names: &mut Vec<String>,
-) -> Result<(), AllocError>
-    ensures { OnOk result (map string_bytes names.new.items ≡ map string_bytes names.old.items ++ filled_if config.now pattern.now) }
-{
-    if let Some(pattern) = pattern {
-        names.push(filled(alloc, config, pattern.as_str())?)?;
-    }
-    Ok(())
 }

@@ -32,6 +32,7 @@ fn role_of(option: &str) -> Role {
         | "--savedefconfig"
         | "--list-new"
         | "--list-gone"
+        | "--list-dead"
         | "--depfile"
         | "--explain"
         | "--explain-depth"

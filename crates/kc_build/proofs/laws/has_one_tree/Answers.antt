@@ -1,6 +1,6 @@
 -- Why `has_one_tree` keeps its contract.
 use Rattle.std.proofs.Common.{sym, refl, ap, ◌∙◌}
-use Rattle.kc_read.specs.PartsOfSymbols.{tree_of_log}
+use Rattle.kc_entries.specs.PartsOfSymbols.{tree_of_log}
 use Rattle.kc_build.proofs.laws.has_one_tree.Goals as goal
 
 pub returns : goal.returns

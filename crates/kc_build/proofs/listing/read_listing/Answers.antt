@@ -1,10 +1,7 @@
-use Rattle.kc_read.specs.Files.{files_in}
-use Rattle.std.proofs.Common.{◌∙◌, ◌≢◌, Err}
-use Rattle.kc_language.specs.Expansion.{Expands}
-use Rattle.kc_language.specs.declared.diagnostics.Cause.TheVariants.{Memory}
-use Rattle.kc_read.specs.RefusalView.{refusal_view}
-use Rattle.kc_read.proofs.OpenedOnce.{are_opened}
-use Rattle.kc_read.proofs.RestLemmas.{refusal_passed}
+use Rattle.kc_read.specs.{Files.files_in, RefusalView.refusal_view}
+use Rattle.std.proofs.Common.{Err, ◌∙◌, ◌≢◌}
+use Rattle.kc_language.specs.{Expansion.Expands, declared.diagnostics.Cause.TheVariants.Memory}
+use Rattle.kc_read.proofs.{OpenedOnce.are_opened, RestLemmas.refusal_passed}
 use Rattle.kc_build.proofs.listing.read_listing.Goals as goal
 
 pub listing_of-requires : goal.listing_of-requires

@@ -1,57 +1,31 @@
-use Rattle.std.proofs.Common.{◌<◌, refl, arith, length}
-use Rattle.kc_build.proofs.SelectorLemmas.{nothing_added, pushes_in, chained_by, heads_by, others_by, select_by, imply_by}
+use Rattle.std.proofs.{Common.{Some, [], ap, append-nil, false, length, refl, slice_set, suc, sym, true, ◌++◌, ◌∙◌, ◌∷◌, ◌≡◌}, lemmas.Option.slice_get-get_or}
+use Rattle.kc_tree.specs.declared.rows.SelectorId.{SelectorId}
+use Rattle.kc_build.specs.{SelectorRows.with_last, SymbolRows.can_be_target}
 use Rattle.kc_build.proofs.selectors.add_selector.Goals as goal
 
-pub invariant_of-selector_rows-in-Select : goal.invariant_of-selector_rows-in-Select
-invariant_of-selector_rows-in-Select c =
-    let old = c.args.selector_rows.now in
-    let s = c.args.target.symbol in
-    let there : s.0 < length old.selects.items = (let n = c.if-target-len.false in let m = c.len.ensures in let k = c.requires.same in omega (arith, c.args.selector_rows.now.selects.ok)) in
-    let p = pushes_in c.args.source c.add_line.result old.lines.items c.add_line.new.lines.items old.selects c.deref_mut.result.now c.add_line.new.heads s
-    c.in_ok-when.when _ c.in_ok-when.ensures c.deref_mut.ensures.value c.add_line.auto.heads c.deref_mut.ensures.len c.add_line.ensures.line c.add_line.ensures.head
-    c.add_line.ensures.lines_stay c.add_line.ensures.heads_stay in
+pub returns-then-not-is_target : goal.returns-then-not-is_target
+returns-then-not-is_target c =
+    let row = c.index_mut-symbol.result.now in
+    let no : can_be_target row ≡ false = sym c.is_target.ensures ∙ c.if-not-is_target.true in
     record {
-      chained = chained_by c.args.source _ _ s _ _ _ there old.selects_there c.add_line.result p old.chained;
-      selects_there = heads_by c.args.source _ _ s _ _ _ there old.selects_there c.add_line.result p;
-      implies_there = others_by c.args.source _ _ s _ _ _ there old.selects_there c.add_line.result old.implies.items p old.implies_there;
+      row = row;
+      at = slice_get-get_or c.args.symbols.now.items c.args.target.symbol.0 row c.requires.there ∙ ap Some (sym c.index_mut-symbol.ensures.value);
+      rows_are = rw no refl;
+      lines_are = rw no (sym (append-nil c.args.lines.now.items));
     }
 
-pub invariant_of-selector_rows-in-Imply : goal.invariant_of-selector_rows-in-Imply
-invariant_of-selector_rows-in-Imply c =
-    let old = c.args.selector_rows.now in
-    let s = c.args.target.symbol in
-    let there : s.0 < length old.implies.items = (let n = c.if-target-len.false in let m = c.len.ensures in let k = c.requires.same in omega (arith, c.args.selector_rows.now.selects.ok)) in
-    let p = pushes_in c.args.source c.add_line-in-Imply.result old.lines.items c.add_line-in-Imply.new.lines.items old.implies c.deref_mut-in-Imply.result.now
-    c.add_line-in-Imply.new.heads s c.in_ok-when.when _ c.in_ok-when.ensures c.deref_mut-in-Imply.ensures.value c.add_line-in-Imply.auto.heads
-    c.deref_mut-in-Imply.ensures.len c.add_line-in-Imply.ensures.line c.add_line-in-Imply.ensures.head c.add_line-in-Imply.ensures.lines_stay
-    c.add_line-in-Imply.ensures.heads_stay in
+pub returns : goal.returns
+returns c =
+    let row = c.index_mut-symbol.result.now in
+    let lines = c.args.lines.now.items in
+    let yes : can_be_target row ≡ true = sym c.is_target.ensures ∙ c.if-not-is_target.false in
+    let id : c.of.result ≡ record { 0 = suc (length lines) } = λ i. record { 0 = (c.of.ensures ∙ ap suc (c.len.ensures ∙ c.args.lines.now.ok.0)) i } in
+    let now : c.set_last-next.new.symbol ≡ with_last c.args.target.word (record { 0 = suc (length lines) }) row =
+    c.set_last-next.ensures.now ∙ ap (λ (k : SelectorId). with_last c.args.target.word k row) id in
     record {
-      chained = chained_by c.args.source _ _ s _ _ _ there old.implies_there c.add_line-in-Imply.result p old.chained;
-      selects_there = others_by c.args.source _ _ s _ _ _ there old.implies_there c.add_line-in-Imply.result old.selects.items p old.selects_there;
-      implies_there = heads_by c.args.source _ _ s _ _ _ there old.implies_there c.add_line-in-Imply.result p;
+      row = row;
+      at = slice_get-get_or c.args.symbols.now.items c.args.target.symbol.0 row c.requires.there ∙ ap Some (sym c.index_mut-symbol.ensures.value);
+      rows_are = rw yes (ap (slice_set c.args.symbols.now.items c.args.target.symbol.0) now);
+      lines_are = rw yes (c.in_ok-push.ensures.items
+          ∙ ap (λ (k : SelectorId). lines ++ record { entry = c.args.entry; attribute = c.args.attribute; next = k } ∷ []) c.set_last-next.ensures.before);
     }
-
-pub returns-then-target-len : goal.returns-then-target-len
-returns-then-target-len c =
-    nothing_added c.args.source c.args.selector_rows.now _ _ (let n = c.if-target-len.true in let m = c.len.ensures in omega (arith, c.args.selector_rows.now.selects.ok)) refl refl refl
-
-pub returns-in-Select : goal.returns-in-Select
-returns-in-Select c =
-    let old = c.args.selector_rows.now in
-    let s = c.args.target.symbol in
-    let there : s.0 < length old.selects.items = (let n = c.if-target-len.false in let m = c.len.ensures in let k = c.requires.same in omega (arith, c.args.selector_rows.now.selects.ok)) in
-    let p = pushes_in c.args.source c.add_line.result old.lines.items c.add_line.new.lines.items old.selects c.deref_mut.result.now c.add_line.new.heads s
-    c.in_ok-when.when _ c.in_ok-when.ensures c.deref_mut.ensures.value c.add_line.auto.heads c.deref_mut.ensures.len c.add_line.ensures.line c.add_line.ensures.head
-    c.add_line.ensures.lines_stay c.add_line.ensures.heads_stay in
-    select_by c.args.source c.add_line.result old _ s _ c.args.target.word c.in-Select.is there p refl
-
-pub returns-in-Imply : goal.returns-in-Imply
-returns-in-Imply c =
-    let old = c.args.selector_rows.now in
-    let s = c.args.target.symbol in
-    let there : s.0 < length old.implies.items = (let n = c.if-target-len.false in let m = c.len.ensures in let k = c.requires.same in omega (arith, c.args.selector_rows.now.selects.ok)) in
-    let p = pushes_in c.args.source c.add_line-in-Imply.result old.lines.items c.add_line-in-Imply.new.lines.items old.implies c.deref_mut-in-Imply.result.now
-    c.add_line-in-Imply.new.heads s c.in_ok-when.when _ c.in_ok-when.ensures c.deref_mut-in-Imply.ensures.value c.add_line-in-Imply.auto.heads
-    c.deref_mut-in-Imply.ensures.len c.add_line-in-Imply.ensures.line c.add_line-in-Imply.ensures.head c.add_line-in-Imply.ensures.lines_stay
-    c.add_line-in-Imply.ensures.heads_stay in
-    imply_by c.args.source c.add_line-in-Imply.result old _ s _ c.args.target.word c.in-Imply.is there p refl

@@ -1,15 +1,12 @@
-use Rattle.std.proofs.Common.{◌≡◌, length, None, ◌∙◌, sym, ap, subst, arith}
-use Rattle.std.specs.Prelude.{replicate}
-use Rattle.std.proofs.lemmas.List.{length-replicate}
+use Rattle.std.proofs.Common.{length, ◌∙◌, sym, ap, subst, arith}
 use Rattle.kc_language.specs.Expressions.{symbol}
 use Rattle.kc_language.specs.Symbols.{TreeFacts}
 use Rattle.kc_language.specs.ConfigFile.{place_at}
 use Rattle.kc_language.specs.Values.{name_count}
 use Rattle.kc_solve.specs.Computing.{AreComputedValues}
 use Rattle.kc_solve.specs.Kept.{valuation}
-use Rattle.kc_solve.proofs.OrderSteps.{tree_accepted}
 use Rattle.kc_solve.proofs.UserSteps.{count_shown, solves_as_shown}
-use Rattle.kc_call_tests.proofs.SlowSteps.{computed, ended, iteration_ended}
+use Rattle.kc_call_tests.proofs.SlowSteps.{computed, ended, iteration_ended, still_unread}
 use Rattle.kc_call_tests.proofs.slow.slow_table.Goals as goal
 
 pub compute_anew-requires-clause-given : goal.compute_anew-requires-clause-given
@@ -23,21 +20,18 @@ compute_anew-requires-clause-chosen c =
 pub compute_anew-requires-clause-full : goal.compute_anew-requires-clause-full
 compute_anew-requires-clause-full c = c.loop-i.invariant.count ∙ ap name_count (sym c.loop-i.invariant.tree)
 
+pub compute_anew-requires-clause-unread : goal.compute_anew-requires-clause-unread
+compute_anew-requires-clause-unread c = c.loop-i.invariant.unread c.loop-i.i
+
 pub loop-iteration-init : goal.loop-iteration-init
 loop-iteration-init c =
-    let t = c.in_ok-table.table in
-    let e = c.in_ok-table.ensures.unsettled in
-    record {
-      tree = c.in_ok-table.ensures.tree;
-      count = c.in_ok-table.ensures.count;
-      hold = λ s l free. cc;
-      unsettled = e ∙ ap (λ n. replicate n None) (sym (ap length e ∙ length-replicate _ None));
-    }
+    let e = c.in_ok-table.ensures in
+    record { tree = e.tree; count = e.count; hold = λ s l free. cc; unread = e.unread }
 
 pub loop-i-init : goal.loop-i-init
 loop-i-init c =
     let now = c.loop-iteration.invariant in
-    record { tree = now.tree; count = now.count; hold = record { before = now.hold; now = λ s up. absurd (omega arith) }; unsettled = now.unsettled }
+    record { tree = now.tree; count = now.count; hold = record { before = now.hold; now = λ s up. absurd (omega arith) }; unread = now.unread }
 
 pub loop-i-preserved : goal.loop-i-preserved
 loop-i-preserved c =
@@ -52,7 +46,7 @@ loop-i-preserved c =
       tree = ap (λ t. t.now) f.keeps.tree ∙ now.tree;
       count = f.values.count ∙ now.count;
       hold = computed c.args.laid.now.tree.now given chosen c.loop-iteration._iteration c.loop-i.i values new.values filled now.hold;
-      unsettled = subst (λ v. v.items ≡ replicate (length v.items) None) (sym f.contexts) now.unsettled;
+      unread = λ s. still_unread c.loop-i.table new f.keeps f.contexts f.visibles f.dependencies f.selections s (now.unread s);
     }
 
 pub loop-iteration-preserved : goal.loop-iteration-preserved
@@ -62,11 +56,8 @@ loop-iteration-preserved c =
       tree = now.tree;
       count = now.count;
       hold = iteration_ended c.args.laid.now.tree.now c.symbols-given.result.now c.choices-chosen.result.now c.loop-iteration._iteration c.loop-i.i c.loop-i.table.values (omega arith) now.hold;
-      unsettled = now.unsettled;
+      unread = now.unread;
     }
-
-pub returns-clause-accepted : goal.returns-clause-accepted
-returns-clause-accepted c = tree_accepted c.args.laid.now c.args.order.now c.nodes-nodes.result.now c.requires.order c.nodes-nodes.ensures
 
 pub returns-clause-solves : goal.returns-clause-solves
 returns-clause-solves c =
@@ -74,9 +65,8 @@ returns-clause-solves c =
     let given = c.symbols-given.result.now in
     let chosen = c.choices-chosen.result.now in
     let values = c.loop-iteration.table.values in
-    let accepted = tree_accepted c.args.laid.now c.args.order.now c.nodes-nodes.result.now c.requires.order c.nodes-nodes.ensures in
     solves_as_shown t given chosen c.args.user.now (valuation t values) c.symbols-given.ensures c.choices-chosen.ensures
-    (ended t given chosen c.loop-iteration._iteration values (omega arith) accepted c.loop-iteration.invariant.hold)
+    (ended t given chosen c.loop-iteration._iteration values (omega arith) c.requires.accepted c.loop-iteration.invariant.hold)
 
 pub returns-clause-only : goal.returns-clause-only
 returns-clause-only c =
@@ -85,9 +75,8 @@ returns-clause-only c =
     let chosen = c.choices-chosen.result.now in
     let values = c.loop-iteration.table.values in
     let V = valuation t values in
-    let accepted = tree_accepted c.args.laid.now c.args.order.now c.nodes-nodes.result.now c.requires.order c.nodes-nodes.ensures in
     let solves =
     solves_as_shown t given chosen c.args.user.now V c.symbols-given.ensures c.choices-chosen.ensures
-    (ended t given chosen c.loop-iteration._iteration values (omega arith) accepted c.loop-iteration.invariant.hold)
+    (ended t given chosen c.loop-iteration._iteration values (omega arith) c.requires.accepted c.loop-iteration.invariant.hold)
     in
-    c.accepted_have_one_solution.ensures.agree t (place_at c.args.user.now) accepted V solves
+    c.accepted_have_one_solution.ensures.agree t (place_at c.args.user.now) c.requires.accepted V solves

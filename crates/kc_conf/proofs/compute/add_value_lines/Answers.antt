@@ -4,8 +4,7 @@ use Rattle.std.specs.List.{flat_map}
 use Rattle.kc_diagnostics.specs.Warnings.{owned_warning}
 use Rattle.kc_language.specs.Symbols.{warning_line}
 use Rattle.kc_language.specs.declared.diagnostics.Warning.{Warning}
-use Rattle.kc_language.specs.Outcome.{lead, lines_text}
-use Rattle.kc_conf.specs.Computed.{lost_from}
+use Rattle.kc_outcome.specs.Outcome.{lead, lines_text, lost_text}
 use Rattle.kc_conf.proofs.compute.add_value_lines.Goals as goal
 
 led : (l : List ℕ) (ws : List (Warning (Vec ℕ Global))) →
@@ -17,7 +16,7 @@ pub returns : goal.returns
 returns c =
     let old = c.args.text.now.items in
     let warned = c.value_warnings.result.now in
-    let lost = lost_from c.args.options.now c.args.sources c.args.input.now c.args.solved.now in
+    let lost = lost_text c.args.options.now c.args.input.now c.args.solved.now in
     let front = flat_map (λ part. part.now) c.lead.result in
     c.in_ok-add_lost.ensures ∙ ap (λ t. t ++ lost) c.in_ok-add_warnings.ensures
     ∙ append_assoc old (lines_text (map (λ w. front ++ warning_line (owned_warning w)) warned)) lost

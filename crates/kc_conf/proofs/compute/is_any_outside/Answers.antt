@@ -4,8 +4,8 @@ use Rattle.std.specs.List.{list_any}
 use Rattle.std.proofs.lemmas.List.{take_all}
 use Rattle.std.proofs.lemmas.List.Folds.{list_any_at}
 use Rattle.kc_diagnostics.specs.Warnings.{owned_warning}
-use Rattle.kc_conf.proofs.ListLemmas.{list_any-map}
-use Rattle.kc_language.specs.Outcome.{is_outside}
+use Rattle.kc_entries.proofs.ListLemmas.{list_any-map}
+use Rattle.kc_outcome.specs.Outcome.{is_outside}
 use Rattle.kc_conf.proofs.compute.is_any_outside.Goals as goal
 
 pub returns-then-is_outside : goal.returns-then-is_outside

@@ -1,5 +1,5 @@
 use Rattle.std.proofs.Common.{◌≡◌, ◌++◌, drop, take}
-use Rattle.kc_language.specs.Outcome.{first_line}
+use Rattle.kc_outcome.specs.Outcome.{first_line}
 use Rattle.kc_conf.proofs.diagnostics.first_line.Given as goal
 
 -- no line feed so far

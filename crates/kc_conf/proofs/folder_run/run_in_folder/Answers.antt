@@ -3,7 +3,7 @@ use Rattle.kc_read.specs.Files.{files_in}
 use Rattle.std.proofs.Common.{List, ℕ, string_bytes, refl, subst, subst₂, Err}
 use Rattle.kc_load.specs.Loading.{Suffices}
 use Rattle.kc_load.specs.Folder.{IsLoadFault, failed_load, Leads, files_told}
-use Rattle.kc_language.specs.Outcome.{root_file}
+use Rattle.kc_outcome.specs.Outcome.{root_file}
 use Rattle.kc_conf.specs.Faults.{loaded, unloaded}
 use Rattle.kc_conf.proofs.FolderLemmas.{flipped, runs_over}
 use Rattle.kc_conf.proofs.folder_run.run_in_folder.Goals as goal

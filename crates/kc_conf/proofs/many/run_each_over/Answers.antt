@@ -1,24 +1,19 @@
--- The tree's symbols need one another in a loop, or it is accepted.
-use Rattle.std.proofs.Common.{subst, sym}
-use Rattle.std.specs.Prelude.{Ok}
-use Rattle.kc_language.specs.Symbols.{IsTreeOf}
-use Rattle.kc_conf.specs.Many.{stops}
-use Rattle.kc_language.specs.Outcome.{looped}
-use Rattle.kc_language.specs.Expansion.{numbered_lines}
-use Rattle.kc_conf.proofs.HeldLemmas.{AreKept-held}
+-- The tree is refused, or its configurations take their turns.
+use Rattle.kc_read.specs.Files.{files_in}
+use Rattle.kc_conf.proofs.ManyLemmas.{EndsEach-refused}
 use Rattle.kc_conf.proofs.many.run_each_over.Goals as goal
 
 pub returns-in-Err : goal.returns-in-Err
-returns-in-Err g c = λ files root keeps of keeps_for rooted.
-    let built = subst (λ t. IsTreeOf files root (Ok t)) (sym c.laid-laid.ensures.tree) of.built in
-    stops (c.refuse_all.ensures files root (λ known. let (text, named, is) = c.in-Err.ensures.refused known in looped c.laid-laid.result.tree.now text built named is))
+returns-in-Err g c =
+    EndsEach-refused (files_in c.args.files) c.args.root.now (g.C.Configurations.options c.args.configurations.now) (g.C.Configurations.number c.args.configurations.now) _ _ c.in-Err.refusal c.refuse.result
+    (rw c.as_bytes.ensures.value at c.in-Err.ensures) c.refuse.ensures
+
+pub returns-in-Err-ordered : goal.returns-in-Err-ordered
+returns-in-Err-ordered g c =
+    EndsEach-refused (files_in c.args.files) c.args.root.now (g.C.Configurations.options c.args.configurations.now) (g.C.Configurations.number c.args.configurations.now) _ _ c.in-Err-ordered.refusal
+    c.refuse-in-Err-ordered.result (c.in-Err-ordered.ensures.ordered (files_in c.args.files) c.args.root.now _ (rw c.as_bytes.ensures.value at c.in-Ok.ensures)) c.refuse-in-Err-ordered.ensures
 
 pub returns : goal.returns
-returns g c = λ files root keeps of keeps_for rooted.
-    let built = subst (λ t. IsTreeOf files root (Ok t)) (sym c.laid-laid.ensures.tree) of.built in
-    let (log, expands, kept) = of.sources in
-    c.run_each_of-status.ensures files root keeps (record {
-      tree = record { built = built; accepted = c.in-Ok.ensures.accepted };
-      opened = of.opened;
-      sources = (log, expands, AreKept-held files (numbered_lines log.lines) keeps c.args.read.sources c.borrowed-lent.result c.borrowed-lent.ensures kept);
-    }) keeps_for rooted
+returns g c =
+    c.run_turns-ended.ensures (files_in c.args.files) c.args.root.now c.keeps_sources-keeps.result
+    (c.in-Ok-ordered.ensures.ordered (files_in c.args.files) c.args.root.now _ (rw c.as_bytes.ensures.value at c.in-Ok.ensures)) c.keeps_sources-keeps.ensures c.requires

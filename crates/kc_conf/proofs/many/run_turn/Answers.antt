@@ -1,21 +1,14 @@
--- The run is whole, or it is said why it was broken off.
-use Rattle.std.proofs.Common.{◌∙◌, ap, not, sym}
-use Rattle.std.specs.Prelude.{◌||◌}
-use Rattle.kc_conf.proofs.ManyLemmas.{RunsTurn-broken, RunsTurn-whole}
+-- The turn of an accepted tree's options tells nothing of the tree.
+use Rattle.std.proofs.Common.{append-nil, refl, sym}
+use Rattle.kc_outcome.specs.Outcome.{lines_text}
+use Rattle.kc_conf.specs.PartsOfFaults.{nothing_said}
+use Rattle.kc_conf.proofs.PartLemmas.{AreLines-nothing}
+use Rattle.kc_conf.proofs.RunParts.{RunsTurn-answered}
 use Rattle.kc_conf.proofs.many.run_turn.Goals as goal
 
-pub returns-in-Ok : goal.returns-in-Ok
-returns-in-Ok g c = λ files of.
-    RunsTurn-whole files c.args.options.now c.args.accepted.now.laid.tree.now c.in-Ok.status (g.D.Device.log c.args.device.now) (g.D.Device.log c.run_part.new.device) (c.in-Ok.ensures files of)
-
-pub returns-then-is_fatal : goal.returns-then-is_fatal
-returns-then-is_fatal g c = λ files of.
-    RunsTurn-broken files c.args.options.now c.args.accepted.now.laid.tree.now c.in-Err.stop c.ends_all-is_fatal.result c.report-is_told.result c.ends_all-is_fatal.result
-    (g.D.Device.log c.args.device.now) (g.D.Device.log c.run_part.new.device) (g.D.Device.log c.report-is_told.new.device) (c.in-Err.ensures files of) c.ends_all-is_fatal.ensures c.report-is_told.ensures
-    (c.if-is_fatal.true ∙ sym (ap (λ b. b || not c.report-is_told.result) c.if-is_fatal.true))
-
-pub returns-else-is_fatal : goal.returns-else-is_fatal
-returns-else-is_fatal g c = λ files of.
-    RunsTurn-broken files c.args.options.now c.args.accepted.now.laid.tree.now c.in-Err.stop c.ends_all-is_fatal.result c.report-is_told.result (not c.report-is_told.result)
-    (g.D.Device.log c.args.device.now) (g.D.Device.log c.run_part.new.device) (g.D.Device.log c.report-is_told.new.device) (c.in-Err.ensures files of) c.ends_all-is_fatal.ensures c.report-is_told.ensures
-    (sym (ap (λ b. b || not c.report-is_told.result) c.if-is_fatal.false))
+pub returns : goal.returns
+returns g c = λ files of.
+    let told = lines_text c.args.accepted.now.laid.tree.now.warnings in
+    RunsTurn-answered files c.args.accepted.now.laid.tree.now c.args.options.now c.run_accepted-ended.result c.answer.result.status c.answer.result.is_over
+    (g.D.Device.log c.args.device.now) (g.D.Device.log c.run_accepted-ended.new.device) (g.D.Device.log c.answer.new.device)
+    (c.run_accepted-ended.ensures files nothing_said told (record { accepts = of; both = sym (append-nil told); lines = AreLines-nothing }) refl) c.answer.ensures

@@ -2,7 +2,7 @@
 use Rattle.kc_language.specs.Expansion.{Files}
 use Rattle.std.proofs.Common.{ℕ}
 use Rattle.kc_conf.specs.Accepted.{IsAcceptedOf}
-use Rattle.kc_language.specs.Outcome.{Options}
+use Rattle.kc_outcome.specs.Outcome.{Options}
 use Rattle.kc_conf.proofs.ManyLemmas.{TurnsSoFar}
 use Rattle.kc_conf.proofs.many.take_turns.Given as goal
 

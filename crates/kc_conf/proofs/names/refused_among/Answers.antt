@@ -1,7 +1,7 @@
 -- A name that make cannot read comes first.
 use Rattle.std.proofs.Common.{◌∙◌, ap, sym, option_map}
 use Rattle.std.proofs.lemmas.Result.{IfOk-weaker}
-use Rattle.kc_language.specs.Outcome.{unknown_name}
+use Rattle.kc_outcome.specs.Outcome.{unknown_name}
 use Rattle.kc_conf.specs.PartsOfOutcome.{refusal_by}
 use Rattle.kc_conf.proofs.names.refused_among.Goals as goal
 

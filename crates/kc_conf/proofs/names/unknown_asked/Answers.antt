@@ -2,7 +2,7 @@
 use Rattle.std.proofs.Common.{◌≡◌, ◌+◌, ◌<◌, ◌∙◌, ℕ, Bool, false, cond, List, ◌∷◌, Some, length, get_or, drop, map, not, is_some, string_bytes, ap, sym, arith}
 use Rattle.std.specs.Prelude.{find}
 use Rattle.std.proofs.lemmas.List.{at_drop_more}
-use Rattle.kc_language.specs.Explanations.{asked_symbol}
+use Rattle.kc_outcome.specs.Explanations.{asked_symbol}
 use Rattle.kc_conf.proofs.names.unknown_asked.Goals as goal
 
 find_skip : {X : Type 0} (test : List ℕ → Bool) (f : X → List ℕ) (xs ys : List X) (i : ℕ) (x : X) → ys ≡ xs → i < length ys → x ≡ get_or ys i x →

@@ -1,8 +1,8 @@
 -- each name so far is that of a symbol
 use Rattle.std.proofs.Common.{◌≡◌, drop, map, not, is_some, string_bytes}
 use Rattle.std.specs.Prelude.{find}
-use Rattle.kc_language.specs.Explanations.{asked_symbol}
-use Rattle.kc_language.specs.Outcome.{unknown_name}
+use Rattle.kc_outcome.specs.Explanations.{asked_symbol}
+use Rattle.kc_outcome.specs.Outcome.{unknown_name}
 use Rattle.kc_conf.proofs.names.unknown_asked.Given as goal
 
 abbrev pub invariant-loop-asked : goal.invariant-loop-asked

@@ -1,6 +1,6 @@
 -- The last line is ended, and what it warns of is said.
-use Rattle.kc_config_file.specs.Feeding.{ended}
-use Rattle.kc_config_file.specs.ReaderState.{ReaderState}
+use Rattle.kc_input.specs.Feeding.{ended}
+use Rattle.kc_input.specs.ReaderState.{ReaderState}
 use Rattle.kc_conf.specs.ReadSteps.{stand}
 use Rattle.kc_conf.proofs.StepLemmas.{ends-said, ends-unsaid, whole-fed}
 use Rattle.kc_conf.proofs.reading.finish.Goals as goal

@@ -8,6 +8,6 @@ invariant-loop-i g l =
     let file = g.D.Device.file in
     let log = g.D.Device.log in
     record {
-      read : ReadsSoFar l.options l.tree l.i (stand file log l.fn.user l.fn.waiting l.fn.device) (stand file log l.user l.waiting l.device);
-      user : ArePlacesOf l.tree l.user.places;
+      read : ReadsSoFar l.options l.streams.tree.now l.i (stand file log l.fn.user l.fn.waiting l.fn.device) (stand file log l.user l.waiting l.device);
+      user : ArePlacesOf l.streams.tree.now l.user.places;
     }

@@ -1,6 +1,6 @@
 -- What waits is said.
 use Rattle.std.proofs.Common.{◌∙◌, ap, append-nil, arith, refl}
-use Rattle.kc_io.specs.Log.{is_whole_lines}
+use Rattle.kc_language.specs.Lines.{is_whole_lines}
 use Rattle.kc_conf.proofs.StepLemmas.{some-said}
 use Rattle.kc_conf.proofs.reading.say.Goals as goal
 

@@ -1,7 +1,7 @@
 -- The names of the fragments so far.
 use Rattle.std.proofs.Common.{◌≡◌, ◌∷◌, ◌++◌, map, take}
 use Rattle.std.specs.Prelude.{string_bytes}
-use Rattle.kc_language.specs.Outcome.{lead}
+use Rattle.kc_outcome.specs.Outcome.{lead}
 use Rattle.kc_conf.proofs.reading.stream_names.Given as goal
 
 abbrev pub invariant-loop-fragment : goal.invariant-loop-fragment

@@ -1,8 +1,6 @@
 -- A piece is taken, and what it warns of is said.
-use Rattle.std.proofs.Common.{◌≡◌, ◌∙◌, Err, Result, ap, subst}
-use Rattle.kc_config_file.specs.ReaderCalls.{AnswersFeed}
-use Rattle.kc_config_file.specs.declared.fault.InputFault.{InputFault}
-use Rattle.kc_config_file.specs.declared.fault.InputFault.TheVariants.{InputLineTooLong, Memory}
+use Rattle.std.proofs.Common.{◌≡◌, ◌∙◌, Err, ap}
+use Rattle.kc_input.specs.declared.fault.InputFault.TheVariants.{InputLineTooLong, Memory}
 use Rattle.kc_conf.specs.ReadSteps.{stand}
 use Rattle.kc_conf.proofs.StepLemmas.{breaks-memory, breaks-unsaid, takes-long, takes-piece, whole-fed}
 use Rattle.kc_conf.proofs.reading.take_piece.Goals as goal
@@ -27,23 +25,15 @@ returns-in-Ok-clause-ok g c =
 pub returns-in-Err-InputLineTooLong-clause-ok : goal.returns-in-Err-InputLineTooLong-clause-ok
 returns-in-Err-InputLineTooLong-clause-ok g c =
     let fault : c.in-Err-InputLineTooLong.field-0 ≡ InputLineTooLong c.in-Err-InputLineTooLong.number = rw c.in-Err-InputLineTooLong.is at c.in-Err-InputLineTooLong.field-0-is in
-    let answers : AnswersFeed c.args.piece.now (Err (InputLineTooLong c.in-Err-InputLineTooLong.number)) c.args.reader.now c.feed-fed.new.self c.args.user.now c.feed-fed.new.user
-    c.args.waiting.now.text.items c.feed-fed.new.told.items =
-    subst (λ (r : Result (Unit {0}) InputFault). AnswersFeed c.args.piece.now r c.args.reader.now c.feed-fed.new.self c.args.user.now c.feed-fed.new.user c.args.waiting.now.text.items c.feed-fed.new.told.items)
-    (c.in-Err-InputLineTooLong.is ∙ ap Err fault) c.feed-fed.ensures in
     takes-long c.args.reader.now c.args.piece.now c.feed-fed.new.self c.feed-fed.new.told
     (stand g.D.Device.file g.D.Device.log c.args.user.now c.args.waiting.now c.args.device.now)
     (stand g.D.Device.file g.D.Device.log c.feed-fed.new.user c.say.new.waiting c.say.new.device)
-    c.requires.only c.requires.fresh c.in-Err-InputLineTooLong.number answers c.in_default.ensures.says c.in_default.ensures.file
+    c.requires.only c.requires.fresh c.in-Err-InputLineTooLong.number (rw (c.in-Err-InputLineTooLong.is ∙ ap Err fault) at c.feed-fed.ensures) c.in_default.ensures.says c.in_default.ensures.file
 
 pub returns-in-Err-Memory-clause-err : goal.returns-in-Err-Memory-clause-err
 returns-in-Err-Memory-clause-err g c =
     let fault : c.in-Err-Memory.field-0 ≡ Memory = rw c.in-Err-Memory.is at c.in-Err-Memory.field-0-is in
-    let answers : AnswersFeed c.args.piece.now (Err Memory) c.args.reader.now c.feed-fed.new.self c.args.user.now c.feed-fed.new.user
-    c.args.waiting.now.text.items c.feed-fed.new.told.items =
-    subst (λ (r : Result (Unit {0}) InputFault). AnswersFeed c.args.piece.now r c.args.reader.now c.feed-fed.new.self c.args.user.now c.feed-fed.new.user c.args.waiting.now.text.items c.feed-fed.new.told.items)
-    (c.in-Err-Memory.is ∙ ap Err fault) c.feed-fed.ensures in
     breaks-memory c.args.reader.now c.args.piece.now c.feed-fed.new.self c.feed-fed.new.told
     (stand g.D.Device.file g.D.Device.log c.args.user.now c.args.waiting.now c.args.device.now)
     (stand g.D.Device.file g.D.Device.log c.feed-fed.new.user c.say.new.waiting c.say.new.device)
-    c.requires.only c.requires.fresh answers c.in_default.ensures.says
+    c.requires.only c.requires.fresh (rw (c.in-Err-Memory.is ∙ ap Err fault) at c.feed-fed.ensures) c.in_default.ensures.says

@@ -5,5 +5,5 @@ use Rattle.kc_conf.proofs.runs.run.Goals as goal
 
 pub returns : goal.returns
 returns g c =
-    Runs-answered (files_in c.args.files) c.args.options.now c.run_over-ended.result c.answer.result (g.D.Device.log c.args.device.now) (g.D.Device.log c.run_over-ended.new.device) (g.D.Device.log c.answer.new.device)
-    c.run_over-ended.ensures c.answer.ensures
+    Runs-answered (files_in c.args.files) c.args.options.now c.run_over-ended.result c.answer.result.status c.answer.result.is_over (g.D.Device.log c.args.device.now) (g.D.Device.log c.run_over-ended.new.device)
+    (g.D.Device.log c.answer.new.device) c.run_over-ended.ensures c.answer.ensures

@@ -1,65 +1,45 @@
--- What follows from the input files is a part of the run.
+-- What follows from the input files is left of the run.
 use Rattle.std.proofs.Common.{◌∙◌, map, sym, subst, option_map}
 use Rattle.std.proofs.lemmas.Result.{err_from_is_err_and}
 use Rattle.kc_io.specs.Delivered.{text_view}
 use Rattle.kc_conf.specs.Faults.{AreLines}
 use Rattle.kc_conf.specs.Reads.{stop_of}
-use Rattle.kc_language.specs.Expansion.{numbered_lines}
-use Rattle.kc_conf.proofs.InputParts.{AreLines-waiting, LeavesPart-broken, LeavesPart-long, LeavesPart-nothing, LeavesPart-uncomputed, LeavesPart-whole}
+use Rattle.kc_conf.proofs.InputParts.{AreLines-waiting, Leaves-broken, Leaves-long, Leaves-nothing, Leaves-uncomputed, Leaves-whole}
 use Rattle.kc_conf.proofs.runs.run_inputs.Goals as goal
 
-pub returns-in_err-streams : goal.returns-in_err-streams
-returns-in_err-streams g c =
+pub returns-in_err-names_told : goal.returns-in_err-names_told
+returns-in_err-names_told g c =
     let p = err_from_is_err_and c.from_residual.result c.from_residual.ensures.1 in
-    rw (p.1, p.2) (λ files of.
-    LeavesPart-nothing c.one_answer.ensures c.exactly_one_outcome.ensures files c.args.options.now c.args.accepted.now.laid.tree.now of.tree c.args.accepted.now.opened.now of.opened c.requires.taken of.sources.0 of.sources.1
-    (g.D.Device.log c.args.device.now))
+    rw (p.1, p.2) (λ files before told start tells h. Leaves-nothing c.one_answer.ensures c.exactly_one_outcome.ensures tells c.requires.taken h)
 
 pub returns-in_err-user : goal.returns-in_err-user
 returns-in_err-user g c =
     let p = err_from_is_err_and c.from_residual-in_err-user.result c.from_residual-in_err-user.ensures.1 in
-    rw (p.1, p.2) (λ files of.
-    LeavesPart-nothing c.one_answer.ensures c.exactly_one_outcome.ensures files c.args.options.now c.args.accepted.now.laid.tree.now of.tree c.args.accepted.now.opened.now of.opened c.requires.taken of.sources.0 of.sources.1
-    (g.D.Device.log c.args.device.now))
+    rw (p.1, p.2) (λ files before told start tells h. Leaves-nothing c.one_answer.ensures c.exactly_one_outcome.ensures tells c.requires.taken h)
 
 pub returns-in-Err : goal.returns-in-Err
-returns-in-Err g c = λ files of.
-    LeavesPart-broken c.one_answer.ensures c.exactly_one_outcome.ensures files c.args.options.now c.args.accepted.now.laid.tree.now of.tree c.args.accepted.now.opened.now of.opened c.requires.taken of.sources.0 of.sources.1
-    c.in-Err.stop c.in_ok-user.user (g.D.Device.log c.args.device.now) (g.D.Device.log c.read_inputs.new.device) c.in_ok-user.ensures c.in-Err.ensures.err
+returns-in-Err g c = λ files before told start tells h.
+    Leaves-broken c.one_answer.ensures c.exactly_one_outcome.ensures tells c.requires.taken c.in_ok-user.ensures h c.in-Err.stop c.in-Err.ensures.err
 
 pub finish_long-requires : goal.finish_long-requires
-finish_long-requires g c =
-    subst AreLines (sym c.deref-in-Some.ensures.value)
-    (AreLines-waiting c.args.options.now c.args.accepted.now.laid.tree.now (option_map stop_of c.in-Ok.long) c.in_ok-user.user c.read_inputs.new.user c.read_inputs.new.waiting
-    (g.D.Device.log c.args.device.now) (g.D.Device.log c.read_inputs.new.device) c.in_ok-user.ensures c.in-Ok.ensures.ok)
+finish_long-requires g c = subst AreLines (sym c.deref-in-Some.ensures.value) (AreLines-waiting c.in_ok-user.ensures c.in-Ok.ensures.ok)
 
 pub returns-in-Some : goal.returns-in-Some
-returns-in-Some g c = λ files of.
-    LeavesPart-long c.one_answer.ensures c.exactly_one_outcome.ensures files c.args.options.now c.args.accepted.now.laid.tree.now of.tree c.args.accepted.now.opened.now of.opened c.requires.taken of.sources.0 of.sources.1
-    (stop_of c.in-Some.long) c.in_ok-user.user c.read_inputs.new.user c.read_inputs.new.waiting c.finish_long.result (g.D.Device.log c.args.device.now) (g.D.Device.log c.read_inputs.new.device)
-    (g.D.Device.log c.finish_long.new.device) c.in_ok-user.ensures (rw c.in-Some.is at c.in-Ok.ensures.ok) (rw c.deref-in-Some.ensures.value at c.finish_long.ensures c.args.options.now)
+returns-in-Some g c = λ files before told start tells h.
+    Leaves-long c.one_answer.ensures c.exactly_one_outcome.ensures tells c.requires.taken c.in_ok-user.ensures h (stop_of c.in-Some.long) c.finish_long.result _
+    (rw c.in-Some.is at c.in-Ok.ensures.ok) (rw c.deref-in-Some.ensures.value at c.finish_long.ensures c.args.options.now)
 
 pub returns-in_err-texts : goal.returns-in_err-texts
 returns-in_err-texts g c =
     let p = err_from_is_err_and c.from_residual-in_err-texts.result c.from_residual-in_err-texts.ensures.1 in
-    rw (p.1, p.2) (λ files of.
-    LeavesPart-uncomputed c.one_answer.ensures c.exactly_one_outcome.ensures files c.args.options.now c.args.accepted.now.laid.tree.now of.tree c.args.accepted.now.opened.now of.opened c.requires.taken of.sources.0 of.sources.1
-    c.in_ok-user.user c.read_inputs.new.user c.read_inputs.new.waiting (g.D.Device.log c.args.device.now) (g.D.Device.log c.read_inputs.new.device) c.in_ok-user.ensures
-    (rw c.in_default.is at c.in-Ok.ensures.ok))
+    rw (p.1, p.2) (λ files before told start tells h.
+    Leaves-uncomputed c.one_answer.ensures c.exactly_one_outcome.ensures tells c.requires.taken c.in_ok-user.ensures h (rw c.in_default.is at c.in-Ok.ensures.ok))
 
 pub finish-requires : goal.finish-requires
-finish-requires g c =
-    let options = c.args.options.now in
-    let tree = c.args.accepted.now.laid.tree.now in
-    let waiting = c.read_inputs.new.waiting in
-    subst AreLines (sym c.deref-2.ensures.value)
-    (c.in_ok-texts.ensures.lines
-    (AreLines-waiting options tree (option_map stop_of c.in-Ok.long) c.in_ok-user.user c.read_inputs.new.user waiting
-    (g.D.Device.log c.args.device.now) (g.D.Device.log c.read_inputs.new.device) c.in_ok-user.ensures c.in-Ok.ensures.ok))
+finish-requires g c = subst AreLines (sym c.deref-2.ensures.value) (c.in_ok-texts.ensures.lines (AreLines-waiting c.in_ok-user.ensures c.in-Ok.ensures.ok))
 
 pub returns : goal.returns
-returns g c = λ files of.
-    LeavesPart-whole c.one_answer.ensures c.exactly_one_outcome.ensures files c.args.options.now c.args.accepted.now.laid.tree.now of.tree c.args.accepted.now.opened.now of.opened c.requires.taken of.sources.0 of.sources.1
-    c.in_ok-user.user c.read_inputs.new.user c.read_inputs.new.waiting c.args.names.now c.args.is_warned c.compute.new.waiting.items (option_map (λ t. map text_view t.items) c.in_ok-texts.texts)
-    c.finish.result (g.D.Device.log c.args.device.now) (g.D.Device.log c.read_inputs.new.device) (g.D.Device.log c.finish.new.device) c.in_ok-user.ensures (rw c.in_default.is at c.in-Ok.ensures.ok)
-    (c.in-Ok.ensures.holds ∙ c.holds_warnings.ensures) c.requires.names c.requires.warned (c.in_ok-texts.ensures.computes files (numbered_lines of.sources.0.lines) of.sources.2) (rw c.deref-2.ensures.value at c.finish.ensures)
+returns g c = λ files before told start tells h.
+    Leaves-whole c.one_answer.ensures c.exactly_one_outcome.ensures tells c.requires.taken c.in_ok-user.ensures h c.compute.new.waiting.items (option_map (λ t. map text_view t.items) c.in_ok-texts.texts)
+    c.finish.result _ (rw c.in_default.is at c.in-Ok.ensures.ok) (c.in-Ok.ensures.kept.0 ∙ c.holds_warnings.ensures)
+    (c.in_ok-texts.ensures.computes files c.args.accepted.now.opened.now c.requires.names tells.accepts.kept) (rw c.deref-2.ensures.value at c.finish.ensures)

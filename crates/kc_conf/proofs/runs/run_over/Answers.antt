@@ -1,14 +1,23 @@
--- The tree is refused.
+-- The tree is refused, or accepted.
+use Rattle.std.proofs.Common.{[], ap, refl, sym}
 use Rattle.kc_read.specs.Files.{files_in}
-use Rattle.kc_language.specs.Outcome.{no_tree}
-use Rattle.kc_conf.proofs.RunParts.{LeavesRun-refusal}
+use Rattle.kc_outcome.specs.Outcome.{lines_text, root_file}
+use Rattle.kc_conf.specs.PartsOfFaults.{said_of_tree}
+use Rattle.kc_conf.proofs.PartOutcomes.{left-all}
+use Rattle.kc_conf.proofs.RunParts.{Leaves-tree, Leaves-weaker}
 use Rattle.kc_conf.proofs.runs.run_over.Goals as goal
 
 pub returns-in-Err : goal.returns-in-Err
 returns-in-Err g c =
-    LeavesRun-refusal c.opened_are_one_list.ensures c.exactly_one_outcome.ensures (files_in c.args.files) c.args.options.now c.in-Err.refusal c.refuse.result (g.D.Device.log c.args.device.now)
-    (g.D.Device.log c.refuse.new.device) (λ known. no_tree (rw c.as_bytes.ensures.value at c.in-Err.ensures.refused known)) c.refuse.ensures.memory c.refuse.ensures.said
+    Leaves-tree c.opened_are_one_list.ensures c.exactly_one_outcome.ensures (files_in c.args.files) c.args.options.now c.in-Err.refusal c.refuse.result _ _ (rw c.as_bytes.ensures.value at c.in-Err.ensures) c.refuse.ensures
+
+pub returns-in-Err-ordered : goal.returns-in-Err-ordered
+returns-in-Err-ordered g c =
+    Leaves-tree c.opened_are_one_list.ensures c.exactly_one_outcome.ensures (files_in c.args.files) c.args.options.now c.in-Err-ordered.refusal c.refuse-in-Err-ordered.result _ _
+    (c.in-Err-ordered.ensures.ordered (files_in c.args.files) (root_file c.args.options.now) _ (rw c.as_bytes.ensures.value at c.in-Ok.ensures)) c.refuse-in-Err-ordered.ensures
 
 pub returns : goal.returns
 returns g c =
-    c.run_tree.ensures (files_in c.args.files) (rw (c.as_bytes.ensures.value, c.wants_sources.ensures) at c.in-Ok.ensures.read)
+    let of = c.in-Ok-ordered.ensures.ordered (files_in c.args.files) (root_file c.args.options.now) _ (rw (c.as_bytes.ensures.value, c.wants_sources.ensures) at c.in-Ok.ensures) in
+    Leaves-weaker (left-all (files_in c.args.files) c.args.options.now c.in-Ok-ordered.accepted.laid.tree.now)
+    (c.run_accepted-ended.ensures (files_in c.args.files) said_of_tree [] (record { accepts = of; both = refl; lines = (c.in-Ok-ordered.accepted.laid.tree.now.warnings, refl) }) (sym (ap lines_text c.parse_warnings-warnings.ensures)))

@@ -1,7 +1,6 @@
-use Rattle.std.proofs.Common.{◌∙◌, ◌++◌, ap, sym, append_assoc}
+use Rattle.std.proofs.Common.{ap, append_assoc, sym, ◌++◌, ◌∙◌}
 use Rattle.kc_language.specs.Texts.{config_file_line, solution_view}
-use Rattle.kc_config_file.specs.PartsOfTexts.{gap}
-use Rattle.kc_config_file.specs.KnownValue.{value_view}
+use Rattle.kc_config_file.specs.{KnownValue.value_view, PartsOfTexts.gap}
 use Rattle.kc_config_file.proofs.TextLemmas.{symbol-written}
 use Rattle.kc_config_file.proofs.config.add_symbol_if.Goals as goal
 

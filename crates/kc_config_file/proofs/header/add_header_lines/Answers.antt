@@ -1,8 +1,8 @@
-use Rattle.std.proofs.Common.{◌≤◌, length, ap, arith}
-use Rattle.kc_language.specs.Symbols.{TreeFacts}
+use Rattle.std.proofs.Common.{ap, arith, length, ◌≤◌}
+use Rattle.kc_language.specs.{Symbols.TreeFacts, Texts.solution_view}
 use Rattle.kc_config_file.specs.PartsOfTexts.{header_if}
-use Rattle.kc_language.specs.Texts.{solution_view}
-use Rattle.kc_config_file.proofs.TextLemmas.{defined_named, symbols_next, symbols_end, grows, is_grown}
+use Rattle.kc_config_file.proofs.TextLemmas.{grows, is_grown, symbols_end, symbols_next}
+use Rattle.kc_input.proofs.DefinedLemmas.{defined_named}
 use Rattle.kc_config_file.proofs.header.add_header_lines.Goals as goal
 
 pub add_header_if-requires : goal.add_header_if-requires

@@ -1,10 +1,6 @@
-use Rattle.std.proofs.Common.{◌≡◌, ◌++◌, subst, List, ℕ, OnOk, Some, refl}
+use Rattle.std.proofs.Common.{List, OnOk, Some, refl, subst, ℕ, ◌++◌, ◌≡◌}
 use Rattle.std.specs.Prelude.{slice_get}
-use Rattle.kc_language.specs.ConfigFile.{Notation}
-use Rattle.kc_language.specs.declared.expressions.SymId.{SymId}
-use Rattle.kc_language.specs.Expressions.{SymbolValue}
-use Rattle.kc_language.specs.Symbols.{TreeFacts}
-use Rattle.kc_language.specs.Texts.{SolutionView, new_line, solution_view, symbol_new}
+use Rattle.kc_language.specs.{ConfigFile.Notation, Expressions.SymbolValue, Symbols.TreeFacts, Texts.{SolutionView, new_line, solution_view, symbol_new}, declared.expressions.SymId.SymId}
 use Rattle.kc_config_file.specs.KnownValue.{value_view}
 use Rattle.kc_config_file.proofs.TextLemmas.{name_is}
 use Rattle.kc_config_file.proofs.header.add_new_line.Goals as goal

@@ -1,8 +1,8 @@
-use Rattle.std.proofs.Common.{◌≤◌, length, ap, arith, refl}
-use Rattle.kc_language.specs.Symbols.{TreeFacts}
+use Rattle.std.proofs.Common.{ap, arith, length, refl, ◌≤◌}
+use Rattle.kc_language.specs.{Symbols.TreeFacts, Texts.{new_text, solution_view}}
 use Rattle.kc_config_file.specs.PartsOfTexts.{new_if}
-use Rattle.kc_language.specs.Texts.{new_text, solution_view}
-use Rattle.kc_config_file.proofs.TextLemmas.{defined_named, symbols_next, symbols_end, grows, is_grown}
+use Rattle.kc_config_file.proofs.TextLemmas.{grows, is_grown, symbols_end, symbols_next}
+use Rattle.kc_input.proofs.DefinedLemmas.{defined_named}
 use Rattle.kc_config_file.proofs.header.list_of_new.Goals as goal
 
 pub loop-i-init : goal.loop-i-init

@@ -1,9 +1,9 @@
-use Rattle.std.proofs.Common.{◌≤◌, length, ap, arith, refl}
-use Rattle.kc_language.specs.Symbols.{TreeFacts}
+use Rattle.std.proofs.Common.{ap, arith, length, refl, ◌≤◌}
+use Rattle.kc_language.specs.{Symbols.TreeFacts, Texts.{minimal_text, solution_view}}
 use Rattle.kc_expr.proofs.NamesLemmas.{on_err}
 use Rattle.kc_config_file.specs.PartsOfTexts.{minimal_if}
-use Rattle.kc_language.specs.Texts.{minimal_text, solution_view}
-use Rattle.kc_config_file.proofs.TextLemmas.{defined_named, symbols_next, symbols_end, grows, grows_some, is_grown}
+use Rattle.kc_config_file.proofs.TextLemmas.{grows, grows_some, is_grown, symbols_end, symbols_next}
+use Rattle.kc_input.proofs.DefinedLemmas.{defined_named}
 use Rattle.kc_config_file.proofs.header.minimal_text.Goals as goal
 
 pub loop-i-init : goal.loop-i-init

@@ -1,7 +1,6 @@
 use Rattle.kc_language.specs.ConfigFile.{place_at}
-use Rattle.kc_config_file.proofs.IdempotentLaws.{idempotent_again}
-use Rattle.kc_config_file.proofs.SolutionLemmas.{has_names}
-use Rattle.kc_config_file.proofs.ValueTextLemmas.{values_fit_lines}
+use Rattle.kc_config_file.proofs.{IdempotentLaws.idempotent_again, ValueTextLemmas.values_fit_lines}
+use Rattle.kc_input.proofs.DefinedLemmas.{has_names}
 use Rattle.kc_values.proofs.ModeLaws.{members_are_bools, members_are_theirs}
 use Rattle.kc_config_file.proofs.laws.config_is_idempotent.Goals as goal
 

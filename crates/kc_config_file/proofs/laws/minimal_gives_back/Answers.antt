@@ -1,7 +1,6 @@
 use Rattle.kc_language.specs.ConfigFile.{place_at}
-use Rattle.kc_config_file.proofs.MinimalLaws.{gives_back, none_to_spare}
-use Rattle.kc_config_file.proofs.MinimalTextLemmas.{keeps_differing, tells_differing}
-use Rattle.kc_config_file.proofs.SolutionLemmas.{has_names}
+use Rattle.kc_config_file.proofs.{MinimalLaws.{gives_back, none_to_spare}, MinimalTextLemmas.{keeps_differing, tells_differing}}
+use Rattle.kc_input.proofs.DefinedLemmas.{has_names}
 use Rattle.kc_values.proofs.ModeLaws.{members_are_bools, members_are_theirs}
 use Rattle.kc_config_file.proofs.laws.minimal_gives_back.Goals as goal
 

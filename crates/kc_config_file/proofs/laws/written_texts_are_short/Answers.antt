@@ -1,6 +1,5 @@
 use Rattle.kc_language.specs.ConfigFile.{place_at}
-use Rattle.kc_config_file.proofs.ShortTextLemmas.{config_is_short, minimal_is_short}
-use Rattle.kc_config_file.proofs.ValueTextLemmas.{values_fit}
+use Rattle.kc_config_file.proofs.{ShortTextLemmas.{config_is_short, minimal_is_short}, ValueTextLemmas.values_fit}
 use Rattle.kc_config_file.proofs.laws.written_texts_are_short.Goals as goal
 
 pub returns : goal.returns

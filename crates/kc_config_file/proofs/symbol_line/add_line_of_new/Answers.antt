@@ -1,7 +1,6 @@
 -- The comment of a symbol without a value.
-use Rattle.std.proofs.Common.{◌≡◌, ◌∙◌, ◌++◌, append_assoc, ap, Bool, codes, cond, false, List, OnOk, subst, sym, ℕ}
-use Rattle.kc_language.specs.Expressions.{SymbolValue}
-use Rattle.kc_language.specs.Texts.{config_file_line, has_value, new_line}
+use Rattle.std.proofs.Common.{Bool, List, OnOk, ap, append_assoc, codes, cond, false, subst, sym, ℕ, ◌++◌, ◌∙◌, ◌≡◌}
+use Rattle.kc_language.specs.{Expressions.SymbolValue, Texts.{config_file_line, has_value, new_line}}
 use Rattle.kc_config_file.specs.KnownValue.{value_view}
 use Rattle.kc_config_file.proofs.symbol_line.add_line_of_new.Goals as goal
 

@@ -1,7 +1,7 @@
 -- Arguments that were read may end with a fault.
 use Rattle.std.proofs.Common.{sym, subst, ◌∙◌}
 use Rattle.kc_disk.specs.declared.arguments.Arguments.{Arguments, TheVariants.{Given}}
-use Rattle.kc_language.specs.declared.outcome.Status.{Status}
+use Rattle.kc_outcome.specs.declared.outcome.Status.{Status}
 use Rattle.kc_disk.specs.Program.{KconfEndsOnDisk}
 use Rattle.kc_disk.proofs.FaultLemmas.{faulted_given}
 use Rattle.kc_disk.proofs.program.ended_if.Goals as goal

@@ -1,8 +1,6 @@
 -- The first line feed ends the line, or all is one line.
-use Rattle.std.proofs.Common.{◌+◌, ◌∙◌, ap, length, refl, sym, eq-eqb}
+use Rattle.std.proofs.{Common.{ap, eq-eqb, length, refl, sym, ◌+◌, ◌∙◌}, Math.Seq.drop-length, lemmas.List.{take_all, take_rest}}
 use Rattle.std.specs.List.{list_any}
-use Rattle.std.proofs.Math.Seq.{drop-length}
-use Rattle.std.proofs.lemmas.List.{take_rest, take_all}
 use Rattle.kc_display.specs.Difference.{is_line_feed}
 use Rattle.kc_display.proofs.LineLemmas.{first-cut, first-whole}
 use Rattle.kc_display.proofs.edits.first_line.Goals as goal

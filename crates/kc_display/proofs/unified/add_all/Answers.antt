@@ -1,7 +1,6 @@
 -- The names, and then all places.
 use Rattle.std.proofs.Common.{[], ◌∷◌}
-use Rattle.kc_display.proofs.PageLemmas.{adds-on}
-use Rattle.kc_display.proofs.ShownLemmas.{places-all}
+use Rattle.kc_display.proofs.{PageLemmas.adds-on, ShownLemmas.places-all}
 use Rattle.kc_display.proofs.unified.add_all.Goals as goal
 
 pub returns : goal.returns

@@ -1,5 +1,5 @@
 use Rattle.std.proofs.Common.{◌≡◌, length}
-use Rattle.kc_language.specs.Explanations.{differs_by_one}
+use Rattle.kc_outcome.specs.Explanations.{differs_by_one}
 use Rattle.kc_explain.proofs.names.differs_by_one.Given as goal
 
 -- the names differ if what is left of them does

@@ -1,5 +1,5 @@
 use Rattle.std.proofs.Common.{◌∙◌, ◌+◌, drop, ap, sym}
-use Rattle.kc_config_file.proofs.TextLemmas.{defined_named}
+use Rattle.kc_input.proofs.DefinedLemmas.{defined_named}
 use Rattle.kc_language.specs.Values.{name}
 use Rattle.std.proofs.Common.{map}
 use Rattle.kc_explain.specs.NearNames.{with_each}

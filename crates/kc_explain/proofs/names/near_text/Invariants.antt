@@ -1,5 +1,5 @@
 use Rattle.std.proofs.Common.{◌≡◌, drop, map}
-use Rattle.kc_language.specs.Outcome.{near_text}
+use Rattle.kc_outcome.specs.Outcome.{near_text}
 use Rattle.kc_language.specs.Values.{name}
 use Rattle.kc_explain.specs.NearNames.{with_each}
 use Rattle.kc_explain.proofs.names.near_text.Given as goal

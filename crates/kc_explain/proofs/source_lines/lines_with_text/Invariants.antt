@@ -1,6 +1,6 @@
 use Rattle.std.proofs.Common.{◌≡◌, ◌≤◌, ◌+◌, length, map, take}
 use Rattle.std.specs.List.{suffix_len}
-use Rattle.kc_language.specs.Explanations.{without_text}
+use Rattle.kc_outcome.specs.Explanations.{without_text}
 use Rattle.kc_explain.proofs.source_lines.lines_with_text.Given as goal
 
 -- only lines without text stand from the end on

@@ -1,20 +1,8 @@
 -- What the check left open in the cycle of `parse`.
-use Rattle.std.proofs.Common.{ℕ, ◌∙◌, ap, ◌∷◌, [], map}
-use Rattle.std.proofs.lemmas.List.{map-append}
-use Rattle.std.proofs.lemmas.Result.{IfOk-weaker}
-use Rattle.kc_expr.specs.declared.expression.Expr.{Expr}
-use Rattle.kc_expr.specs.declared.expression.Parts.{Parts}
-use Rattle.kc_expr.specs.Form.{form_of, parts_of}
-use Rattle.kc_language.specs.Expressions.{forms, spell, spell_not, Bang}
-use Rattle.kc_expr.specs.PartsOfExpressions.{connected}
-use Rattle.kc_expr.specs.Grammar.{terminals_from}
-use Rattle.kc_expr.proofs.ParseLemmas.{fault_passed, deep_bang_at, deep_group_at, fails_bang_at, fails_group_at, parsed_bang, unclosed_at, parsed_group, parsed_negation, parsed_conjunction, parsed_only, parts_one, parts_next, parsed_chain, fails_after}
-use Rattle.kc_expr.specs.declared.parse.ExprFault.TheVariants.{Memory}
-use Rattle.kc_expr.specs.Reading.{FailsNot, ParsedNot}
-use Rattle.kc_expr.proofs.OperandLemmas.{chain_operand, not_operand, operand_in, operand_on}
-use Rattle.kc_expr.proofs.NamesLemmas.{extends_on}
-use Rattle.kc_expr.proofs.ReadingLemmas.{fails_negation, fails_conjunction, fails_first}
-use Rattle.kc_expr.proofs.TopLemmas.{IfErr-weaker}
+use Rattle.std.proofs.{Common.{[], ap, map, ℕ, ◌∙◌, ◌∷◌}, lemmas.{List.map-append, Result.IfOk-weaker}}
+use Rattle.kc_expr.specs.{Form.{form_of, parts_of}, Grammar.terminals_from, PartsOfExpressions.connected, Reading.{FailsNot, ParsedNot}, declared.{expression.{Expr.Expr, Parts.Parts}, parse.ExprFault.TheVariants.Memory}}
+use Rattle.kc_language.specs.Expressions.{Bang, forms, spell, spell_not}
+use Rattle.kc_expr.proofs.{NamesLemmas.extends_on, OperandLemmas.{chain_operand, not_operand, operand_in, operand_on}, ParseLemmas.{deep_bang_at, deep_group_at, fails_after, fails_bang_at, fails_group_at, fault_passed, parsed_bang, parsed_chain, parsed_conjunction, parsed_group, parsed_negation, parsed_only, parts_next, parts_one, unclosed_at}, ReadingLemmas.{fails_conjunction, fails_first, fails_negation}, TopLemmas.IfErr-weaker}
 use Rattle.kc_expr.proofs.parse.+parse.Goals as goal
 
 pub negation-returns-then-levels-eq0-clause-fails : goal.negation-returns-then-levels-eq0-clause-fails

@@ -1,7 +1,6 @@
 -- The invariants and measures of the cycle of `parse`.
-use Rattle.std.proofs.Common.{◌+◌, ◌-◌, ◌*◌, ◌≤◌, length, map}
-use Rattle.kc_expr.specs.Form.{form_of, parts_of}
-use Rattle.kc_expr.specs.Names.{Extends}
+use Rattle.std.proofs.Common.{length, map, ◌*◌, ◌+◌, ◌-◌, ◌≤◌}
+use Rattle.kc_expr.specs.{Form.{form_of, parts_of}, Names.Extends}
 use Rattle.kc_expr.proofs.ParseLemmas.{ReadParts, rank}
 use Rattle.kc_expr.proofs.parse.+parse.Given as goal
 

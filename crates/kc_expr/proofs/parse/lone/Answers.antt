@@ -1,12 +1,8 @@
 -- What the check left open in `lone`.
-use Rattle.kc_expr.proofs.OperandLemmas.{memory_at}
-use Rattle.kc_expr.proofs.ParseLemmas.{fault_passed, no_left}
-use Rattle.kc_expr.proofs.LoneLemmas.{parsed_alone, fails_alone}
-use Rattle.kc_expr.specs.Grammar.{terminals_from}
+use Rattle.kc_expr.proofs.{LoneLemmas.{fails_alone, parsed_alone}, OperandLemmas.memory_at, ParseLemmas.{fault_passed, no_left}}
+use Rattle.kc_expr.specs.{Grammar.terminals_from, Reading.FailsChain, declared.parse.ExprFault.TheVariants.Syntax}
 use Rattle.kc_language.specs.declared.expressions.Connective.TheVariants.{Or}
 use Rattle.kc_text.specs.PartsOfText.{most_levels}
-use Rattle.kc_expr.specs.Reading.{FailsChain}
-use Rattle.kc_expr.specs.declared.parse.ExprFault.TheVariants.{Syntax}
 use Rattle.kc_expr.proofs.parse.lone.Goals as goal
 
 pub returns-in_default-clause-fails : goal.returns-in_default-clause-fails

@@ -1,10 +1,7 @@
 -- What the check left open in `parse`.
-use Rattle.std.proofs.lemmas.Result.{IfOk-weaker}
-use Rattle.std.proofs.Common.{ℕ}
-use Rattle.kc_expr.specs.declared.expression.Expr.{Expr}
-use Rattle.kc_expr.specs.Form.{form_of}
-use Rattle.kc_expr.specs.Grammar.{terminals_from}
-use Rattle.kc_expr.proofs.TopLemmas.{is_parsed, is_refused, IfErr-weaker}
+use Rattle.std.proofs.{Common.ℕ, lemmas.Result.IfOk-weaker}
+use Rattle.kc_expr.specs.{Form.form_of, Grammar.terminals_from, declared.expression.Expr.Expr}
+use Rattle.kc_expr.proofs.TopLemmas.{IfErr-weaker, is_parsed, is_refused}
 use Rattle.kc_expr.proofs.parse.parse.Goals as goal
 
 pub returns-then-is_lone-clause-parsed : goal.returns-then-is_lone-clause-parsed

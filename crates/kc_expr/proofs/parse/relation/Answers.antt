@@ -1,12 +1,8 @@
 -- What the check left open in `relation`.
-use Rattle.std.proofs.Common.{ℕ, ◌≡◌, ◌≤◌, ◌<◌, ◌+◌, ◌∙◌, ap, ◌∷◌, length, arith}
-use Rattle.kc_expr.specs.Grammar.{terminals_from}
-use Rattle.kc_language.specs.Expressions.{OperandToken, Compares}
-use Rattle.kc_expr.specs.Reading.{starts_operand, FailsNot}
-use Rattle.kc_expr.specs.declared.parse.ExprFault.TheVariants.{Memory}
-use Rattle.kc_expr.proofs.NamesLemmas.{extends_on}
-use Rattle.kc_expr.proofs.OperandLemmas.{is_memory, memory_at, memory_not, operand_here}
-use Rattle.kc_expr.proofs.ParseLemmas.{fault_passed, no_left, no_right_side, parsed_lone, parsed_compare}
+use Rattle.std.proofs.Common.{ap, arith, length, ℕ, ◌+◌, ◌<◌, ◌∙◌, ◌∷◌, ◌≡◌, ◌≤◌}
+use Rattle.kc_expr.specs.{Grammar.terminals_from, Reading.{FailsNot, starts_operand}, declared.parse.ExprFault.TheVariants.Memory}
+use Rattle.kc_language.specs.Expressions.{Compares, OperandToken}
+use Rattle.kc_expr.proofs.{NamesLemmas.extends_on, OperandLemmas.{is_memory, memory_at, memory_not, operand_here}, ParseLemmas.{fault_passed, no_left, no_right_side, parsed_compare, parsed_lone}}
 use Rattle.kc_expr.proofs.parse.relation.Goals as goal
 
 pub returns-in_default-clause-fails : goal.returns-in_default-clause-fails

@@ -1,10 +1,7 @@
 -- The steps of the loops of `add_at`.
-use Rattle.std.proofs.Common.{Some, ap, ◌++◌, ◌∙◌}
-use Rattle.std.proofs.lemmas.Result.{on_ok_weaker}
-use Rattle.kc_expr.specs.declared.expression.Parts.{Parts}
-use Rattle.kc_expr.specs.Form.{form_of}
-use Rattle.kc_language.specs.Explanations.{text_at}
-use Rattle.kc_language.specs.declared.expressions.Connective.TheVariants.{And, Or}
+use Rattle.std.proofs.{Common.{Some, ap, ◌++◌, ◌∙◌}, lemmas.Result.on_ok_weaker}
+use Rattle.kc_expr.specs.{Form.form_of, declared.expression.Parts.Parts}
+use Rattle.kc_language.specs.{ExpressionTexts.text_at, declared.expressions.Connective.TheVariants.{And, Or}}
 use Rattle.kc_expr.proofs.ExpressionTexts.{begun, closing, ended, one_more, text_of_all, text_of_any}
 use Rattle.kc_expr.proofs.text.+add_at.Goals as goal
 

@@ -1,8 +1,6 @@
 -- What holds at each turn of the loops of `add_at`: with the parts that are left and the closing parenthesis it is the whole text.
-use Rattle.std.proofs.Common.{◌≡◌, ◌++◌, map, drop}
-use Rattle.kc_language.specs.Expressions.{forms}
-use Rattle.kc_language.specs.Explanations.{chain_text, joint, text_at}
-use Rattle.kc_language.specs.declared.expressions.Connective.TheVariants.{And, Or}
+use Rattle.std.proofs.Common.{drop, map, ◌++◌, ◌≡◌}
+use Rattle.kc_language.specs.{ExpressionTexts.{chain_text, joint, text_at}, Expressions.forms, declared.expressions.Connective.TheVariants.{And, Or}}
 use Rattle.kc_expr.specs.Form.{form_of}
 use Rattle.kc_expr.proofs.ExpressionTexts.{closing}
 use Rattle.kc_expr.proofs.text.+add_at.Given as goal

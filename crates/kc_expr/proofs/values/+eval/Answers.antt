@@ -1,11 +1,8 @@
 -- The steps of the loops of `eval`.
-use Rattle.std.proofs.Common.{◌≡◌, ℕ, suc, ◌+◌, ◌<◌, List, ◌∷◌, ◌∙◌, length, get_or, map, drop, refl, ap, sym, drop-cons, add-one}
-use Rattle.kc_expr.specs.declared.expression.Expr.{Expr}
-use Rattle.kc_language.specs.declared.expressions.Tri.{Tri}
-use Rattle.kc_expr.specs.Form.{form_of}
-use Rattle.kc_expr.specs.Value.{values_by}
-use Rattle.kc_language.specs.Expressions.{value, least, greatest, lesser, greater}
-use Rattle.kc_expr.proofs.FormLemmas.{lesser-assoc, greater-assoc}
+use Rattle.std.proofs.Common.{List, add-one, ap, drop, drop-cons, get_or, length, map, refl, suc, sym, ℕ, ◌+◌, ◌<◌, ◌∙◌, ◌∷◌, ◌≡◌}
+use Rattle.kc_expr.specs.{Form.form_of, Value.values_by, declared.expression.Expr.Expr}
+use Rattle.kc_language.specs.{Expressions.{greater, greatest, least, lesser, value}, declared.expressions.Tri.Tri}
+use Rattle.kc_expr.proofs.FormLemmas.{greater-assoc, lesser-assoc}
 use Rattle.kc_expr.proofs.values.+eval.Goals as goal
 
 -- one part more is joined to what was found, and one less is left

@@ -1,16 +1,9 @@
 -- What the check left open in `symbols_into`.
-use Rattle.std.proofs.Common.{◌≡◌, Option, ℕ, zero, suc, ◌<◌, List, [], ◌∷◌, ◌++◌, ◌∙◌, length, get_or, take, refl, ap, sym, ◌⊎◌, ⊎_elim, append-nil, append_assoc, length-append, add-one, arith}
-use Rattle.std.proofs.lemmas.Result.{on_err_weaker}
-use Rattle.std.specs.declared.alloc.Global.{Global}
-use Rattle.std.specs.declared.boxed.Box.{Box}
-use Rattle.kc_expr.specs.declared.expression.Expr.{Expr, All, Any}
-use Rattle.kc_expr.specs.declared.expression.Operands.{Operands}
-use Rattle.kc_expr.specs.declared.expression.Parts.{Parts}
-use Rattle.kc_language.specs.declared.expressions.SymId.{SymId}
-use Rattle.kc_expr.specs.Form.{form_of, leaf_of, AppendsFront}
-use Rattle.kc_language.specs.Expressions.{symbols, leaf_symbols}
-use Rattle.kc_expr.proofs.FormLemmas.{both_on_err, front_between, front_within, symbols_of_all, symbols-All, symbols-Any}
-use Rattle.kc_expr.proofs.NamesLemmas.{on_err}
+use Rattle.std.proofs.{Common.{List, Option, [], add-one, ap, append-nil, append_assoc, arith, get_or, length, length-append, refl, suc, sym, take, zero, ℕ, ⊎_elim, ◌++◌, ◌<◌, ◌∙◌, ◌∷◌, ◌≡◌, ◌⊎◌}, lemmas.Result.on_err_weaker}
+use Rattle.std.specs.declared.{alloc.Global.Global, boxed.Box.Box}
+use Rattle.kc_expr.specs.{Form.{AppendsFront, form_of, leaf_of}, declared.expression.{Expr.{All, Any, Expr}, Operands.Operands, Parts.Parts}}
+use Rattle.kc_language.specs.{Expressions.{leaf_symbols, symbols}, declared.expressions.SymId.SymId}
+use Rattle.kc_expr.proofs.{FormLemmas.{both_on_err, front_between, front_within, symbols-All, symbols-Any, symbols_of_all}, NamesLemmas.on_err}
 use Rattle.kc_expr.proofs.values.+symbols_into.Goals as goal
 
 -- the symbols of one expression more

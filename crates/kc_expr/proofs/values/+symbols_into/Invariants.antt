@@ -1,8 +1,7 @@
 -- The invariants and measures of `symbols_into`.
-use Rattle.std.proofs.Common.{◌≡◌, List, ◌++◌, take}
-use Rattle.kc_language.specs.declared.expressions.SymId.{SymId}
+use Rattle.std.proofs.Common.{List, take, ◌++◌, ◌≡◌}
+use Rattle.kc_language.specs.{Expressions.symbols, declared.expressions.SymId.SymId}
 use Rattle.kc_expr.specs.Form.{form_of}
-use Rattle.kc_language.specs.Expressions.{symbols}
 use Rattle.kc_expr.proofs.FormLemmas.{symbols_of_all}
 use Rattle.kc_expr.proofs.values.+symbols_into.Given as goal
 

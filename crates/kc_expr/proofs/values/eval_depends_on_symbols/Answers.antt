@@ -1,7 +1,6 @@
 -- What the check left open in `eval_depends_on_symbols`.
-use Rattle.std.proofs.Common.{◌∙◌, ap}
-use Rattle.kc_expr.specs.Form.{form_of}
-use Rattle.kc_expr.specs.Value.{values_by}
+use Rattle.std.proofs.Common.{ap, ◌∙◌}
+use Rattle.kc_expr.specs.{Form.form_of, Value.values_by}
 use Rattle.kc_language.specs.Expressions.{value}
 use Rattle.kc_expr.proofs.AgreeLemmas.{depends_on_symbols}
 use Rattle.kc_expr.proofs.values.eval_depends_on_symbols.Goals as goal

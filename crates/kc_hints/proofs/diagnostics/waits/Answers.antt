@@ -1,6 +1,6 @@
 use Rattle.std.proofs.Common.{ap, sym, ◌∙◌}
 use Rattle.std.specs.List.{list_any}
-use Rattle.kc_read.proofs.ListLemmas.{list_any-map}
+use Rattle.kc_entries.proofs.ListLemmas.{list_any-map}
 use Rattle.kc_hints.specs.Facts.{may_have_fact}
 use Rattle.kc_hints.proofs.diagnostics.waits.Goals as goal
 

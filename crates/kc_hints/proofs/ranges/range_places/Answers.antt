@@ -1,5 +1,5 @@
 use Rattle.std.proofs.Common.{ap, sym, ◌∙◌, ◌+◌, ◌++◌, append_assoc, append-nil, map}
-use Rattle.kc_read.specs.Entries.{lines_from}
+use Rattle.kc_entries.specs.Entries.{lines_from}
 use Rattle.kc_hints.specs.Facts.{range_places}
 use Rattle.kc_hints.specs.RangeParts.{place_view}
 use Rattle.kc_hints.proofs.RangeLemmas.{entry_ranges}

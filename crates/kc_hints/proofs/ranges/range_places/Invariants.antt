@@ -1,6 +1,6 @@
 -- The range lines of the entries behind follow.
 use Rattle.std.proofs.Common.{◌≡◌, ◌++◌, ◌-◌, length, map}
-use Rattle.kc_read.specs.Entries.{lines_from, lines_in}
+use Rattle.kc_entries.specs.Entries.{lines_from, lines_in}
 use Rattle.kc_hints.specs.Facts.{range_places}
 use Rattle.kc_hints.specs.RangeParts.{place_view}
 use Rattle.kc_hints.proofs.ranges.range_places.Given as goal

@@ -1,6 +1,5 @@
-use Rattle.std.proofs.Common.{arith, ap, ◌∙◌, ◌≡◌, ◌≤◌, length}
+use Rattle.std.proofs.{Common.{ap, arith, length, ◌∙◌, ◌≡◌, ◌≤◌}, lemmas.List.length-take-le}
 use Rattle.std.specs.Prelude.{replicate}
-use Rattle.std.proofs.lemmas.List.{length-take-le}
 use Rattle.kc_include.proofs.RestLemmas.{empty-lines}
 use Rattle.kc_include.proofs.device.read_on.Goals as goal
 

@@ -1,7 +1,6 @@
-use Rattle.std.proofs.Common.{◌≡◌, ◌+◌, ◌-◌, ◌∙◌, ap, arith, sym, subst, map, length-drop, ℕ}
+use Rattle.std.proofs.Common.{ap, arith, length-drop, map, subst, sym, ℕ, ◌+◌, ◌-◌, ◌∙◌, ◌≡◌}
 use Rattle.std.specs.Option.{option_map}
-use Rattle.kc_include.specs.NameView.{name_of}
-use Rattle.kc_include.specs.PartView.{IsCut, part_of}
+use Rattle.kc_include.specs.{NameView.name_of, PartView.{IsCut, part_of}}
 use Rattle.kc_include.proofs.PartLemmas.{cut-on}
 use Rattle.kc_include.proofs.parts.cut_line.Goals as goal
 

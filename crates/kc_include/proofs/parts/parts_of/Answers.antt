@@ -1,5 +1,4 @@
-use Rattle.std.proofs.Common.{◌≡◌, ◌∙◌, ℕ, ap, arith, length, length-drop, map, subst}
-use Rattle.std.proofs.lemmas.List.{map-append}
+use Rattle.std.proofs.{Common.{ap, arith, length, length-drop, map, subst, ℕ, ◌∙◌, ◌≡◌}, lemmas.List.map-append}
 use Rattle.kc_include.specs.PartView.{IsCut, part_of}
 use Rattle.kc_include.proofs.PartLemmas.{cut-none, cut-whole}
 use Rattle.kc_include.proofs.parts.parts_of.Goals as goal

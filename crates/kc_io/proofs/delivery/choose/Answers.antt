@@ -1,7 +1,5 @@
-use Rattle.std.proofs.Common.{rules, ◌∙◌, ap, map, not}
-use Rattle.std.proofs.lemmas.Fn.{filter_same}
-use Rattle.kc_io.specs.Log.{is_held}
-use Rattle.kc_io.specs.Delivered.{text_view}
+use Rattle.std.proofs.{Common.{ap, map, not, rules, ◌∙◌}, lemmas.Fn.filter_same}
+use Rattle.kc_io.specs.{Delivered.text_view, Log.is_held}
 use Rattle.kc_io.proofs.DeliveryLemmas.{chosen_stale}
 use Rattle.kc_io.proofs.delivery.choose.Goals as goal
 

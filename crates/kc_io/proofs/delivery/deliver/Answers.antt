@@ -1,7 +1,5 @@
-use Rattle.kc_io.proofs.LogLemmas.{leads_nothing}
-use Rattle.kc_io.proofs.DeliveryLemmas.{delivered}
+use Rattle.kc_io.proofs.{DeliveryLemmas.delivered, LogLemmas.leads_nothing, delivery.deliver.Goals.{in-Replacing, in_default}}
 use Rattle.kc_io.proofs.delivery.deliver.Goals as goal
-use Rattle.kc_io.proofs.delivery.deliver.Goals.{in-Replacing, in_default}
 
 pub returns : goal.returns
 returns g c =

@@ -1,6 +1,4 @@
-use Rattle.std.proofs.Common.{rules, tests, ◌∙◌, sym, bytes_eq}
-use Rattle.std.proofs.lemmas.Iterator.{YieldsList-from_slice}
-use Rattle.std.proofs.lemmas.Iterator.Search.{any_from_yields_List}
+use Rattle.std.proofs.{Common.{bytes_eq, rules, sym, tests, ◌∙◌}, lemmas.Iterator.{Search.any_from_yields_List, YieldsList-from_slice}}
 use Rattle.kc_io.proofs.DeliveryLemmas.{list_any-map}
 use Rattle.kc_io.proofs.delivery.has_name.Goals as goal
 

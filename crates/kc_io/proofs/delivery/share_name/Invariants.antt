@@ -1,6 +1,5 @@
-use Rattle.std.proofs.Common.{◌≡◌, map, length}
-use Rattle.kc_io.specs.Delivery.{share_name}
-use Rattle.kc_io.specs.Delivered.{text_view}
+use Rattle.std.proofs.Common.{length, map, ◌≡◌}
+use Rattle.kc_io.specs.{Delivered.text_view, Delivery.share_name}
 use Rattle.kc_io.proofs.delivery.share_name.Given as goal
 
 -- what is left is to be answered

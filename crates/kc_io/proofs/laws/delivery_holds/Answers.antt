@@ -1,5 +1,4 @@
-use Rattle.std.proofs.Common.{fold, ap, ◌∙◌, []}
-use Rattle.std.proofs.lemmas.Grind.{fold-append}
+use Rattle.std.proofs.{Common.{[], ap, fold, ◌∙◌}, lemmas.Grind.fold-append}
 use Rattle.kc_io.specs.Log.{Spot, after}
 use Rattle.kc_io.proofs.HeldLemmas.{delivery_held}
 use Rattle.kc_io.proofs.laws.delivery_holds.Goals as goal

@@ -1,5 +1,4 @@
-use Rattle.kc_io.specs.Delivery.{moved}
-use Rattle.kc_io.specs.Delivered.{text_view}
+use Rattle.kc_io.specs.{Delivered.text_view, Delivery.moved}
 use Rattle.kc_io.proofs.WentLemmas.{items_all, items_stopped}
 use Rattle.kc_io.proofs.steps.move_all.Goals as goal
 

@@ -1,8 +1,6 @@
-use Rattle.std.proofs.Common.{take, []}
+use Rattle.std.proofs.Common.{[], take}
 use Rattle.std.specs.List.{flat_map}
-use Rattle.kc_io.specs.Log.{Leads}
-use Rattle.kc_io.specs.Delivery.{moved}
-use Rattle.kc_io.specs.Delivered.{text_view}
+use Rattle.kc_io.specs.{Delivered.text_view, Delivery.moved, Log.Leads}
 use Rattle.kc_io.proofs.steps.move_all.Given as goal
 
 -- the texts so far were moved

@@ -1,8 +1,6 @@
-use Rattle.std.proofs.Common.{take, []}
+use Rattle.std.proofs.Common.{[], take}
 use Rattle.std.specs.List.{flat_map}
-use Rattle.kc_io.specs.Log.{Leads}
-use Rattle.kc_io.specs.Delivery.{put}
-use Rattle.kc_io.specs.Delivered.{text_view}
+use Rattle.kc_io.specs.{Delivered.text_view, Delivery.put, Log.Leads}
 use Rattle.kc_io.proofs.steps.put_all.Given as goal
 
 -- the texts so far were made

@@ -1,5 +1,4 @@
-use Rattle.std.proofs.Common.{arith, length, length-drop, ◌-◌, ◌≡◌, take, drop}
-use Rattle.std.proofs.lemmas.List.{take_all}
+use Rattle.std.proofs.{Common.{arith, drop, length, length-drop, take, ◌-◌, ◌≡◌}, lemmas.List.take_all}
 use Rattle.kc_io.proofs.WentLemmas.{bytes_more, bytes_stopped, went_all}
 use Rattle.kc_io.proofs.steps.write.Goals as goal
 

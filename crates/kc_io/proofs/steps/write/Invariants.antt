@@ -1,6 +1,5 @@
-use Rattle.std.proofs.Common.{length, ◌-◌, ◌≤◌, take, []}
-use Rattle.kc_io.specs.Log.{each_byte, Leads}
-use Rattle.kc_io.specs.declared.device.Action.TheVariants.{Write}
+use Rattle.std.proofs.Common.{[], length, take, ◌-◌, ◌≤◌}
+use Rattle.kc_io.specs.{Log.{Leads, each_byte}, declared.device.Action.TheVariants.Write}
 use Rattle.kc_io.proofs.steps.write.Given as goal
 
 -- what was done is the bytes so far

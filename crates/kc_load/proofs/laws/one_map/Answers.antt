@@ -1,6 +1,5 @@
 -- The map that loading gives is there, and it is one.
-use Rattle.kc_load.proofs.MapExists.{map_exists}
-use Rattle.kc_load.proofs.OneMap.{one_map}
+use Rattle.kc_load.proofs.{MapExists.map_exists, OneMap.one_map}
 use Rattle.kc_load.proofs.laws.one_map.Goals as goal
 
 pub returns-clause-there : goal.returns-clause-there

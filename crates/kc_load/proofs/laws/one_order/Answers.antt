@@ -1,6 +1,5 @@
 -- The order in which names are asked for is there, it is one, and it holds what the first name reaches.
-use Rattle.kc_load.proofs.OneOrder.{one_order}
-use Rattle.kc_load.proofs.ReachedLemmas.{has_order, order_is_reached}
+use Rattle.kc_load.proofs.{OneOrder.one_order, ReachedLemmas.{has_order, order_is_reached}}
 use Rattle.kc_load.proofs.laws.one_order.Goals as goal
 
 pub returns-clause-there : goal.returns-clause-there

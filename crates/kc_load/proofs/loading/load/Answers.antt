@@ -1,9 +1,7 @@
-use Rattle.std.proofs.Common.{Bool, sym, subst, ◌∙◌}
-use Rattle.std.proofs.lemmas.Bool.{true≢false}
+use Rattle.std.proofs.{Common.{Bool, subst, sym, ◌∙◌}, lemmas.Bool.true≢false}
 use Rattle.std.specs.Prelude.{IfOk}
 use Rattle.kc_read.specs.Files.{files_in}
-use Rattle.kc_load.specs.Folder.{files_told}
-use Rattle.kc_load.specs.Loading.{Suffices}
+use Rattle.kc_load.specs.{Folder.files_told, Loading.Suffices}
 use Rattle.kc_load.proofs.FlatLemmas.{flat_enough_if, tree_enough}
 use Rattle.kc_load.proofs.loading.load.Goals as goal
 

@@ -1,12 +1,7 @@
-use Rattle.std.proofs.Common.{◌≡◌, ℕ, [], ap, sym, subst, arith, ◌∙◌}
-use Rattle.std.proofs.lemmas.Result.{err_from_is_err_and}
-use Rattle.std.specs.declared.vec.Vec.{Vec}
-use Rattle.std.specs.declared.alloc.Global.{Global}
+use Rattle.std.proofs.{Common.{[], ap, arith, subst, sym, ℕ, ◌∙◌, ◌≡◌}, lemmas.Result.err_from_is_err_and}
+use Rattle.std.specs.declared.{alloc.Global.Global, vec.Vec.Vec}
 use Rattle.kc_load.specs.Steps.{State, state_of}
-use Rattle.kc_load.proofs.EndLemmas.{falls, fits, is_over, none_waits, not_over}
-use Rattle.kc_load.proofs.FolderLemmas.{leads_nothing, leads_on}
-use Rattle.kc_load.proofs.ListLemmas.{popped_last}
-use Rattle.kc_load.proofs.SoFar.{SoFar, at_fault, at_start, enough_at_end, enough_over, loaded_at_end, loaded_over, turned}
+use Rattle.kc_load.proofs.{EndLemmas.{falls, fits, is_over, none_waits, not_over}, FolderLemmas.{leads_nothing, leads_on}, ListLemmas.popped_last, SoFar.{SoFar, at_fault, at_start, enough_at_end, enough_over, loaded_at_end, loaded_over, turned}}
 use Rattle.kc_load.proofs.loading.load_tree.Goals as goal
 
 pub loop-name-init : goal.loop-name-init

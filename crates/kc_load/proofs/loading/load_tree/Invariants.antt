@@ -1,9 +1,7 @@
-use Rattle.std.proofs.Common.{◌≡◌, ◌≤◌, [], false}
+use Rattle.std.proofs.Common.{[], false, ◌≡◌, ◌≤◌}
 use Rattle.kc_language.specs.Text.{most_lines}
-use Rattle.kc_load.specs.Folder.{Leads}
-use Rattle.kc_load.specs.Steps.{state_of}
-use Rattle.kc_load.proofs.EndLemmas.{still_left}
-use Rattle.kc_load.proofs.SoFar.{SoFar}
+use Rattle.kc_load.specs.{Folder.Leads, Steps.state_of}
+use Rattle.kc_load.proofs.{EndLemmas.still_left, SoFar.SoFar}
 use Rattle.kc_load.proofs.loading.load_tree.Given as goal
 
 abbrev pub invariant-loop-name : goal.invariant-loop-name

@@ -1,7 +1,5 @@
-use Rattle.std.proofs.Common.{ap, ◌∙◌, sym}
-use Rattle.std.proofs.lemmas.Option.{get_or_from_slice_get, slice_get_within}
-use Rattle.kc_language.specs.Expressions.{mention}
-use Rattle.kc_language.specs.Outcome.{path_of}
+use Rattle.std.proofs.{Common.{ap, sym, ◌∙◌}, lemmas.Option.{get_or_from_slice_get, slice_get_within}}
+use Rattle.kc_language.specs.{Expressions.mention, Files.path_of}
 use Rattle.kc_load.proofs.MentionLemmas.{mention_next}
 use Rattle.kc_load.proofs.prerequisites.add_paths.Goals as goal
 

@@ -1,6 +1,5 @@
-use Rattle.std.proofs.Common.{◌≡◌, map, take}
-use Rattle.kc_language.specs.Expressions.{all_mentioned}
-use Rattle.kc_language.specs.Outcome.{path_of}
+use Rattle.std.proofs.Common.{map, take, ◌≡◌}
+use Rattle.kc_language.specs.{Expressions.all_mentioned, Files.path_of}
 use Rattle.kc_load.proofs.prerequisites.add_paths.Given as goal
 
 -- the files so far are mentioned

@@ -1,6 +1,5 @@
-use Rattle.std.proofs.Common.{List, [], ℕ, map, string_bytes, ap, sym, ◌∙◌}
-use Rattle.kc_language.specs.Expressions.{all_mentioned}
-use Rattle.kc_language.specs.Outcome.{path_of}
+use Rattle.std.proofs.Common.{List, [], ap, map, string_bytes, sym, ℕ, ◌∙◌}
+use Rattle.kc_language.specs.{Expressions.all_mentioned, Files.path_of}
 use Rattle.kc_load.specs.PartsOfOutcome.{inputs_of}
 use Rattle.kc_load.proofs.MentionLemmas.{all_append}
 use Rattle.kc_load.proofs.prerequisites.prerequisites_of.Goals as goal

@@ -1,6 +1,5 @@
-use Rattle.std.proofs.Common.{◌≡◌, drop}
-use Rattle.kc_load.specs.PartsOfOutcome.{first_unreadable}
-use Rattle.kc_load.specs.PartsOfOutcome.{unreadable_of}
+use Rattle.std.proofs.Common.{drop, ◌≡◌}
+use Rattle.kc_load.specs.PartsOfOutcome.{first_unreadable, unreadable_of}
 use Rattle.kc_load.proofs.readable.unreadable_name.Given as goal
 
 -- make can read the names so far

@@ -1,5 +1,5 @@
 use Rattle.std.proofs.Common.{◌≡◌, false, length}
-use Rattle.kc_language.specs.Outcome.{without_dots}
+use Rattle.kc_language.specs.Files.{without_dots}
 use Rattle.kc_load.proofs.readable.without_dots.Given as goal
 
 -- `./`s were passed

@@ -1,7 +1,6 @@
-use Rattle.std.proofs.Common.{◌++◌, codes, ap, ◌∙◌, append_assoc}
-use Rattle.kc_language.specs.Outcome.{escaped}
+use Rattle.std.proofs.Common.{ap, append_assoc, codes, ◌++◌, ◌∙◌}
+use Rattle.kc_language.specs.{Files.escaped, declared.files.Position.TheVariants.Target}
 use Rattle.kc_load.specs.PartsOfOutcome.{empty_rule}
-use Rattle.kc_language.specs.declared.outcome.Position.TheVariants.{Target}
 use Rattle.kc_load.proofs.EscapeLemmas.{names_more}
 use Rattle.kc_load.proofs.rule.add_empty_rules.Goals as goal
 

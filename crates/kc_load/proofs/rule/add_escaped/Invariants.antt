@@ -1,5 +1,5 @@
 use Rattle.std.proofs.Common.{◌≡◌, ◌++◌, length}
-use Rattle.kc_language.specs.Outcome.{escaped}
+use Rattle.kc_language.specs.Files.{escaped}
 use Rattle.kc_load.proofs.rule.add_escaped.Given as goal
 
 -- with the rest the text would be whole

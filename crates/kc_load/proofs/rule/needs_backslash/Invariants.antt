@@ -1,5 +1,5 @@
 use Rattle.std.proofs.Common.{◌≡◌, length}
-use Rattle.kc_language.specs.Outcome.{needs_backslash}
+use Rattle.kc_language.specs.Files.{needs_backslash}
 use Rattle.kc_load.proofs.rule.needs_backslash.Given as goal
 
 -- `\`s were passed

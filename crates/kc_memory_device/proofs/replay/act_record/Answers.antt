@@ -1,7 +1,6 @@
 use Rattle.std.proofs.Common.{rules, sym}
 use Rattle.kc_memory_device.specs.Spots.{spot_view}
-use Rattle.kc_memory_device.proofs.StrippedLemmas.{not_true, not_false}
-use Rattle.kc_memory_device.proofs.RecordLemmas.{if_ok_as, spot_other, spot_own}
+use Rattle.kc_memory_device.proofs.{RecordLemmas.{if_ok_as, spot_other, spot_own}, StrippedLemmas.{not_false, not_true}}
 use Rattle.kc_memory_device.proofs.replay.act_record.Goals as goal
 
 pub returns-then-ne : goal.returns-then-ne

@@ -1,7 +1,6 @@
-use Rattle.std.proofs.Common.{◌≡◌, fold, take, []}
+use Rattle.std.proofs.Common.{[], fold, take, ◌≡◌}
 use Rattle.kc_io.specs.Log.{after}
-use Rattle.kc_memory_device.specs.Recorded.{events_of, first_held}
-use Rattle.kc_memory_device.specs.Spots.{spot_view}
+use Rattle.kc_memory_device.specs.{Recorded.{events_of, first_held}, Spots.spot_view}
 use Rattle.kc_memory_device.proofs.replay.held_after.Given as goal
 
 -- what stands is that after the calls so far

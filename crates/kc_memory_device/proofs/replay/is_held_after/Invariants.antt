@@ -1,8 +1,6 @@
-use Rattle.std.proofs.Common.{◌≡◌, fold, take, []}
+use Rattle.std.proofs.Common.{[], fold, take, ◌≡◌}
 use Rattle.kc_io.specs.Log.{after}
-use Rattle.kc_memory_device.specs.Recorded.{events_of, first_held}
-use Rattle.kc_memory_device.specs.Sights.{seen}
-use Rattle.kc_memory_device.specs.Stripped.{seen_at}
+use Rattle.kc_memory_device.specs.{Recorded.{events_of, first_held}, Sights.seen, Stripped.seen_at}
 use Rattle.kc_memory_device.proofs.replay.is_held_after.Given as goal
 
 -- what is to come is that after the calls so far

@@ -1,7 +1,6 @@
-use Rattle.std.proofs.Common.{rules, sym, ◌∙◌, ap}
+use Rattle.std.proofs.Common.{ap, rules, sym, ◌∙◌}
 use Rattle.kc_memory_device.specs.Stripped.{acted_seen, seen_at}
-use Rattle.kc_memory_device.proofs.StrippedLemmas.{acted_at, not_true, not_false}
-use Rattle.kc_memory_device.proofs.RecordLemmas.{spot_other, spot_own}
+use Rattle.kc_memory_device.proofs.{RecordLemmas.{spot_other, spot_own}, StrippedLemmas.{acted_at, not_false, not_true}}
 use Rattle.kc_memory_device.proofs.replay.seen_record.Goals as goal
 
 pub returns-then-ne : goal.returns-then-ne

@@ -1,5 +1,4 @@
-use Rattle.std.proofs.lemmas.Slice.Eq.{strip_prefix_is}
-use Rattle.std.proofs.lemmas.Bool.Decides.{Decides-eqb}
+use Rattle.std.proofs.lemmas.{Bool.Decides.Decides-eqb, Slice.Eq.strip_prefix_is}
 use Rattle.kc_memory_device.proofs.StrippedLemmas.{stripped_is}
 use Rattle.kc_memory_device.proofs.sight.rest_of.Goals as goal
 

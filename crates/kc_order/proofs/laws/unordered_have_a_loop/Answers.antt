@@ -1,7 +1,6 @@
 use Rattle.std.proofs.Common.{length}
 use Rattle.kc_language.specs.Needs.{needs_in}
-use Rattle.kc_order.proofs.LoopThere.{loop_there, nothing_or_some}
-use Rattle.kc_order.proofs.Rings.{some_unordered}
+use Rattle.kc_order.proofs.{LoopThere.{loop_there, nothing_or_some}, Rings.some_unordered}
 use Rattle.kc_order.proofs.laws.unordered_have_a_loop.Goals as goal
 
 pub returns-clause-either : goal.returns-clause-either

@@ -1,7 +1,5 @@
 use Rattle.std.proofs.Common.{arith}
-use Rattle.kc_order.proofs.NodePlaces.{firsts_more, firsts_of_symbols}
-use Rattle.kc_order.proofs.Groups.{graph}
-use Rattle.kc_order.proofs.Held.{row_nodes}
+use Rattle.kc_order.proofs.{Groups.graph, Held.row_nodes, NodePlaces.{firsts_more, firsts_of_symbols}}
 use Rattle.kc_order.proofs.named_loop.find_firsts.Goals as goal
 
 pub loop-group-init : goal.loop-group-init

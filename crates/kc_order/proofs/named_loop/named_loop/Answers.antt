@@ -1,18 +1,13 @@
-use Rattle.std.proofs.Common.{arith, ap, sym, ◌∙◌, ◌≡◌, ◌<◌, true, false, length, eqb, ◌++◌, ◌∷◌, [], subst}
-use Rattle.std.proofs.Math.ListN.{set}
+use Rattle.std.proofs.{Common.{[], ap, arith, eqb, false, length, subst, sym, true, ◌++◌, ◌<◌, ◌∙◌, ◌∷◌, ◌≡◌}, Math.ListN.set, lemmas.List.{Elements.All-contains, get_or_read, length_push, take_rest}}
 use Rattle.std.specs.List.{list_any}
-use Rattle.std.proofs.lemmas.List.Elements.{All-contains}
-use Rattle.std.proofs.lemmas.List.{length_push, take_rest, get_or_read}
 use Rattle.kc_order.specs.Rows.{AreFlags}
-use Rattle.kc_order.proofs.Groups.{flat}
-use Rattle.kc_order.proofs.Walks.{sets_out, goes_further, has_room, comes_back, IsOnTheWay, met_push, next_is, not_met, is_met, none_met}
-use Rattle.kc_order.proofs.named_loop.named_loop.Goals.{After-index, After-next_unordered-at}
+use Rattle.kc_order.proofs.{Groups.flat, Walks.{IsOnTheWay, comes_back, goes_further, has_room, is_met, met_push, next_is, none_met, not_met, sets_out}, named_loop.named_loop.Goals.{After-index, After-next_unordered-at}}
 use Rattle.kc_order.proofs.named_loop.named_loop.Goals as goal
 
 pub loop-visited-init : goal.loop-visited-init
 loop-visited-init c = record {
   walks = rw c.new-walk.ensures.items
-      (sets_out c.args.sequence.now _ (flat c.args.symbols c.args.rows.now) _ (c.requires.sequence c.args.first 0 c.requires.there) c.requires.first);
+      (sets_out c.args.sequence.now _ (flat c.args.symbols c.args.rows.now) _ (c.requires.sequence.0 c.args.first 0 c.requires.sequence.1) c.requires.first);
   flags = subst (λ w. AreFlags c.args.symbols (λ s. list_any (eqb s) w) c.in_ok-visited.visited.items) (sym c.new-walk.ensures.items)
       (none_met c.args.symbols c.in_ok-visited.visited.items (c.in_ok-visited.ensures.items_if_clones_equal (λ y e. e)));
 }
@@ -31,7 +26,7 @@ further : (c : After-next_unordered-at) → list_any (eqb c.loop-visited.at) c.l
 further c new =
     let next = c.next_unordered-at.result in
     let there = (next_is c.args.sequence.now c.args.symbols (flat c.args.symbols c.args.rows.now) c.loop-visited.at next c.next_unordered-at.ensures).0 in
-    let below = All-contains (λ s. s < c.args.symbols) c.args.sequence.now next c.requires.sequence there in
+    let below = All-contains (λ s. s < c.args.symbols) c.args.sequence.now next c.requires.sequence.0 there in
     goes_further c.args.sequence.now _ (flat c.args.symbols c.args.rows.now) c.loop-visited.walk.items c.loop-visited.at next
     c.loop-visited.invariant.walks (not_met c.loop-visited.walk.items c.loop-visited.at new) below c.next_unordered-at.ensures
 

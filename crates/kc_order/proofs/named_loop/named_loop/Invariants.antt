@@ -1,8 +1,7 @@
-use Rattle.std.proofs.Common.{◌-◌, length, eqb}
+use Rattle.std.proofs.Common.{eqb, length, ◌-◌}
 use Rattle.std.specs.List.{list_any}
 use Rattle.kc_order.specs.Rows.{AreFlags}
-use Rattle.kc_order.proofs.Groups.{flat}
-use Rattle.kc_order.proofs.Walks.{IsOnTheWay}
+use Rattle.kc_order.proofs.{Groups.flat, Walks.IsOnTheWay}
 use Rattle.kc_order.proofs.named_loop.named_loop.Given as goal
 
 abbrev pub invariant-loop-visited : goal.invariant-loop-visited

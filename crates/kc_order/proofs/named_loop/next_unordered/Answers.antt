@@ -1,15 +1,8 @@
-use Rattle.std.proofs.Common.{arith, rules, sym, ◌∙◌, ◌≡◌, ◌<◌, get_or, length}
-use Rattle.std.proofs.lemmas.Option.{none-some}
-use Rattle.kc_order.specs.FirstUnordered.{place_among}
-use Rattle.kc_order.specs.PartsOfNeeds.{IsNext}
+use Rattle.std.proofs.{Common.{arith, get_or, length, rules, sym, ◌<◌, ◌∙◌, ◌≡◌}, lemmas.Option.none-some}
+use Rattle.kc_order.specs.{FirstUnordered.place_among, PartsOfNeeds.IsNext}
 use Rattle.kc_language.specs.Needs.{unordered_after}
-use Rattle.kc_order.proofs.FirstLemmas.{find_by_place, find_without_place}
-use Rattle.kc_order.proofs.Groups.{graph, flat, needs_within}
-use Rattle.kc_order.proofs.Held.{row_nodes}
-use Rattle.kc_order.proofs.NodePlaces.{next_place}
-use Rattle.kc_order.proofs.Walks.{next_there}
+use Rattle.kc_order.proofs.{FirstLemmas.{find_by_place, find_without_place}, Groups.{flat, graph, needs_within}, Held.row_nodes, NodePlaces.next_place, Walks.next_there, named_loop.next_unordered.Goals.{After-first_in_row, In-Some}}
 use Rattle.kc_order.proofs.named_loop.next_unordered.Goals as goal
-use Rattle.kc_order.proofs.named_loop.next_unordered.Goals.{After-first_in_row, In-Some}
 
 pub first_in_row-requires : goal.first_in_row-requires
 first_in_row-requires c =

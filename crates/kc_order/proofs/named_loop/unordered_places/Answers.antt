@@ -1,5 +1,4 @@
-use Rattle.std.proofs.Common.{arith, rules, ap₂, refl, ◌∙◌, ◌≡◌, ◌<◌, cond, get_or, length, None, Some}
-use Rattle.std.proofs.lemmas.List.{get_or_read}
+use Rattle.std.proofs.{Common.{None, Some, ap₂, arith, cond, get_or, length, refl, rules, ◌<◌, ◌∙◌, ◌≡◌}, lemmas.List.get_or_read}
 use Rattle.std.specs.Option.{option_or}
 use Rattle.kc_order.specs.FirstUnordered.{is_unordered_at}
 use Rattle.kc_order.proofs.FirstLemmas.{places_more}

@@ -1,8 +1,7 @@
-use Rattle.std.proofs.Common.{sym, ◌∙◌, ◌≡◌, false, arith, subst, length}
+use Rattle.std.proofs.Common.{arith, false, length, subst, sym, ◌∙◌, ◌≡◌}
 use Rattle.kc_order.specs.Graph.{needs_of}
 use Rattle.kc_language.specs.Needs.{needs_in, unordered_after}
-use Rattle.kc_order.proofs.ByOrder.{nothing_unordered}
-use Rattle.kc_order.proofs.Groups.{needs_count, unordered_alike}
+use Rattle.kc_order.proofs.{ByOrder.nothing_unordered, Groups.{needs_count, unordered_alike}}
 use Rattle.kc_order.proofs.order.order_of.Goals as goal
 
 pub returns-clause-accepted : goal.returns-clause-accepted

@@ -1,20 +1,8 @@
-use Rattle.std.proofs.Common.{arith, sym, ◌∙◌, ap, subst, ◌≡◌, ◌<◌, ℕ, All, length, find}
-use Rattle.std.proofs.lemmas.List.{get_or_default}
-use Rattle.kc_order.specs.declared.search.NodeState.TheVariants.{New}
-use Rattle.kc_order.specs.FirstUnordered.{TellsUnordered, is_unordered_at}
-use Rattle.kc_order.specs.Graph.{IsGraph, needs_of}
-use Rattle.kc_order.specs.Loop.{HoldsNeeding}
+use Rattle.std.proofs.{Common.{All, ap, arith, find, length, subst, sym, ℕ, ◌<◌, ◌∙◌, ◌≡◌}, lemmas.List.get_or_default}
+use Rattle.kc_order.specs.{FirstUnordered.{TellsUnordered, is_unordered_at}, Graph.{IsGraph, needs_of}, Loop.HoldsNeeding, Needs.AreWithin, Order.IsOrderOf, Search.is_unordered, declared.search.NodeState.TheVariants.New}
 use Rattle.kc_language.specs.Needs.{IsNamedLoop, needs_in, unordered_after}
-use Rattle.kc_order.specs.Needs.{AreWithin}
-use Rattle.kc_order.specs.Order.{IsOrderOf}
-use Rattle.kc_order.specs.Search.{is_unordered}
-use Rattle.kc_order.proofs.FirstLemmas.{find_by_place, find_without_place, same_found}
-use Rattle.kc_order.proofs.NodePlaces.{marks_tell, none_found}
-use Rattle.kc_order.proofs.Groups.{flat, graph, needs_count, none_unordered, unordered_alike}
-use Rattle.kc_order.proofs.Held.{rows_below}
-use Rattle.kc_order.proofs.SearchSteps.{finishes, unordered_iff}
+use Rattle.kc_order.proofs.{FirstLemmas.{find_by_place, find_without_place, same_found}, Groups.{flat, graph, needs_count, none_unordered, unordered_alike}, Held.rows_below, NodePlaces.{marks_tell, none_found}, SearchSteps.{finishes, unordered_iff}, order.order_or_loop.Goals.After-first_unordered}
 use Rattle.kc_order.proofs.order.order_or_loop.Goals as goal
-use Rattle.kc_order.proofs.order.order_or_loop.Goals.{After-first_unordered}
 
 pub search_all-requires-clause-rows_below : goal.search_all-requires-clause-rows_below
 search_all-requires-clause-rows_below c =

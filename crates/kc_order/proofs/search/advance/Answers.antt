@@ -1,20 +1,12 @@
-use Rattle.std.proofs.Common.{arith, length, sym, ◌∙◌, ap, inl, inr, List, ◌≤◌, All, take, ◌-◌, ◌+◌, ◌++◌, ◌∷◌, [], ◌<◌, ◌≡◌, ℕ, vec_len, get_or, subst}
+use Rattle.std.proofs.{Common.{All, List, [], ap, arith, get_or, inl, inr, length, subst, sym, take, vec_len, ℕ, ◌++◌, ◌+◌, ◌-◌, ◌<◌, ◌∙◌, ◌∷◌, ◌≡◌, ◌≤◌}, lemmas.{Bool.cases_lt, List.{Elements.Contains-get_or, Sums.sum_by-set, get_or_read, length-set}}}
 use Rattle.std.specs.List.{Contains}
-use Rattle.std.proofs.lemmas.List.{length-set, get_or_read}
-use Rattle.std.proofs.lemmas.List.Sums.{sum_by-set}
-use Rattle.std.proofs.lemmas.List.Elements.{Contains-get_or}
-use Rattle.std.proofs.lemmas.Bool.{cases_lt}
-use Rattle.kc_order.specs.declared.search.NodeState.{NodeState}
-use Rattle.kc_order.specs.declared.search.NodeState.TheVariants.{New, Done}
+use Rattle.kc_order.specs.{Search.IsSearch, declared.search.NodeState.{NodeState, TheVariants.{Done, New}}}
 use Rattle.kc_language.specs.Needs.{needs_in}
-use Rattle.kc_order.specs.Search.{IsSearch}
-use Rattle.kc_order.proofs.Held.{needs_below}
-use Rattle.kc_order.proofs.SearchSteps.{opens_sound, opens_less, closes_sound, closes_less, gives_up_sound, gives_up_less, passed_to, row_passes_to, found, needs_unordered, last_is}
+use Rattle.kc_order.proofs.{Held.needs_below, SearchSteps.{closes_less, closes_sound, found, gives_up_less, gives_up_sound, last_is, needs_unordered, opens_less, opens_sound, passed_to, row_passes_to}, search.advance.Goals.{After-index, After-row-row}}
 use Rattle.kc_order.proofs.search.advance.Goals as goal
-use Rattle.kc_order.proofs.search.advance.Goals.{After-row-row, After-index}
 
 row_in : (c : After-row-row) → c.args.top < length c.args.search.now.left.items
-row_in c = omega (arith, c.requires.below, c.requires.sound.left_len)
+row_in c = omega (arith, c.requires.top.0, c.requires.sound.left_len)
 
 left_is : (c : After-row-row) → get_or c.args.search.now.left.items c.args.top 0 ≡ c.index-left.result.now
 left_is c = sym (get_or_read c.args.search.now.left.items c.args.top c.index-left.result.now (row_in c) c.index-left.ensures 0)
@@ -24,7 +16,7 @@ abbrev need : After-row-row → ℕ
 need c = get_or c.row-row.result.now (c.index-left.result.now - 1) 0
 
 in_row : (c : After-row-row) → c.index-left.result.now - 1 < length (needs_in c.args.rows.now c.args.top)
-in_row c = omega (arith, left_is c, c.requires.sound.keeps.left_le c.args.top c.requires.below)
+in_row c = omega (arith, left_is c, c.requires.sound.keeps.left_le c.args.top c.requires.top.0)
 
 need_in : (c : After-row-row) → Contains (needs_in c.args.rows.now c.args.top) (need c)
 need_in c =
@@ -32,7 +24,7 @@ need_in c =
     subst (λ xs. Contains needs (get_or xs (c.index-left.result.now - 1) 0)) (sym c.row-row.ensures) (Contains-get_or needs (c.index-left.result.now - 1) 0 (in_row c))
 
 need_below : (c : After-row-row) → need c < length c.args.rows.now
-need_below c = needs_below c.args.rows.now c.requires.rows_below c.args.top (need c) c.requires.below (need_in c)
+need_below c = needs_below c.args.rows.now c.requires.rows_below c.args.top (need c) c.requires.top.0 (need_in c)
 
 mark_is : (c : After-index) → get_or c.row-row.result.now (c.index-left.result.now - 1) 0 < length c.args.rows.now →
     get_or c.args.search.now.states.items (get_or c.row-row.result.now (c.index-left.result.now - 1) 0) New ≡ c.index.result.now
@@ -44,7 +36,7 @@ index-requires c = omega (arith, need_below (goal.at.index-requires c).After-row
 
 -- the last open symbol needs it
 needed : (c : After-row-row) (k : ℕ) → k + 1 ≡ length c.args.search.now.path.items → Contains (needs_in c.args.rows.now (get_or c.args.search.now.path.items k 0)) (need c)
-needed c k e = subst (λ x. Contains (needs_in c.args.rows.now x) (need c)) (sym (last_is c.args.search.now.path.items c.args.top _ k c.requires.last e)) (need_in c)
+needed c k e = subst (λ x. Contains (needs_in c.args.rows.now x) (need c)) (sym (last_is c.args.search.now.path.items c.args.top _ k c.requires.top.1 e)) (need_in c)
 
 pub open-requires : goal.open-requires
 open-requires c = omega (arith, need_below (goal.at.open-requires c).After-row-row, c.requires.sound.states_len)
@@ -52,13 +44,13 @@ open-requires c = omega (arith, need_below (goal.at.open-requires c).After-row-r
 pub returns-then-left-eq0-clause-sound : goal.returns-then-left-eq0-clause-sound
 returns-then-left-eq0-clause-sound c =
     let s = c.args.search.now in
-    let row_there : c.args.top < length s.left.items = omega (arith, c.requires.below, c.requires.sound.left_len) in
+    let row_there : c.args.top < length s.left.items = omega (arith, c.requires.top.0, c.requires.sound.left_len) in
     let none : get_or s.left.items c.args.top 0 ≡ 0 = sym (get_or_read s.left.items c.args.top c.index-left.result.now row_there c.index-left.ensures 0) ∙ c.if-left-eq0.true in
-    closes_sound c.args.rows.now s c.close.new.search c.args.top c.requires.sound c.requires.rows_below c.requires.below none c.in_ok-close.ensures
+    closes_sound c.args.rows.now s c.close.new.search c.args.top c.requires.sound c.requires.rows_below c.requires.top.0 none c.in_ok-close.ensures
 
 pub returns-then-left-eq0-clause-less : goal.returns-then-left-eq0-clause-less
 returns-then-left-eq0-clause-less c =
-    closes_less c.args.rows.now c.args.search.now c.close.new.search c.args.top c.requires.sound c.requires.below c.in_ok-close.ensures
+    closes_less c.args.rows.now c.args.search.now c.close.new.search c.args.top c.requires.sound c.requires.top.0 c.in_ok-close.ensures
 
 pub returns-in_ok-open-in-New-clause-sound : goal.returns-in_ok-open-in-New-clause-sound
 returns-in_ok-open-in-New-clause-sound c =
@@ -88,7 +80,7 @@ row_below : (c : After-row-row) → All (λ t. t < length c.args.rows.now) c.row
 row_below c =
     let needs = needs_in c.args.rows.now c.args.top in
     subst (All (λ t. t < length c.args.rows.now)) (sym c.row-row.ensures)
-    (λ k d l. needs_below c.args.rows.now c.requires.rows_below c.args.top (get_or needs k d) c.requires.below (Contains-get_or needs k d l))
+    (λ k d l. needs_below c.args.rows.now c.requires.rows_below c.args.top (get_or needs k d) c.requires.top.0 (Contains-get_or needs k d l))
 
 pub pass_done-requires-clause-count : goal.pass_done-requires-clause-count
 pass_done-requires-clause-count c =
@@ -111,7 +103,7 @@ returns-in-Done-clause-sound c =
       states_len = h.states_len;
       left_len = length-set s.left.items c.args.top c.pass_done.result ∙ h.left_len;
       keeps = passed_to _ (needs_in c.args.rows.now) (λ t. get_or s.states.items t New)
-          (λ t. get_or s.left.items t 0) _ s.path.items s.order.items c.args.top c.pass_done.result h.keeps c.requires.below (omega (arith, left_is a, c.pass_done.ensures.fewer))
+          (λ t. get_or s.left.items t 0) _ s.path.items s.order.items c.args.top c.pass_done.result h.keeps c.requires.top.0 (omega (arith, left_is a, c.pass_done.ensures.fewer))
           (λ k up b. ap (λ xs. get_or s.states.items (get_or xs k 0) New) (sym a.row-row.ensures)
           ∙ passed_done s.states.items a.row-row.result.now c.index-left.result.now c.pass_done.result (mark_is i (need_below a) ∙ c.in-Done.is)
           (subst (λ ms. (i : ℕ) → c.pass_done.result ≤ i → i < c.index-left.result.now - 1 → get_or ms (get_or a.row-row.result.now i 0) New ≡ Done) c.deref.ensures.value
@@ -135,7 +127,7 @@ split c =
 is_split : (c : After-row-row) → split c
 is_split c =
     subst (λ p. IsSearch (length c.args.rows.now) (needs_in c.args.rows.now) (λ t. get_or c.args.search.now.states.items t New)
-    (λ t. get_or c.args.search.now.left.items t 0) p c.args.search.now.order.items) c.requires.last c.requires.sound.keeps
+    (λ t. get_or c.args.search.now.left.items t 0) p c.args.search.now.order.items) c.requires.top.1 c.requires.sound.keeps
 
 pub returns-in-Open-clause-sound : goal.returns-in-Open-clause-sound
 returns-in-Open-clause-sound c =
@@ -145,11 +137,11 @@ returns-in-Open-clause-sound c =
     let unordered = found _ (needs_in c.args.rows.now) (λ t. get_or s.states.items t New) (λ t. get_or s.left.items t 0)
     (take (vec_len s.path - 1) s.path.items) s.order.items c.args.top (need a)
     (is_split a) (need_in a) (need_below a) (mark_is i (need_below a) ∙ c.in-Open.is) in
-    gives_up_sound c.args.rows.now s c.give_up.new.search c.args.top c.requires.sound c.requires.below unordered c.give_up.ensures
+    gives_up_sound c.args.rows.now s c.give_up.new.search c.args.top c.requires.sound c.requires.top.0 unordered c.give_up.ensures
 
 pub returns-in-Open-clause-less : goal.returns-in-Open-clause-less
 returns-in-Open-clause-less c =
-    gives_up_less c.args.rows.now c.args.search.now c.give_up.new.search c.args.top c.requires.sound c.requires.below c.give_up.ensures
+    gives_up_less c.args.rows.now c.args.search.now c.give_up.new.search c.args.top c.requires.sound c.requires.top.0 c.give_up.ensures
 
 pub returns-in-Unordered-clause-sound : goal.returns-in-Unordered-clause-sound
 returns-in-Unordered-clause-sound c =
@@ -159,8 +151,8 @@ returns-in-Unordered-clause-sound c =
     let unordered = needs_unordered _ (needs_in c.args.rows.now) (λ t. get_or s.states.items t New)
     (λ t. get_or s.left.items t 0) s.path.items s.order.items c.args.top (need a)
     c.requires.sound.keeps (need_in a) (need_below a) (mark_is i (need_below a) ∙ c.in-Unordered.is) in
-    gives_up_sound c.args.rows.now s c.give_up-in-Unordered.new.search c.args.top c.requires.sound c.requires.below unordered c.give_up-in-Unordered.ensures
+    gives_up_sound c.args.rows.now s c.give_up-in-Unordered.new.search c.args.top c.requires.sound c.requires.top.0 unordered c.give_up-in-Unordered.ensures
 
 pub returns-in-Unordered-clause-less : goal.returns-in-Unordered-clause-less
 returns-in-Unordered-clause-less c =
-    gives_up_less c.args.rows.now c.args.search.now c.give_up-in-Unordered.new.search c.args.top c.requires.sound c.requires.below c.give_up-in-Unordered.ensures
+    gives_up_less c.args.rows.now c.args.search.now c.give_up-in-Unordered.new.search c.args.top c.requires.sound c.requires.top.0 c.give_up-in-Unordered.ensures

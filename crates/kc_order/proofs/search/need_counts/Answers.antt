@@ -1,5 +1,4 @@
-use Rattle.std.proofs.Common.{arith, ◌≡◌, ◌∙◌, ◌+◌, ◌++◌, ◌∷◌, [], ◌<◌, sym, ap, length, map, take, List, ℕ}
-use Rattle.std.proofs.lemmas.List.{map_more, take_all}
+use Rattle.std.proofs.{Common.{List, [], ap, arith, length, map, sym, take, ℕ, ◌++◌, ◌+◌, ◌<◌, ◌∙◌, ◌∷◌, ◌≡◌}, lemmas.List.{map_more, take_all}}
 use Rattle.kc_language.specs.Needs.{needs_in}
 use Rattle.kc_order.proofs.search.need_counts.Goals as goal
 

@@ -1,8 +1,7 @@
-use Rattle.std.proofs.Common.{arith, length, ◌∙◌, ap}
-use Rattle.std.proofs.lemmas.List.{length-replicate, get_or-replicate, length-map}
+use Rattle.std.proofs.{Common.{ap, arith, length, ◌∙◌}, lemmas.List.{get_or-replicate, length-map, length-replicate}}
 use Rattle.kc_order.specs.declared.search.NodeState.TheVariants.{New}
 use Rattle.kc_language.specs.Needs.{needs_in}
-use Rattle.kc_order.proofs.SearchSteps.{starts, counts_are}
+use Rattle.kc_order.proofs.SearchSteps.{counts_are, starts}
 use Rattle.kc_order.proofs.search.search_all.Goals as goal
 
 pub loop-root-init : goal.loop-root-init

@@ -1,6 +1,5 @@
-use Rattle.std.proofs.Common.{◌≡◌, ◌≢◌, ◌<◌, ℕ, length, get_or}
-use Rattle.kc_order.specs.declared.search.NodeState.TheVariants.{New}
-use Rattle.kc_order.specs.Search.{IsSound}
+use Rattle.std.proofs.Common.{get_or, length, ℕ, ◌<◌, ◌≡◌, ◌≢◌}
+use Rattle.kc_order.specs.{Search.IsSound, declared.search.NodeState.TheVariants.New}
 use Rattle.kc_order.proofs.search.search_all.Given as goal
 
 abbrev pub invariant-loop-root : goal.invariant-loop-root

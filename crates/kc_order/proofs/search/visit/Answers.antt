@@ -1,18 +1,15 @@
-use Rattle.std.proofs.Common.{arith, ℕ, ◌+◌, length, get_or, ◌∙◌, sym, take, ◌-◌, ◌≡◌, vec_len, ◌++◌, ◌∷◌, [], subst}
+use Rattle.std.proofs.{Common.{[], arith, get_or, length, subst, sym, take, vec_len, ℕ, ◌++◌, ◌+◌, ◌-◌, ◌∙◌, ◌∷◌, ◌≡◌}, lemmas.{Grind.common_steps, List.{Elements.Contains-push, get_or_read}}}
 use Rattle.std.specs.List.{Contains, slice_index}
-use Rattle.std.proofs.lemmas.Grind.{common_steps}
-use Rattle.std.proofs.lemmas.List.Elements.{Contains-push}
-use Rattle.std.proofs.lemmas.List.{get_or_read}
 use Rattle.kc_order.specs.declared.search.NodeState.TheVariants.{New}
 use Rattle.kc_language.specs.Needs.{needs_in}
-use Rattle.kc_order.proofs.SearchSteps.{opens_sound, opens_met, opens_there, open≢new}
+use Rattle.kc_order.proofs.SearchSteps.{opens_met, opens_sound, opens_there, open≢new}
 use Rattle.kc_order.proofs.search.visit.Goals as goal
 
-pub advance-requires-clause-below : goal.advance-requires-clause-below
-advance-requires-clause-below c =
+pub advance-requires-clause-top : goal.advance-requires-clause-top
+advance-requires-clause-top c =
     let path = c.loop-top.search.path in
     let split : path.items ≡ take (vec_len path - 1) path.items ++ c.in-Some.top.now ∷ [] = grind (arith, common_steps) in
-    (c.loop-top.invariant.sound.keeps.path_is c.in-Some.top.now (subst (λ xs. Contains xs c.in-Some.top.now) (sym split) (Contains-push (take (vec_len path - 1) path.items) c.in-Some.top.now))).0
+    ((c.loop-top.invariant.sound.keeps.path_is c.in-Some.top.now (subst (λ xs. Contains xs c.in-Some.top.now) (sym split) (Contains-push (take (vec_len path - 1) path.items) c.in-Some.top.now))).0, split)
 
 pub loop-top-init : goal.loop-top-init
 loop-top-init c =

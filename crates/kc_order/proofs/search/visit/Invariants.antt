@@ -1,6 +1,5 @@
-use Rattle.std.proofs.Common.{◌≢◌, get_or}
-use Rattle.kc_order.specs.declared.search.NodeState.TheVariants.{New}
-use Rattle.kc_order.specs.Search.{IsSound, KeepsVisited, work}
+use Rattle.std.proofs.Common.{get_or, ◌≢◌}
+use Rattle.kc_order.specs.{Search.{IsSound, KeepsVisited, work}, declared.search.NodeState.TheVariants.New}
 use Rattle.kc_order.proofs.search.visit.Given as goal
 
 abbrev pub invariant-loop-top : goal.invariant-loop-top

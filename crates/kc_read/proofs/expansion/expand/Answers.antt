@@ -1,12 +1,8 @@
-use Rattle.std.proofs.Common.{◌≢◌, Ok, Err}
-use Rattle.kc_language.specs.Expansion.{Expands, first_log}
-use Rattle.kc_read.specs.PartsOfExpansion.{root_context}
-use Rattle.kc_read.specs.Files.{files_in}
-use Rattle.kc_read.specs.LineReads.{cause_of}
-use Rattle.kc_read.specs.RefusalView.{refusal_view}
-use Rattle.kc_language.specs.declared.diagnostics.Cause.TheVariants.{Memory}
-use Rattle.kc_read.proofs.RestLemmas.{refusal_passed}
-use Rattle.kc_read.proofs.StateLemmas.{expands_read, expands_refused, state_begun}
+use Rattle.std.proofs.Common.{Err, Ok, ◌≢◌}
+use Rattle.kc_language.specs.{Expansion.{Expands, first_log}, declared.diagnostics.Cause.TheVariants.Memory}
+use Rattle.kc_entries.specs.PartsOfExpansion.{root_context}
+use Rattle.kc_read.specs.{Files.files_in, LineReads.cause_of, RefusalView.refusal_view}
+use Rattle.kc_read.proofs.{RestLemmas.refusal_passed, StateLemmas.{expands_read, expands_refused, state_begun}}
 use Rattle.kc_read.proofs.expansion.expand.Goals as goal
 
 pub returns-in-Err-clause-refused : goal.returns-in-Err-clause-refused

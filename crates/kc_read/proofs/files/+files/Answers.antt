@@ -1,19 +1,10 @@
-use Rattle.std.proofs.Common.{◌≡◌, ◌<◌, [], None, Ok, length, sym, ap, ◌∙◌, subst, refl, map, arith}
-use Rattle.kc_language.specs.Expressions.{all_mentioned, number_of}
-use Rattle.kc_language.specs.Lines.{unread_lines}
-use Rattle.kc_language.specs.Expansion.{NextStatement, context_of, inside, with_file}
-use Rattle.kc_read.specs.Files.{files_in}
-use Rattle.kc_read.specs.LineReads.{cause_of}
+use Rattle.std.proofs.Common.{Ok, [], ap, arith, map, refl, subst, sym, ◌∙◌, ◌≡◌}
+use Rattle.kc_language.specs.{Expansion.{NextStatement, context_of, inside, with_file}, Expressions.{all_mentioned, number_of}, Lines.unread_lines, Statements.{SourceLine, names_in_statement}}
+use Rattle.kc_read.specs.{Files.files_in, LineReads.cause_of, Progress.{HasAdvanced, IsEnded, IsLineTaken, IsState, context_in}}
 use Rattle.kc_language.specs.declared.statements.EntryKind.TheVariants as entry
-use Rattle.kc_read.specs.declared.statement.Statement.TheVariants as made
-use Rattle.kc_read.specs.Progress.{context_in, HasAdvanced, IsEnded, IsState}
-use Rattle.kc_language.specs.Statements.{SourceLine, names_in_statement}
+use Rattle.kc_entries.specs.declared.statement.Statement.TheVariants as made
 use Rattle.kc_expr.proofs.NamesLemmas.{extends_on}
-use Rattle.kc_read.proofs.NameLemmas.{extends_none}
-use Rattle.kc_read.proofs.RestLemmas.{blank_goes, moved_goes, renumbered_goes, effect_refused, end_refused, ended, file_read, file_refused, goes_on, inside_refused, last_is, next_less, next_clear, next_passed, no_memory, popped, reading_passed, source_goes, source_refused, statement_goes, statement_passed, step_refused}
-use Rattle.kc_read.proofs.HeadLemmas.{is_no_source, no_limit, no_source}
-use Rattle.kc_read.proofs.ShapeLemmas.{source_is}
-use Rattle.kc_read.proofs.StateLemmas.{context_same, state_inside}
+use Rattle.kc_read.proofs.{HeadLemmas.{is_no_source, no_limit, no_source}, NameLemmas.extends_none, RestLemmas.{blank_goes, effect_refused, end_refused, ended, file_read, file_refused, inside_refused, last_is, lines_go_on, moved_goes, next_passed, next_taken, no_memory, popped, reading_passed, renumbered_goes, source_goes, source_refused, statement_goes, statement_passed, step_refused}, ShapeLemmas.source_is, StateLemmas.{context_same, state_inside}}
 use Rattle.kc_read.proofs.files.+files.Goals as goal
 
 pub read_file-returns-in_err-read_next-clause-read : goal.read_file-returns-in_err-read_next-clause-read
@@ -30,13 +21,12 @@ read_file-loop-tokens-preserved t c = record {
   read = λ first a log i.
       let files = files_in c.args.reader.now.map.now in
       let go = c.loop-tokens.invariant.read first a log i in
-      goes_on files first c.loop-tokens.names c.read_next.new.names a (unread_lines c.args.file.now 1)
+      lines_go_on files first c.loop-tokens.names c.read_next.new.names a (unread_lines c.args.file.now 1)
       c.loop-tokens.lines c.read_next.new.lines log c.loop-tokens.progress c.read_next.new.progress c.loop-tokens.frame c.read_next.new.frame go
       (rw c.if-branch.true at (c.in_ok-read_next.ensures.read first go.context_now go.own_now go.log_now go.state));
-  clear = c.in_ok-read_next.ensures.clear c.if-branch.true;
-  shallow = c.in_ok-read_next.ensures.shallow;
-  bounded = c.in_ok-read_next.ensures.bounded;
-  same_open = c.in_ok-read_next.ensures.open ∙ c.loop-tokens.invariant.same_open;
+  clear = (c.in_ok-read_next.ensures.taken c.if-branch.true).1;
+  within = c.in_ok-read_next.ensures.back.1;
+  same_open = c.in_ok-read_next.ensures.back.0 ∙ c.loop-tokens.invariant.same_open;
   names = extends_on _ _ _ c.loop-tokens.invariant.names c.read_next.ensures.names;
 }
 
@@ -80,11 +70,10 @@ read_next-returns-in-Blank-clause-read t c = λ first a own log i.
     subst (λ ns. HasAdvanced files first ns a c.args.lines.now c.next_step.new.lines own log c.args.progress.now c.args.frame.now) (sym step.1)
     (blank_goes files first c.args.names.now a c.args.lines.now c.next_step.new.lines own log c.args.progress.now c.args.frame.now i step.0)
 
-pub read_next-returns-in-Blank-clause-less : goal.read_next-returns-in-Blank-clause-less
-read_next-returns-in-Blank-clause-less t c = λ more. let step = rw c.in-Blank.is at (rw c.is_flat.ensures at c.in_ok-next_step.ensures.step) in next_less c.args.lines.now c.next_step.new.lines [] None step.0.0
-
-pub read_next-returns-in-Blank-clause-clear : goal.read_next-returns-in-Blank-clause-clear
-read_next-returns-in-Blank-clause-clear t c = λ more. let step = rw c.in-Blank.is at (rw c.is_flat.ensures at c.in_ok-next_step.ensures.step) in next_clear c.args.lines.now c.next_step.new.lines [] None step.0.0
+pub read_next-returns-in-Blank-clause-taken : goal.read_next-returns-in-Blank-clause-taken
+read_next-returns-in-Blank-clause-taken t c = λ more.
+    let step = rw c.in-Blank.is at (rw c.is_flat.ensures at c.in_ok-next_step.ensures.step) in
+    next_taken c.args.lines.now c.next_step.new.lines [] step.0.0
 
 pub read_next-returns-in-Renumbered-clause-read : goal.read_next-returns-in-Renumbered-clause-read
 read_next-returns-in-Renumbered-clause-read t c = λ first a own log i.
@@ -95,15 +84,10 @@ read_next-returns-in-Renumbered-clause-read t c = λ first a own log i.
     (renumbered_goes files first c.args.names.now a c.args.lines.now c.next_step.new.lines own log c.args.progress.now c.args.frame.now c.in-Renumbered.number
     c.args.frame.now.file.value.items i i.frame.file step.0))
 
-pub read_next-returns-in-Renumbered-clause-less : goal.read_next-returns-in-Renumbered-clause-less
-read_next-returns-in-Renumbered-clause-less t c = λ more.
+pub read_next-returns-in-Renumbered-clause-taken : goal.read_next-returns-in-Renumbered-clause-taken
+read_next-returns-in-Renumbered-clause-taken t c = λ more.
     let step = rw c.in-Renumbered.is at (rw c.is_flat.ensures at c.in_ok-next_step.ensures.step) in
-    subst (λ m. length m.lines < length c.args.lines.now.lines) (sym c.renumber.ensures) (next_less c.args.lines.now c.next_step.new.lines [] None step.0.0)
-
-pub read_next-returns-in-Renumbered-clause-clear : goal.read_next-returns-in-Renumbered-clause-clear
-read_next-returns-in-Renumbered-clause-clear t c = λ more.
-    let step = rw c.in-Renumbered.is at (rw c.is_flat.ensures at c.in_ok-next_step.ensures.step) in
-    subst (λ m. m.refusal ≡ None) (sym c.renumber.ensures) (next_clear c.args.lines.now c.next_step.new.lines [] None step.0.0)
+    subst (IsLineTaken c.args.lines.now) (sym c.renumber.ensures) (next_taken c.args.lines.now c.next_step.new.lines [] step.0.0)
 
 pub read_next-returns-in-Ok-clause-read : goal.read_next-returns-in-Ok-clause-read
 read_next-returns-in-Ok-clause-read t c = λ first a own log i.
@@ -132,15 +116,10 @@ read_next-returns-in_ok-read_statement-in-Next-clause-read t c = λ first a own 
     c.in_ok-read_statement-in-Next.ensures.read first c.args.names.now a own log step.0 c.args.lines.now c.next_step.new.lines i step.3
     (subst (λ k. NextStatement c.args.reader.now.map.now.flat c.args.lines.now c.next_step.new.lines k (Ok step.0)) same step.2) step.1
 
-pub read_next-returns-in_ok-read_statement-in-Next-clause-less : goal.read_next-returns-in_ok-read_statement-in-Next-clause-less
-read_next-returns-in_ok-read_statement-in-Next-clause-less t c = λ more.
+pub read_next-returns-in_ok-read_statement-in-Next-clause-taken : goal.read_next-returns-in_ok-read_statement-in-Next-clause-taken
+read_next-returns-in_ok-read_statement-in-Next-clause-taken t c = λ more.
     let step = rw c.in-Next.is at (rw c.is_flat.ensures at c.in_ok-next_step.ensures.step) in
-    next_less c.args.lines.now c.next_step.new.lines step.2.tokens None step.2.next
-
-pub read_next-returns-in_ok-read_statement-in-Next-clause-clear : goal.read_next-returns-in_ok-read_statement-in-Next-clause-clear
-read_next-returns-in_ok-read_statement-in-Next-clause-clear t c = λ more.
-    let step = rw c.in-Next.is at (rw c.is_flat.ensures at c.in_ok-next_step.ensures.step) in
-    next_clear c.args.lines.now c.next_step.new.lines step.2.tokens None step.2.next
+    next_taken c.args.lines.now c.next_step.new.lines step.2.tokens step.2.next
 
 pub read_statement-returns-in-Source-clause-read : goal.read_statement-returns-in-Source-clause-read
 read_statement-returns-in-Source-clause-read t c = λ first known a own log x l m i is next line.

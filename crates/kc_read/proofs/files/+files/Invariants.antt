@@ -1,10 +1,7 @@
-use Rattle.std.proofs.Common.{◌≡◌, ◌+◌, ◌-◌, ◌*◌, List, [], None, length}
-use Rattle.std.proofs.Common.{ℕ}
-use Rattle.kc_language.specs.Lines.{unread_lines}
+use Rattle.std.proofs.Common.{List, None, [], length, ℕ, ◌*◌, ◌+◌, ◌-◌, ◌≡◌}
+use Rattle.kc_language.specs.{Expansion.{FileContext, ReadSoFar}, Lines.unread_lines}
 use Rattle.kc_expr.specs.Names.{Extends}
-use Rattle.kc_language.specs.Expansion.{FileContext, ReadSoFar}
-use Rattle.kc_read.specs.Files.{files_in}
-use Rattle.kc_read.specs.Progress.{HasAdvanced, IsBounded, IsShallow, IsState}
+use Rattle.kc_read.specs.{Files.files_in, Progress.{AreWithinLimits, HasAdvanced, IsState}}
 use Rattle.kc_read.proofs.files.+files.Given as goal
 
 abbrev pub decreases-read_file : goal.decreases-read_file
@@ -24,8 +21,7 @@ invariant-read_file-loop-tokens l = record {
   read : (first : List (List ℕ)) (a : FileContext) (log : ReadSoFar) → IsState first l.fn.names a [] log l.fn.progress l.fn.frame →
       HasAdvanced (files_in l.reader.map.now) first l.names a (unread_lines l.file 1) l.lines [] log l.progress l.frame;
   clear : l.lines.refusal ≡ None;
-  shallow : IsShallow l.frame;
-  bounded : IsBounded l.progress;
+  within : AreWithinLimits l.frame l.progress;
   same_open : l.progress.open_files.items ≡ l.fn.progress.open_files.items;
   names : Extends l.fn.names l.names;
 }

@@ -1,7 +1,6 @@
-use Rattle.kc_read.proofs.ListLemmas.{last_of-none}
-use Rattle.std.proofs.Common.{◌∙◌, ap, sym}
-use Rattle.kc_language.specs.Expansion.{refusal_at}
-use Rattle.kc_language.specs.declared.diagnostics.Cause.TheVariants.{Block}
+use Rattle.kc_entries.proofs.ListLemmas.{last_of-none}
+use Rattle.std.proofs.Common.{ap, sym, ◌∙◌}
+use Rattle.kc_language.specs.{Expansion.refusal_at, declared.diagnostics.Cause.TheVariants.Block}
 use Rattle.kc_read.proofs.files.end.Goals as goal
 
 pub returns-in-None-clause-closed : goal.returns-in-None-clause-closed

@@ -1,4 +1,4 @@
-use Rattle.std.proofs.Common.{refl, ◌∙◌, ap}
+use Rattle.std.proofs.Common.{refl, ◌∙◌, ap, rules}
 use Rattle.kc_language.specs.Expressions.{mention}
 use Rattle.kc_read.proofs.files.enter.Goals as goal
 
@@ -12,3 +12,6 @@ returns-clause-progress c = record {
   config = refl;
   modules_is = refl;
 }
+
+pub returns-clause-within : goal.returns-clause-within
+returns-clause-within c = (search rules, search rules)

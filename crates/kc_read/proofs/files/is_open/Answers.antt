@@ -1,8 +1,6 @@
-use Rattle.std.proofs.Common.{rules, tests, ◌∙◌, sym}
-use Rattle.std.proofs.lemmas.Iterator.{YieldsList-from_slice}
-use Rattle.std.proofs.lemmas.Iterator.Search.{any_from_yields_List}
+use Rattle.std.proofs.{Common.{rules, sym, tests, ◌∙◌}, lemmas.Iterator.{Search.any_from_yields_List, YieldsList-from_slice}}
 use Rattle.kc_language.specs.Expressions.{same_name}
-use Rattle.kc_read.proofs.ListLemmas.{list_any-map}
+use Rattle.kc_entries.proofs.ListLemmas.{list_any-map}
 use Rattle.kc_read.proofs.files.is_open.Goals as goal
 
 pub returns : goal.returns

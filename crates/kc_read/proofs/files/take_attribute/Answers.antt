@@ -1,8 +1,7 @@
-use Rattle.std.proofs.Common.{[], ◌∷◌, ◌++◌, Some, if◌then◌else◌, refl, ap, sym, ◌∙◌, subst}
+use Rattle.std.proofs.Common.{Some, [], ap, if◌then◌else◌, refl, subst, sym, ◌++◌, ◌∙◌, ◌∷◌}
 use Rattle.kc_language.specs.Expansion.{entry_of}
-use Rattle.kc_read.specs.Entries.{attribute_line, lines_in, IsLastFile}
+use Rattle.kc_entries.specs.{Entries.{IsLastFile, attribute_line, lines_in}, StatementViews.attribute_view}
 use Rattle.kc_read.specs.Progress.{open_blocks_after, openers}
-use Rattle.kc_read.specs.StatementViews.{attribute_view}
 use Rattle.kc_read.proofs.HeadLemmas.{attribute_is, no_bracket}
 use Rattle.kc_read.proofs.files.take_attribute.Goals as goal
 

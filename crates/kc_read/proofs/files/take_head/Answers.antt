@@ -1,10 +1,8 @@
-use Rattle.std.proofs.Common.{[], ◌∷◌, ◌++◌, if◌then◌else◌, ap, sym, ◌∙◌, subst}
+use Rattle.std.proofs.Common.{Some, [], ap, if◌then◌else◌, subst, sym, ◌++◌, ◌∙◌, ◌∷◌}
 use Rattle.kc_language.specs.Expansion.{entry_of}
-use Rattle.kc_read.specs.Entries.{head_line, lines_in, IsLastFile}
+use Rattle.kc_entries.specs.{Entries.{IsLastFile, head_line, lines_in}, StatementViews.head_view}
 use Rattle.kc_read.proofs.HeadLemmas.{no_attribute}
 use Rattle.kc_read.proofs.files.take_head.Goals as goal
-use Rattle.std.proofs.Common.{Some}
-use Rattle.kc_read.specs.StatementViews.{head_view}
 
 pub returns-in_ok-begin-in-Ok-clause-taken : goal.returns-in_ok-begin-in-Ok-clause-taken
 returns-in_ok-begin-in-Ok-clause-taken c =
@@ -23,7 +21,7 @@ returns-in_ok-begin-in-Ok-clause-taken c =
       file = c.in_default-take.ensures.kept.0;
       depth = c.in_default-take.ensures.kept.1;
       in_choice = c.in_default-take.ensures.kept.2;
-      blocks = c.in_default-take.ensures.blocks;
-      entry = c.in_default-take.ensures.entry
+      blocks = c.in_default-take.ensures.turned.0;
+      entry = c.in_default-take.ensures.turned.1
           ∙ ap (λ b. if b then c.args.frame.now.entry else entry_of (Some (head_view c.args.head))) (sym (no_attribute c.args.head));
     }

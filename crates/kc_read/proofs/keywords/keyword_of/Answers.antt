@@ -1,6 +1,5 @@
-use Rattle.std.proofs.Common.{◌≡◌, ◌∙◌, sym, ap, refl, ℕ, ◌==◌, ◌≤◌, nat_le, length}
+use Rattle.std.proofs.{Common.{ap, length, nat_le, refl, sym, ℕ, ◌==◌, ◌∙◌, ◌≡◌, ◌≤◌}, lemmas.Bool.le-leb}
 use native.Mathlib.Omega.{arith}
-use Rattle.std.proofs.lemmas.Bool.{le-leb}
 use Rattle.kc_read.proofs.KeywordLemmas.{of_length}
 use Rattle.kc_read.proofs.keywords.keyword_of.Goals as goal
 

@@ -1,8 +1,7 @@
 use Rattle.kc_expr.specs.Form.{form_of}
 use Rattle.kc_read.specs.LineReads.{lexemes_from}
-use Rattle.std.proofs.Common.{◌∙◌, ◌+◌, sym}
-use Rattle.kc_read.proofs.FrontLemmas.{after_one}
-use Rattle.kc_read.proofs.PartLemmas.{fault_passed, condition_fault, condition_if}
+use Rattle.std.proofs.Common.{sym, ◌+◌, ◌∙◌}
+use Rattle.kc_read.proofs.{FrontLemmas.after_one, PartLemmas.{condition_fault, condition_if, fault_passed}}
 use Rattle.kc_read.proofs.line_parts.condition.Goals as goal
 
 pub returns-in_err-when-clause-fault : goal.returns-in_err-when-clause-fault

@@ -1,7 +1,5 @@
-use Rattle.std.proofs.Common.{◌∙◌, ℕ, ap, sym}
-use Rattle.std.specs.Prelude.{is_some}
-use Rattle.std.specs.declared.alloc.Global.{Global}
-use Rattle.std.specs.declared.vec.Vec.{Vec}
+use Rattle.std.proofs.Common.{ap, sym, ℕ, ◌∙◌}
+use Rattle.std.specs.{Prelude.is_some, declared.{alloc.Global.Global, vec.Vec.Vec}}
 use Rattle.kc_read.specs.LineReads.{lexemes_from}
 use Rattle.kc_read.proofs.PartLemmas.{operand_constant, operand_name, operand_quoted}
 use Rattle.kc_read.proofs.line_parts.operand_at.Goals as goal

@@ -1,8 +1,7 @@
-use Rattle.std.proofs.Common.{◌∙◌, sym, ap}
+use Rattle.std.proofs.Common.{ap, sym, ◌∙◌}
 use Rattle.kc_read.specs.LineReads.{lexemes_from}
 use Rattle.kc_language.specs.Statements.{ConfigLine}
-use Rattle.kc_read.proofs.FrontLemmas.{after_one}
-use Rattle.kc_read.proofs.PartLemmas.{config_ok}
+use Rattle.kc_read.proofs.{FrontLemmas.after_one, PartLemmas.config_ok}
 use Rattle.kc_read.proofs.reader.config_line.Goals as goal
 
 pub returns-clause-read : goal.returns-clause-read

@@ -1,10 +1,8 @@
 use Rattle.kc_expr.specs.Form.{form_of}
-use Rattle.std.proofs.Common.{false}
-use Rattle.kc_language.specs.Statements.{ReadsValue, names_in_condition, DefLine}
-use Rattle.kc_read.specs.PartsOfStatements.{front}
+use Rattle.std.proofs.Common.{false, refl}
+use Rattle.kc_language.specs.{Expressions.names_in, Statements.{DefLine, ReadsValue, names_in_condition}}
+use Rattle.kc_entries.specs.PartsOfStatements.{front}
 use Rattle.kc_read.proofs.PartLemmas.{read_passed, value_fault, value_refused}
-use Rattle.std.proofs.Common.{refl}
-use Rattle.kc_language.specs.Expressions.{names_in}
 use Rattle.kc_read.specs.LineReads.{lexemes_from}
 use Rattle.kc_expr.proofs.NamesLemmas.{extends_on, mentioned_on}
 use Rattle.kc_read.proofs.reader.def_line.Goals as goal

@@ -1,9 +1,8 @@
-use Rattle.std.proofs.Common.{◌∙◌, sym, ap}
+use Rattle.std.proofs.Common.{ap, sym, ◌∙◌}
 use Rattle.kc_read.specs.LineReads.{lexemes_from}
 use Rattle.kc_language.specs.Statements.{DependsLine}
-use Rattle.kc_read.specs.PartsOfStatements.{ReadsDepends}
-use Rattle.kc_read.proofs.FrontLemmas.{after_one}
-use Rattle.kc_read.proofs.PartLemmas.{read_passed, depends_ok, depends_fault}
+use Rattle.kc_entries.specs.PartsOfStatements.{ReadsDepends}
+use Rattle.kc_read.proofs.{FrontLemmas.after_one, PartLemmas.{depends_fault, depends_ok, read_passed}}
 use Rattle.kc_read.proofs.reader.depends_line.Goals as goal
 
 pub returns-clause-read : goal.returns-clause-read

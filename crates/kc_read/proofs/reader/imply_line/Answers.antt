@@ -1,11 +1,9 @@
-use Rattle.kc_language.specs.Statements.{names_in_condition, ImplyLine}
-use Rattle.kc_read.specs.PartsOfStatements.{ReadsTarget}
-use Rattle.kc_language.specs.Expressions.{all_mentioned}
+use Rattle.kc_language.specs.{Expressions.all_mentioned, Statements.{ImplyLine, names_in_condition}}
+use Rattle.kc_entries.specs.PartsOfStatements.{ReadsTarget}
 use Rattle.kc_expr.proofs.NamesLemmas.{extends_on}
-use Rattle.std.proofs.Common.{◌∙◌, ap}
+use Rattle.std.proofs.Common.{ap, ◌∙◌}
 use Rattle.kc_read.specs.LineReads.{lexemes_from}
-use Rattle.kc_read.proofs.FrontLemmas.{after_one}
-use Rattle.kc_read.proofs.PartLemmas.{read_passed, target_ok, target_fault}
+use Rattle.kc_read.proofs.{FrontLemmas.after_one, PartLemmas.{read_passed, target_fault, target_ok}}
 use Rattle.kc_read.proofs.reader.imply_line.Goals as goal
 
 pub returns-clause-read : goal.returns-clause-read

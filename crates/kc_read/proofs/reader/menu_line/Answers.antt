@@ -1,10 +1,8 @@
-use Rattle.std.proofs.Common.{ℕ, ◌∙◌, ap, refl}
-use Rattle.std.specs.declared.alloc.Global.{Global}
-use Rattle.std.specs.declared.vec.Vec.{Vec}
+use Rattle.std.proofs.Common.{ap, refl, ℕ, ◌∙◌}
+use Rattle.std.specs.declared.{alloc.Global.Global, vec.Vec.Vec}
 use Rattle.kc_read.specs.LineReads.{lexemes_from}
 use Rattle.kc_language.specs.Statements.{MenuLine}
-use Rattle.kc_read.proofs.FrontLemmas.{after_one}
-use Rattle.kc_read.proofs.PartLemmas.{text_line_ok}
+use Rattle.kc_read.proofs.{FrontLemmas.after_one, PartLemmas.text_line_ok}
 use Rattle.kc_read.proofs.reader.menu_line.Goals as goal
 
 pub returns : goal.returns

@@ -1,8 +1,7 @@
-use Rattle.kc_language.specs.Statements.{ModulesLine, IgnoredLine}
-use Rattle.kc_read.proofs.PartLemmas.{option_modules, option_ignored}
-use Rattle.std.proofs.Common.{◌∙◌, sym, refl}
+use Rattle.kc_language.specs.Statements.{IgnoredLine, ModulesLine}
+use Rattle.kc_read.proofs.{FrontLemmas.after_one, PartLemmas.{option_ignored, option_modules}}
+use Rattle.std.proofs.Common.{refl, sym, ◌∙◌}
 use Rattle.kc_read.specs.LineReads.{lexemes_from}
-use Rattle.kc_read.proofs.FrontLemmas.{after_one}
 use Rattle.kc_read.proofs.reader.option_line.Goals as goal
 
 pub returns-then-begins_with : goal.returns-then-begins_with

@@ -1,8 +1,7 @@
 use Rattle.std.proofs.Common.{[], ap}
 use Rattle.kc_language.specs.Statements.{PromptLine, ReadsPrompt}
-use Rattle.kc_read.specs.LineReads.{unquoted_text, lexemes_from}
-use Rattle.kc_read.proofs.FrontLemmas.{after_one}
-use Rattle.kc_read.proofs.PartLemmas.{read_passed, asked_ok, asked_fault}
+use Rattle.kc_read.specs.LineReads.{lexemes_from, unquoted_text}
+use Rattle.kc_read.proofs.{FrontLemmas.after_one, PartLemmas.{asked_fault, asked_ok, read_passed}}
 use Rattle.kc_read.proofs.reader.prompt_line.Goals as goal
 
 pub returns-clause-read : goal.returns-clause-read

@@ -1,8 +1,7 @@
-use Rattle.std.proofs.Common.{[], ap, Some}
-use Rattle.kc_language.specs.Statements.{TypeLine, ReadsPrompt}
-use Rattle.kc_read.specs.LineReads.{unquoted_text, lexemes_from}
-use Rattle.kc_read.proofs.FrontLemmas.{after_one}
-use Rattle.kc_read.proofs.PartLemmas.{read_passed, asked_ok, asked_fault}
+use Rattle.std.proofs.Common.{Some, [], ap}
+use Rattle.kc_language.specs.Statements.{ReadsPrompt, TypeLine}
+use Rattle.kc_read.specs.LineReads.{lexemes_from, unquoted_text}
+use Rattle.kc_read.proofs.{FrontLemmas.after_one, PartLemmas.{asked_fault, asked_ok, read_passed}}
 use Rattle.kc_read.proofs.reader.prompted_type.Goals as goal
 
 pub returns-clause-read : goal.returns-clause-read

@@ -1,14 +1,10 @@
-use Rattle.kc_language.specs.Expressions.{names_in_atom}
-use Rattle.std.proofs.Common.{◌++◌, ◌∙◌, ap}
-use Rattle.kc_expr.specs.Form.{leaf_of}
-use Rattle.kc_tree.specs.declared.rows.SymbolRange.{SymbolRange}
-use Rattle.kc_expr.specs.When.{when_view}
-use Rattle.kc_language.specs.Statements.{names_in_condition, RangeLine}
-use Rattle.kc_read.specs.PartsOfStatements.{ReadsRange}
+use Rattle.kc_language.specs.{Expressions.names_in_atom, Statements.{RangeLine, names_in_condition}}
+use Rattle.std.proofs.Common.{ap, ◌++◌, ◌∙◌}
+use Rattle.kc_expr.specs.{Form.leaf_of, When.when_view}
+use Rattle.kc_entries.specs.{PartsOfStatements.ReadsRange, declared.statement.SymbolRange.SymbolRange}
 use Rattle.kc_read.specs.LineReads.{lexemes_from}
 use Rattle.kc_expr.proofs.NamesLemmas.{extends_on, mentioned_on}
-use Rattle.kc_read.proofs.FrontLemmas.{after_one, after_two}
-use Rattle.kc_read.proofs.PartLemmas.{read_passed, memory_passed, range_ok, range_fault}
+use Rattle.kc_read.proofs.{FrontLemmas.{after_one, after_two}, PartLemmas.{memory_passed, range_fault, range_ok, read_passed}}
 use Rattle.kc_read.proofs.reader.range_line.Goals as goal
 
 pub returns-clause-read : goal.returns-clause-read

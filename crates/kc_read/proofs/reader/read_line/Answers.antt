@@ -1,8 +1,6 @@
 use Rattle.std.proofs.Common.{sym}
-use Rattle.kc_read.specs.LineReads.{lexemes_from}
-use Rattle.kc_read.proofs.FrontLemmas.{after_one}
-use Rattle.kc_read.proofs.PartLemmas.{line_rest, line_place}
-use Rattle.kc_read.specs.Progress.{context_in}
+use Rattle.kc_read.specs.{LineReads.lexemes_from, Progress.context_in}
+use Rattle.kc_read.proofs.{FrontLemmas.after_one, PartLemmas.{line_place, line_rest}}
 use Rattle.kc_read.proofs.reader.read_line.Goals as goal
 
 pub returns-in-Some-placement_fault-clause-read : goal.returns-in-Some-placement_fault-clause-read

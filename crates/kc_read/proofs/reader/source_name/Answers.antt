@@ -1,8 +1,7 @@
-use Rattle.std.proofs.Common.{◌∙◌, sym, ap}
+use Rattle.std.proofs.Common.{ap, sym, ◌∙◌}
 use Rattle.kc_read.specs.LineReads.{lexemes_from}
-use Rattle.kc_read.specs.PartsOfStatements.{is_pattern}
-use Rattle.kc_read.proofs.FrontLemmas.{after_one}
-use Rattle.kc_read.proofs.PartLemmas.{source_ok}
+use Rattle.kc_entries.specs.PartsOfStatements.{is_pattern}
+use Rattle.kc_read.proofs.{FrontLemmas.after_one, PartLemmas.source_ok}
 use Rattle.kc_read.proofs.reader.source_name.Goals as goal
 
 pub returns-clause-name : goal.returns-clause-name

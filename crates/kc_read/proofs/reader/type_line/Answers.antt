@@ -1,7 +1,6 @@
-use Rattle.std.proofs.Common.{refl, inl}
+use Rattle.std.proofs.Common.{None, inl, refl}
 use Rattle.kc_read.specs.LineReads.{lexemes_from}
 use Rattle.kc_language.specs.Statements.{TypeLine}
-use Rattle.std.proofs.Common.{None}
 use Rattle.kc_read.proofs.PartLemmas.{typed_read}
 use Rattle.kc_read.proofs.reader.type_line.Goals as goal
 

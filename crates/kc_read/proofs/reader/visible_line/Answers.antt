@@ -1,9 +1,8 @@
-use Rattle.std.proofs.Common.{◌∙◌, sym, ap}
+use Rattle.std.proofs.Common.{ap, sym, ◌∙◌}
 use Rattle.kc_read.specs.LineReads.{lexemes_from}
 use Rattle.kc_language.specs.Statements.{VisibleLine}
-use Rattle.kc_read.specs.PartsOfStatements.{ReadsVisible}
-use Rattle.kc_read.proofs.FrontLemmas.{after_one}
-use Rattle.kc_read.proofs.PartLemmas.{read_passed, visible_ok, visible_fault}
+use Rattle.kc_entries.specs.PartsOfStatements.{ReadsVisible}
+use Rattle.kc_read.proofs.{FrontLemmas.after_one, PartLemmas.{read_passed, visible_fault, visible_ok}}
 use Rattle.kc_read.proofs.reader.visible_line.Goals as goal
 
 pub returns-clause-read : goal.returns-clause-read

@@ -1,6 +1,5 @@
-use Rattle.std.proofs.Common.{◌+◌, length-drop, arith, refl}
-use Rattle.kc_read.proofs.QuietFiles.{backslash_found}
-use Rattle.kc_read.proofs.SourceSearch.{join_nowhere, join_passed, rest_whole}
+use Rattle.std.proofs.Common.{arith, length-drop, refl, ◌+◌}
+use Rattle.kc_read.proofs.{QuietFiles.backslash_found, SourceSearch.{join_nowhere, join_passed, rest_whole}}
 use Rattle.kc_read.proofs.sources.has_join.Goals as goal
 
 pub returns-in_default-clause-silent : goal.returns-in_default-clause-silent

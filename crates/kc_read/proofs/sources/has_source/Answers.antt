@@ -1,6 +1,5 @@
-use Rattle.std.proofs.Common.{length-drop, arith, refl}
-use Rattle.kc_read.proofs.QuietFiles.{source_found}
-use Rattle.kc_read.proofs.SourceSearch.{rest_whole, source_nowhere, source_passed}
+use Rattle.std.proofs.Common.{arith, length-drop, refl}
+use Rattle.kc_read.proofs.{QuietFiles.source_found, SourceSearch.{rest_whole, source_nowhere, source_passed}}
 use Rattle.kc_read.proofs.sources.has_source.Goals as goal
 
 pub returns-in_default-clause-silent : goal.returns-in_default-clause-silent

@@ -1,9 +1,8 @@
-use Rattle.std.proofs.Common.{◌≡◌, ◌∙◌, MatchOption, ap, subst, sym}
+use Rattle.std.proofs.Common.{MatchOption, ap, subst, sym, ◌∙◌, ◌≡◌}
 use Rattle.kc_text.specs.Lines.{IsLineFault}
-use Rattle.kc_language.specs.Lines.{UnreadLines, TakesLine}
+use Rattle.kc_language.specs.Lines.{TakesLine, UnreadLines}
 use Rattle.kc_read.specs.SourceSteps.{IsFound}
-use Rattle.kc_read.proofs.SourceLemmas.{ended_found, line_ends, says_clear, says_less}
-use Rattle.kc_read.proofs.SourceLines.{at_end}
+use Rattle.kc_read.proofs.{SourceLemmas.{ended_found, line_ends, says_clear, says_less}, SourceLines.at_end}
 use Rattle.kc_read.proofs.sources.next_source.Goals as goal
 
 pub returns-in-Some-clause-clear : goal.returns-in-Some-clause-clear

@@ -1,12 +1,10 @@
-use Rattle.std.proofs.Common.{◌≡◌, ◌∙◌, cond, sym}
+use Rattle.std.proofs.Common.{cond, sym, ◌∙◌, ◌≡◌}
 use Rattle.kc_text.specs.Lexemes.{lexemes}
 use Rattle.kc_language.specs.Expansion.{without_help}
-use Rattle.kc_read.specs.PartsOfExpansion.{is_help}
+use Rattle.kc_entries.specs.PartsOfExpansion.{is_help}
 use Rattle.kc_read.specs.LineReads.{cause_of}
-use Rattle.kc_read.proofs.SourceLemmas.{SaysSource, begins_pieces, cut_ends, ended_found, source_bad, source_found, taken_line}
-use Rattle.kc_read.proofs.StepLemmas.{left_help, left_other}
+use Rattle.kc_read.proofs.{SourceLemmas.{SaysSource, begins_pieces, cut_ends, ended_found, source_bad, source_found, taken_line}, StepLemmas.{left_help, left_other}, sources.source_of_line.Goals.{else-begins_help, then-begins_help}}
 use Rattle.kc_read.proofs.sources.source_of_line.Goals as goal
-use Rattle.kc_read.proofs.sources.source_of_line.Goals.{then-begins_help, else-begins_help}
 
 pub returns-in-Err : goal.returns-in-Err
 returns-in-Err c =

@@ -1,7 +1,6 @@
 use Rattle.kc_language.specs.Lines.{unread_lines}
-use Rattle.std.proofs.Common.{map, sym, subst}
-use Rattle.kc_read.proofs.QuietFiles.{no_names}
-use Rattle.kc_read.proofs.SourceLemmas.{Follows, follows_name, follows_other}
+use Rattle.std.proofs.Common.{map, subst, sym}
+use Rattle.kc_read.proofs.{QuietFiles.no_names, SourceLemmas.{Follows, follows_name, follows_other}}
 use Rattle.kc_read.proofs.sources.sources_of.Goals as goal
 
 -- no line names a file

@@ -1,7 +1,6 @@
 use Rattle.std.proofs.Common.{ap, ◌∙◌}
-use Rattle.kc_read.specs.LineReads.{cause_of}
+use Rattle.kc_read.specs.{LineReads.cause_of, Progress.context_in}
 use Rattle.kc_read.proofs.StepLemmas.{line_fault}
-use Rattle.kc_read.specs.Progress.{context_in}
 use Rattle.kc_read.proofs.step.next_joined.Goals as goal
 
 pub returns-in-Err-clause-refused : goal.returns-in-Err-clause-refused

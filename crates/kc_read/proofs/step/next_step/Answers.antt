@@ -1,6 +1,5 @@
 use Rattle.std.proofs.Common.{IfOk, subst}
-use Rattle.kc_read.specs.Progress.{context_in}
-use Rattle.kc_read.specs.NextStep.{IsStep}
+use Rattle.kc_read.specs.{NextStep.IsStep, Progress.context_in}
 use Rattle.kc_read.proofs.step.next_step.Goals as goal
 
 -- nothing was lent, so the lines are as they were

@@ -1,14 +1,9 @@
-use Rattle.std.proofs.Common.{[], ap, ◌∙◌, ◌≡◌, cond, length, rules, arith, sym}
-use Rattle.std.proofs.lemmas.Bool.{eqb-true}
-use Rattle.std.proofs.lemmas.List.{nil_from_length}
-use Rattle.std.proofs.lemmas.Result.{IfErr-weaker, IfOk-weaker}
-use Rattle.kc_read.proofs.StepLemmas.{lex_fault, next_statement, no_step_refusal, read_refused, left_help, left_other, step_of_marked}
-use Rattle.kc_read.specs.LineReads.{cause_of}
-use Rattle.kc_read.specs.Progress.{context_in}
+use Rattle.std.proofs.{Common.{[], ap, arith, cond, length, rules, sym, ◌∙◌, ◌≡◌}, lemmas.{Bool.eqb-true, List.nil_from_length, Result.{IfErr-weaker, IfOk-weaker}}}
+use Rattle.kc_read.proofs.{StepLemmas.{left_help, left_other, lex_fault, next_statement, no_step_refusal, read_refused, step_of_marked}, step.step_of_line.Goals.{else-begins_help, then-begins_help}}
+use Rattle.kc_read.specs.{LineReads.cause_of, Progress.context_in}
 use Rattle.kc_read.proofs.step.step_of_line.Goals as goal
-use Rattle.kc_read.proofs.step.step_of_line.Goals.{then-begins_help, else-begins_help}
 use Rattle.kc_language.specs.Expansion.{without_help}
-use Rattle.kc_read.specs.PartsOfExpansion.{is_help}
+use Rattle.kc_entries.specs.PartsOfExpansion.{is_help}
 use Rattle.kc_text.specs.Lexemes.{lexemes}
 
 pub returns-in-Err-clause-refused : goal.returns-in-Err-clause-refused

@@ -1,8 +1,7 @@
-use Rattle.std.proofs.Common.{arith, refl, sym, subst, ◌∙◌, ap, slice_set}
-use Rattle.kc_values.specs.Computed.{AreContextsComputed}
-use Rattle.kc_solve.specs.Computing.{AreComputedValues, equation_at}
-use Rattle.kc_solve.proofs.ComputeSteps.{contexts_stay, either_way}
-use Rattle.kc_solve.proofs.TableSteps.{computed_place, place_given, row_count}
+use Rattle.std.proofs.Common.{ap, arith, refl, slice_set, subst, sym, ◌∙◌}
+use Rattle.kc_values.specs.Computed.{AreContextsComputed, AreDependenciesComputed, AreVisiblesComputed}
+use Rattle.kc_solve.specs.Computing.{AreComputedValues, equation_at, slots_of}
+use Rattle.kc_solve.proofs.{ComputeSteps.{contexts_stay, dependencies_stay, either_way, visibles_stay}, TableSteps.{computed_place, place_given, row_count}}
 use Rattle.kc_solve.proofs.compute.compute_symbol.Goals as goal
 
 pub symbol_row-symbol-requires : goal.symbol_row-symbol-requires
@@ -16,11 +15,18 @@ invariant_of-table c =
     let e = c.in_ok-value.ensures ∙ ap (λ g. equation_at t c.args.id s g c.args.chosen.now) own in
     let f = computed_place t c.args.id s c.args.given.now c.args.chosen.now c.in_ok-value.value c.symbol_row-symbol.ensures c.requires.full c.requires.there e in
     let put = slice_set t.values c.args.id.0 c.in_ok-value.value in
-    let kept = contexts_stay t.tree.now t.layout.now t.values put t.contexts.items t.selections.items c.args.id c.requires.unread f.others t.computed in
+    let l = t.layout.now in
+    let contexts = contexts_stay t.tree.now l t.values put (slots_of t) c.args.id c.requires.unread f.others t.contexts_computed in
+    let visibles = visibles_stay t.tree.now l t.values put (slots_of t) c.args.id c.requires.unread f.others t.visibles_computed in
+    let dependencies = dependencies_stay t.tree.now l t.values put (slots_of t) c.args.id c.requires.unread f.others t.dependencies_computed in
+    let done = c.set.ensures.done in
+    let failed = c.set.ensures.failed in
     record {
       laid = t.laid;
       formed = t.formed;
-      computed = either_way c.set.result (λ v. AreContextsComputed t.tree.now t.layout.now v t.contexts.items) t.values put c.set.new.self c.set.ensures.done c.set.ensures.failed kept t.computed;
+      contexts_computed = either_way c.set.result (λ v. AreContextsComputed t.tree.now l v t.contexts.items) t.values put c.set.new.self done failed contexts t.contexts_computed;
+      visibles_computed = either_way c.set.result (λ v. AreVisiblesComputed t.tree.now l v t.visibles.items) t.values put c.set.new.self done failed visibles t.visibles_computed;
+      dependencies_computed = either_way c.set.result (λ v. AreDependenciesComputed t.tree.now l v t.dependencies.items) t.values put c.set.new.self done failed dependencies t.dependencies_computed;
     }
 
 pub returns : goal.returns
@@ -36,5 +42,7 @@ returns c =
       keeps = record { tree = refl; layout = refl };
       values = subst (AreComputedValues t.tree.now given chosen c.args.id t.values) (sym c.in_ok-set.ensures.done) f;
       contexts = refl;
+      visibles = refl;
+      dependencies = refl;
       selections = refl;
     }

@@ -1,8 +1,6 @@
-use Rattle.kc_tree.specs.Contexts.{mode_view}
-use Rattle.kc_tree.specs.Layouts.{facts_of}
-use Rattle.kc_values.specs.TableFacts.{known_at}
-use Rattle.kc_values.specs.User.{given_in}
-use Rattle.kc_solve.proofs.TableSteps.{type_of_member, row_facts, untyped, value_placed}
+use Rattle.kc_tree.specs.{Layouts.facts_of, Places.mode_view}
+use Rattle.kc_values.specs.{TableFacts.known_at, User.given_in}
+use Rattle.kc_solve.proofs.TableSteps.{row_facts, type_of_member, untyped, value_placed}
 use Rattle.kc_solve.proofs.compute.kept_value.Goals as goal
 
 pub returns-in-Undefined : goal.returns-in-Undefined

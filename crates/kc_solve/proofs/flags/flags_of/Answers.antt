@@ -1,17 +1,9 @@
-use Rattle.std.proofs.Common.{length, sym, ◌∙◌, ap, refl, arith}
-use Rattle.std.proofs.lemmas.List.FromFn.{length-map-range_with_len}
-use Rattle.kc_language.specs.Expressions.{symbol}
+use Rattle.std.proofs.{Common.{ap, arith, length, refl, sym, ◌∙◌}, lemmas.List.FromFn.length-map-range_with_len}
+use Rattle.kc_language.specs.{ConfigFile.place_at, Expressions.symbol, Values.{default_selection, selection}}
 use Rattle.kc_tree.specs.Layouts.{facts_of}
-use Rattle.kc_language.specs.ConfigFile.{place_at}
-use Rattle.kc_language.specs.Values.{selection, default_selection}
-use Rattle.kc_values.specs.PartsOfValues.{written_facts}
-use Rattle.kc_values.specs.Table.{known_in}
-use Rattle.kc_values.specs.User.{given_in}
-use Rattle.kc_solve.specs.Answers.{visibility_by}
-use Rattle.kc_solve.specs.Kept.{valuation}
-use Rattle.kc_solve.proofs.FlagSteps.{one_more_differs, one_more_visible, one_more_written, solved_here}
-use Rattle.kc_solve.proofs.TableSteps.{choice_at_most, choice_below, row_count, row_facts}
-use Rattle.kc_solve.proofs.UserSteps.{place_mapped}
+use Rattle.kc_values.specs.{PartsOfValues.written_facts, Table.known_in, User.given_in}
+use Rattle.kc_solve.specs.{Answers.visibility_by, Kept.valuation}
+use Rattle.kc_solve.proofs.{FlagSteps.{one_more_differs, one_more_visible, one_more_written, solved_here}, TableSteps.{choice_at_most, choice_below, row_count, row_facts}, UserSteps.place_mapped}
 use Rattle.kc_solve.proofs.flags.flags_of.Goals as goal
 
 pub symbol_row-symbol-requires : goal.symbol_row-symbol-requires
@@ -23,7 +15,7 @@ symbol_differs-requires-clause-selections c =
     let s = c.symbol_row-symbol.result.now in
     let f = selection t (place_at c.args.user.now) (valuation t c.args.table.now.values) in
     choice_below t c.name_count-count.ensures.formed c.loop-i.i _ (facts_of c.args.table.now.layout.now c.loop-i.i s) s.choice
-    (row_facts c.args.table.now (symbol c.loop-i.i) s c.symbol_row-symbol.ensures) refl (ap length c.requires.selections ∙ length-map-range_with_len f 0 (length t.choices))
+    (row_facts c.args.table.now (symbol c.loop-i.i) s c.symbol_row-symbol.ensures) refl (ap length c.requires.selections.selected ∙ length-map-range_with_len f 0 (length t.choices))
 
 pub symbol_differs-requires-clause-defaults : goal.symbol_differs-requires-clause-defaults
 symbol_differs-requires-clause-defaults c =
@@ -31,14 +23,14 @@ symbol_differs-requires-clause-defaults c =
     let s = c.symbol_row-symbol.result.now in
     let f = default_selection t (valuation t c.args.table.now.values) in
     choice_below t c.name_count-count.ensures.formed c.loop-i.i _ (facts_of c.args.table.now.layout.now c.loop-i.i s) s.choice
-    (row_facts c.args.table.now (symbol c.loop-i.i) s c.symbol_row-symbol.ensures) refl (ap length c.requires.defaults ∙ length-map-range_with_len f 0 (length t.choices))
+    (row_facts c.args.table.now (symbol c.loop-i.i) s c.symbol_row-symbol.ensures) refl (ap length c.requires.selections.default ∙ length-map-range_with_len f 0 (length t.choices))
 
 pub symbol_differs-requires-clause-solved : goal.symbol_differs-requires-clause-solved
 symbol_differs-requires-clause-solved c =
     let t = c.args.table.now in
     let s = c.symbol_row-symbol.result.now in
     solved_here t.tree.now t.values c.requires.full (place_at c.args.user.now) c.loop-i.i
-    (facts_of t.layout.now c.loop-i.i s) (row_facts t (symbol c.loop-i.i) s c.symbol_row-symbol.ensures) c.args.selections.now c.args.defaults.now c.requires.selections c.requires.defaults
+    (facts_of t.layout.now c.loop-i.i s) (row_facts t (symbol c.loop-i.i) s c.symbol_row-symbol.ensures) c.args.selections.now.selected.items c.args.selections.now.default.items c.requires.selections.selected c.requires.selections.default
     c.requires.solves (omega arith) (given_in c.get-own.result) (place_mapped c.get-own.result ∙ c.get-own.ensures)
 
 pub loop-i-preserved : goal.loop-i-preserved
@@ -52,7 +44,7 @@ loop-i-preserved c =
     let before = c.loop-i.invariant in
     record {
       visibilities = one_more_visible t values c.loop-i.i _ _ _ c.requires.full before.visibilities c.in_ok-push.ensures.items (c.visibility-visibility.ensures ∙ ap (visibility_by t (known_in t values)) (sym at));
-      differing = one_more_differs t values c.requires.full (place_at c.args.user.now) c.loop-i.i f at c.args.selections.now c.args.defaults.now c.requires.selections c.requires.defaults
+      differing = one_more_differs t values c.requires.full (place_at c.args.user.now) c.loop-i.i f at c.args.selections.now.selected.items c.args.selections.now.default.items c.requires.selections.selected c.requires.selections.default
           (λ d e. choice_at_most t c.name_count-count.ensures.formed c.loop-i.i f d at e)
           _ _ _ before.differing c.in_ok-push-2.ensures.items c.in_ok-differs.ensures;
       written = one_more_written t values c.loop-i.i _ _ _ c.requires.full before.written c.in_ok-push-3.ensures.items (c.written.ensures ∙ ap (written_facts t (known_in t values)) (sym at));

@@ -1,7 +1,6 @@
-use Rattle.std.proofs.Common.{◌≡◌, map}
+use Rattle.std.proofs.Common.{map, ◌≡◌}
 use Rattle.std.specs.List.{range_with_len}
-use Rattle.kc_language.specs.ConfigFile.{place_at}
-use Rattle.kc_language.specs.Values.{differs}
+use Rattle.kc_language.specs.{ConfigFile.place_at, Values.differs}
 use Rattle.kc_solve.specs.Flags.{is_written, values_in, visibility_at}
 use Rattle.kc_solve.proofs.flags.flags_of.Given as goal
 

@@ -1,9 +1,7 @@
-use Rattle.std.proofs.Common.{◌∙◌, ap, subst, sym}
-use Rattle.kc_language.specs.Values.{choice_at, selected}
+use Rattle.std.proofs.Common.{ap, subst, sym, ◌∙◌}
+use Rattle.kc_language.specs.{ConfigFile.place_at, Values.{choice_at, selected}}
 use Rattle.kc_user.specs.PartsOfConfigFile.{member_place}
-use Rattle.kc_language.specs.ConfigFile.{place_at}
-use Rattle.kc_values.specs.TableFacts.{IsSelected}
-use Rattle.kc_values.specs.Table.{known_in}
+use Rattle.kc_values.specs.{Table.known_in, TableFacts.IsSelected}
 use Rattle.kc_solve.proofs.FlagSteps.{one_more_default, one_more_selected}
 use Rattle.kc_solve.proofs.flags.selections.Goals as goal
 

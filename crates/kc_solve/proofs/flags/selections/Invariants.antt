@@ -1,8 +1,7 @@
-use Rattle.std.proofs.Common.{◌≡◌, map}
+use Rattle.std.proofs.Common.{map, ◌≡◌}
 use Rattle.std.specs.List.{range_with_len}
-use Rattle.kc_language.specs.Values.{selection, default_selection}
+use Rattle.kc_language.specs.{ConfigFile.place_at, Values.{default_selection, selection}}
 use Rattle.kc_solve.specs.Kept.{valuation}
-use Rattle.kc_language.specs.ConfigFile.{place_at}
 use Rattle.kc_solve.proofs.flags.selections.Given as goal
 
 abbrev pub invariant-loop-c : goal.invariant-loop-c

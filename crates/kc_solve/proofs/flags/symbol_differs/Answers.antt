@@ -1,17 +1,15 @@
-use Rattle.std.proofs.Common.{◌&&◌, not, sym, ◌∙◌, ap}
+use Rattle.std.proofs.Common.{ap, not, sym, ◌&&◌, ◌∙◌}
 use Rattle.std.specs.Option.{is_some}
-use Rattle.kc_tree.specs.Contexts.{mode_view}
-use Rattle.kc_tree.specs.Layouts.{facts_of}
-use Rattle.kc_values.specs.TableFacts.{known_at}
-use Rattle.kc_values.specs.User.{given_in}
+use Rattle.kc_tree.specs.{Layouts.facts_of, Places.mode_view}
+use Rattle.kc_values.specs.{TableFacts.known_at, User.given_in}
 use Rattle.kc_language.specs.Values.{is_n}
 use Rattle.kc_solve.proofs.FlagSteps.{does_not_differ}
 use Rattle.kc_solve.proofs.flags.symbol_differs.Goals as goal
 
 pub returns-else-can_count : goal.returns-else-can_count
 returns-else-can_count c =
-    let t = c.args.table.now in
+    let t = c.args.row.now.table.now in
     let own = given_in c.args.user in
-    does_not_differ t.tree.now (known_at t) c.args.id (facts_of t.layout.now c.args.id.0 c.args.symbol.now) own c.args.selections.now c.args.defaults.now
+    does_not_differ t.tree.now (known_at t) c.args.row.now.id (facts_of t.layout.now c.args.row.now.id.0 c.args.row.now.symbol.now) own c.args.selections.now.selected.items c.args.selections.now.default.items
     (ap (λ v. is_some own && not (is_n v)) (sym c.requires.visibility) ∙ sym c.can_count.ensures ∙ c.if-can_count.false)
     _ (ap mode_view (sym c.in-None.ensures)) c.requires.solved

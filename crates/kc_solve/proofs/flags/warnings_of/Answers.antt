@@ -1,14 +1,9 @@
-use Rattle.std.proofs.Common.{◌≡◌, ◌∙◌, ap, arith, flat_map, get_or, length, take}
-use Rattle.std.proofs.Math.Seq.{take-length}
-use Rattle.kc_language.specs.Expressions.{symbol}
+use Rattle.std.proofs.{Common.{ap, arith, flat_map, get_or, length, take, ◌∙◌, ◌≡◌}, Math.Seq.take-length}
+use Rattle.kc_language.specs.{ConfigFile.place_at, Expressions.symbol}
 use Rattle.kc_tree.specs.Layouts.{facts_of}
-use Rattle.kc_language.specs.ConfigFile.{place_at}
-use Rattle.kc_values.specs.User.{given_in}
-use Rattle.kc_values.specs.PartsOfTexts.{warnings_at}
+use Rattle.kc_values.specs.{PartsOfTexts.warnings_at, User.given_in}
 use Rattle.kc_solve.specs.Flags.{values_in}
-use Rattle.kc_solve.proofs.TableSteps.{defined_are, defined_below, row_count, row_facts}
-use Rattle.kc_solve.proofs.UserSteps.{place_mapped}
-use Rattle.kc_solve.proofs.WarningSteps.{one_more_warned, visibility_found}
+use Rattle.kc_solve.proofs.{TableSteps.{defined_are, defined_below, row_count, row_facts}, UserSteps.place_mapped, WarningSteps.{one_more_warned, visibility_found}}
 use Rattle.kc_solve.proofs.flags.warnings_of.Goals as goal
 
 pub symbol_row-symbol-requires : goal.symbol_row-symbol-requires
@@ -20,8 +15,8 @@ get-own-requires c =
     let below = defined_below t c.defined-id-items.result.now c.loop-id.id-index c.defined-id-items.ensures c.loop-id-test.true in
     omega (arith, below, row_count t, c.requires.user.symbols)
 
-pub warnings_into-requires : goal.warnings_into-requires
-warnings_into-requires c =
+pub warnings_into-requires-clause-visibility : goal.warnings_into-requires-clause-visibility
+warnings_into-requires-clause-visibility c =
     let t = c.args.table.now in
     let id = get_or c.defined-id-items.result.now c.loop-id.id-index (symbol 0) in
     let s = c.symbol_row-symbol.result.now in

@@ -1,5 +1,4 @@
-use Rattle.std.proofs.Common.{◌≤◌, ap, arith, length, sym}
-use Rattle.std.proofs.lemmas.Option.{slice_get_past}
+use Rattle.std.proofs.{Common.{ap, arith, length, sym, ◌≤◌}, lemmas.Option.slice_get_past}
 use Rattle.kc_language.specs.Values.{mode_of}
 use Rattle.kc_values.specs.TableFacts.{known_at}
 use Rattle.kc_solve.proofs.sources.mode_at.Goals as goal

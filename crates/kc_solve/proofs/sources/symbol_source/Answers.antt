@@ -1,20 +1,11 @@
-use Rattle.std.proofs.Common.{◌≡◌, ◌<◌, ◌∙◌, ℕ, None, ap, arith, length, subst, sym}
+use Rattle.std.proofs.{Common.{None, ap, arith, length, subst, sym, ℕ, ◌<◌, ◌∙◌, ◌≡◌}, lemmas.List.FromFn.{get_or-map-range_with_len, length-map-range_with_len}}
 use Rattle.std.specs.Prelude.{slice_index_or}
-use Rattle.std.proofs.lemmas.List.FromFn.{get_or-map-range_with_len, length-map-range_with_len}
-use Rattle.kc_language.specs.ConfigFile.{place_at}
-use Rattle.kc_language.specs.Values.{ChoicePlace, choice_at, selected, selection}
-use Rattle.kc_language.specs.declared.expressions.SymId.{SymId}
-use Rattle.kc_language.specs.Expressions.{SymbolValue}
-use Rattle.kc_tree.specs.Contexts.{mode_view}
-use Rattle.kc_tree.specs.Layouts.{facts_of}
+use Rattle.kc_language.specs.{ConfigFile.place_at, Expressions.SymbolValue, Values.{ChoicePlace, choice_at, selected, selection}, declared.expressions.SymId.SymId}
+use Rattle.kc_tree.specs.{Layouts.facts_of, Places.mode_view}
 use Rattle.kc_user.specs.PartsOfConfigFile.{member_place}
-use Rattle.kc_values.specs.Sources.{member_source, own_source}
-use Rattle.kc_values.specs.TableFacts.{facts_in, known_at}
-use Rattle.kc_solve.specs.Flags.{values_in}
-use Rattle.kc_solve.specs.Sources.{source_by_choice}
-use Rattle.kc_solve.proofs.TableSteps.{choice_at_most, row_facts}
-use Rattle.kc_solve.proofs.UserSteps.{place_mapped}
-use Rattle.kc_solve.proofs.WarningSteps.{tables_known}
+use Rattle.kc_values.specs.{Sources.{member_source, own_source}, TableFacts.{facts_in, known_at}}
+use Rattle.kc_solve.specs.{Flags.values_in, Sources.source_by_choice}
+use Rattle.kc_solve.proofs.{TableSteps.{choice_at_most, row_facts}, UserSteps.place_mapped, WarningSteps.tables_known}
 use Rattle.kc_solve.proofs.sources.symbol_source.Goals as goal
 
 pub selected-given-requires : goal.selected-given-requires

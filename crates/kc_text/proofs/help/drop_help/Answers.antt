@@ -1,12 +1,9 @@
 -- Why `drop_help` keeps its contract.
-use Rattle.std.proofs.Common.{◌≡◌, sym, ◌∙◌, arith, false}
-use Rattle.std.specs.Prelude.{Some, None}
-use Rattle.std.proofs.lemmas.Bool.{eqb-true}
-use Rattle.kc_language.specs.Lines.{column, is_help_line, Physical}
-use Rattle.kc_text.proofs.LongLineLemmas.{end_of_end, long_in_end}
-use Rattle.kc_text.proofs.Helps.{column-ge, dropping_ends, dropping_stops, not_before, help_ends, help_none, help_text, drops_first, first_is_help}
+use Rattle.std.proofs.{Common.{arith, false, sym, ◌∙◌, ◌≡◌}, lemmas.Bool.eqb-true}
+use Rattle.std.specs.Prelude.{None, Some}
+use Rattle.kc_language.specs.Lines.{Physical, column, is_help_line}
+use Rattle.kc_text.proofs.{Helps.{column-ge, dropping_ends, dropping_stops, drops_first, first_is_help, help_ends, help_none, help_text, not_before}, LongLineLemmas.{end_of_end, long_in_end}, help.drop_help.Goals.{else-blank-test, then-blank-test+then-not-start+then-start-eq0}}
 use Rattle.kc_text.proofs.help.drop_help.Goals as goal
-use Rattle.kc_text.proofs.help.drop_help.Goals.{else-blank-test, then-blank-test+then-not-start+then-start-eq0}
 
 pub drop_text-requires-clause-blanks : goal.drop_text-requires-clause-blanks
 drop_text-requires-clause-blanks c more = rw (c.line_start-start.ensures.passed more) (column-ge _ more)

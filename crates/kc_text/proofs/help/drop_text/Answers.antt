@@ -1,10 +1,8 @@
 -- Why `drop_text` keeps its contract.
-use Rattle.std.proofs.Common.{sym}
+use Rattle.std.proofs.{Common.sym, lemmas.Bool.eqb-true}
 use Rattle.std.specs.Prelude.{Some}
-use Rattle.std.proofs.lemmas.Bool.{eqb-true}
 use Rattle.kc_language.specs.Lines.{is_help_line}
-use Rattle.kc_text.proofs.LongLineLemmas.{long_in_end}
-use Rattle.kc_text.proofs.Helps.{dropping_ends}
+use Rattle.kc_text.proofs.{Helps.dropping_ends, LongLineLemmas.long_in_end}
 use Rattle.kc_text.proofs.help.drop_text.Goals as goal
 
 pub returns-clause-drops : goal.returns-clause-drops

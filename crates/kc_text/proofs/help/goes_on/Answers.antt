@@ -1,7 +1,5 @@
 -- Why `goes_on` keeps its contract.
-use Rattle.std.proofs.Common.{sym, ◌∙◌}
-use Rattle.std.proofs.lemmas.Bool.Decides.{Decides-eqb}
-use Rattle.std.proofs.lemmas.Slice.Eq.{starts_is}
+use Rattle.std.proofs.{Common.{sym, ◌∙◌}, lemmas.{Bool.Decides.Decides-eqb, Slice.Eq.starts_is}}
 use Rattle.kc_text.proofs.Helps.{begins_help_line}
 use Rattle.kc_text.proofs.help.goes_on.Goals as goal
 

@@ -1,8 +1,7 @@
 -- Why `plain_end` keeps its contract: the map is held against the definition at each of the 256 bytes, by computing.
 use Rattle.std.proofs.Common.{refl}
-use Rattle.kc_text.specs.declared.lexer.TheConstants.{PLAIN_MAP}
-use Rattle.kc_text.specs.LexerParts.{is_plain}
-use Rattle.kc_text.proofs.Tables.{agree_below, sign_passes, comma_stops}
+use Rattle.kc_text.specs.{LexerParts.is_plain, declared.lexer.TheConstants.PLAIN_MAP}
+use Rattle.kc_text.proofs.Tables.{agree_below, comma_stops, sign_passes}
 use Rattle.kc_text.proofs.lexer.plain_end.Goals as goal
 
 pub returns-clause-plain : goal.returns-clause-plain

@@ -1,11 +1,9 @@
 -- Why `word_len` keeps its contract: the map is held against the definition at each of the 256 bytes, by computing.
-use Rattle.std.proofs.Common.{◌<◌, refl, arith, take}
+use Rattle.std.proofs.{Common.{arith, refl, take, ◌<◌}, lemmas.List.{Elements.All-from_get_or, get_or-take, length-take-le}}
 use Rattle.std.specs.Prelude.{IsTrue}
-use Rattle.std.proofs.lemmas.List.{get_or-take, length-take-le}
-use Rattle.std.proofs.lemmas.List.Elements.{All-from_get_or}
 use Rattle.kc_text.specs.declared.lexer.TheConstants.{WORD_MAP}
 use Rattle.kc_language.specs.Tokens.{is_word_byte}
-use Rattle.kc_text.proofs.Tables.{agree_below, sign_passes, comma_stops}
+use Rattle.kc_text.proofs.Tables.{agree_below, comma_stops, sign_passes}
 use Rattle.kc_text.proofs.lexer.word_len.Goals as goal
 
 pub returns-clause-word : goal.returns-clause-word

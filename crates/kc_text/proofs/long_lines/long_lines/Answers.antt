@@ -1,6 +1,5 @@
 -- Why `long_lines` keeps its contract.
-use Rattle.std.proofs.Common.{sym, subst}
-use Rattle.std.proofs.lemmas.List.Elements.{All-push}
+use Rattle.std.proofs.{Common.{subst, sym}, lemmas.List.Elements.All-push}
 use Rattle.kc_text.specs.LongLines.{AreLong, IsLongIn}
 use Rattle.kc_text.proofs.LongLineLemmas.{end_of_end, long_from_end}
 use Rattle.kc_text.proofs.long_lines.long_lines.Goals as goal

@@ -1,9 +1,7 @@
 -- Why `line_count` keeps its contract.
-use Rattle.std.proofs.Common.{◌∙◌, sym, arith}
-use Rattle.std.proofs.lemmas.Bool.{eqb-true, eqb-false, both_ways}
-use Rattle.kc_text.proofs.Counts.{lines_of_none, lines_of_ended, lines_of_open}
+use Rattle.std.proofs.{Common.{arith, sym, ◌∙◌}, lemmas.Bool.{both_ways, eqb-false, eqb-true}}
+use Rattle.kc_text.proofs.{Counts.{lines_of_ended, lines_of_none, lines_of_open}, physical.line_count.Goals.{else-is_empty, then-is_empty}}
 use Rattle.kc_text.proofs.physical.line_count.Goals as goal
-use Rattle.kc_text.proofs.physical.line_count.Goals.{then-is_empty, else-is_empty}
 
 pub returns-then-file-eq10 : goal.returns-then-file-eq10
 returns-then-file-eq10 c =

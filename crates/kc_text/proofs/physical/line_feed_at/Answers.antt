@@ -1,8 +1,6 @@
 -- Why `line_feed_at` keeps its contract.
-use Rattle.std.proofs.Common.{◌+◌, ◌≤◌, arith, eqb, length, w8}
-use Rattle.std.proofs.lemmas.List.{take_rest}
-use Rattle.std.proofs.lemmas.Simd.{bitmask_splat, length-chunk}
-use Rattle.kc_text.proofs.Feeds.{first_in_lanes, none_in_lanes, first_after, none_after}
+use Rattle.std.proofs.{Common.{arith, eqb, length, w8, ◌+◌, ◌≤◌}, lemmas.{List.take_rest, Simd.{bitmask_splat, length-chunk}}}
+use Rattle.kc_text.proofs.Feeds.{first_after, first_in_lanes, none_after, none_in_lanes}
 use Rattle.kc_text.proofs.physical.line_feed_at.Goals as goal
 use lib.Lanes.{chunk}
 

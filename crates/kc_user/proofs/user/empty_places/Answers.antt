@@ -1,5 +1,4 @@
-use Rattle.std.proofs.Common.{None}
-use Rattle.std.proofs.lemmas.List.{replicate_more}
+use Rattle.std.proofs.{Common.None, lemmas.List.replicate_more}
 use Rattle.kc_user.proofs.user.empty_places.Goals as goal
 
 pub loop-preserved : goal.loop-preserved

@@ -1,6 +1,5 @@
-use Rattle.std.proofs.Common.{◌∙◌, length}
-use Rattle.std.proofs.lemmas.Bool.{lt-leb}
-use Rattle.kc_user.proofs.UserLemmas.{quoted_within, quoted_over}
+use Rattle.std.proofs.{Common.{length, ◌∙◌}, lemmas.Bool.lt-leb}
+use Rattle.kc_user.proofs.UserLemmas.{quoted_over, quoted_within}
 use Rattle.kc_user.proofs.value.is_short_quoted.Goals as goal
 
 pub returns-then-text-le-LONGEST_VALUE : goal.returns-then-text-le-LONGEST_VALUE

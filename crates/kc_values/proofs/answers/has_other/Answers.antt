@@ -1,8 +1,5 @@
 use Rattle.std.proofs.Common.{None, Some, ap, false, sym, ◌∙◌}
-use Rattle.std.proofs.Math.Logic.{∥∥₁_elim}
-use Rattle.std.specs.Coded.{Coded-set, coded_bool, coded_option}
 use Rattle.std.specs.Option.{option_map_or}
-use Rattle.kc_language.specs.contracts.expressions.SymId as sym_id
 use Rattle.kc_language.specs.Values as spec
 use Rattle.kc_values.specs.TableFacts.{known_at}
 use Rattle.kc_values.proofs.Laid.{choice_found}
@@ -11,21 +8,16 @@ use Rattle.kc_values.proofs.answers.has_other.Goals as goal
 pub has_other_member-requires : goal.has_other_member-requires
 has_other_member-requires c =
     let t = c.args.table.now in
-    ∥∥₁_elim t.laid (Coded-set (coded_option sym_id.the_row.coded) _ _)
-    (λ laid.
     c.requires
-    ∙ ap (λ o. spec.selected t.tree.now (known_at t) o None) (sym (choice_found t.tree.now t.layout.now laid c.args.choice.0 (Some c.in-Some.found.now) c.in-Some.ensures)))
+    ∙ ap (λ o. spec.selected t.tree.now (known_at t) o None) (sym (choice_found t.tree.now t.layout.now t.laid c.args.choice.0 (Some c.in-Some.found.now) c.in-Some.ensures))
 
 pub returns-in-Some : goal.returns-in-Some
 returns-in-Some c =
     let t = c.args.table.now in
-    ∥∥₁_elim t.laid (Coded-set coded_bool _ _)
-    (λ laid.
     c.has_other_member.ensures
-    ∙ ap (λ o. option_map_or (spec.has_other t.tree.now (known_at t)) o false) (choice_found t.tree.now t.layout.now laid c.args.choice.0 (Some c.in-Some.found.now) c.in-Some.ensures))
+    ∙ ap (λ o. option_map_or (spec.has_other t.tree.now (known_at t)) o false) (choice_found t.tree.now t.layout.now t.laid c.args.choice.0 (Some c.in-Some.found.now) c.in-Some.ensures)
 
 pub returns-in-None : goal.returns-in-None
 returns-in-None c =
     let t = c.args.table.now in
-    ∥∥₁_elim t.laid (Coded-set coded_bool _ _)
-    (λ laid. ap (λ o. option_map_or (spec.has_other t.tree.now (known_at t)) o false) (choice_found t.tree.now t.layout.now laid c.args.choice.0 None c.in-None.ensures))
+    ap (λ o. option_map_or (spec.has_other t.tree.now (known_at t)) o false) (choice_found t.tree.now t.layout.now t.laid c.args.choice.0 None c.in-None.ensures)

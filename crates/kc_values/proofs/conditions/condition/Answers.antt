@@ -1,8 +1,7 @@
-use Rattle.std.proofs.Common.{sym, ap, ◌∙◌}
+use Rattle.std.proofs.Common.{ap, sym, ◌∙◌}
 use Rattle.kc_language.specs.Expressions.{lesser}
 use Rattle.kc_expr.specs.When.{when_view}
-use Rattle.kc_values.specs.TableFacts.{known_at, condition_at}
-use Rattle.kc_values.specs.Computed.{when_value}
+use Rattle.kc_values.specs.{Computed.when_value, TableFacts.{condition_at, known_at}}
 use Rattle.kc_values.proofs.ConditionLemmas.{condition-with_when}
 use Rattle.kc_values.proofs.conditions.condition.Goals as goal
 

@@ -1,9 +1,5 @@
-use Rattle.kc_language.specs.Needs.{needs_in, needs}
-use Rattle.kc_order.proofs.Unique.{only}
-use Rattle.kc_order.proofs.OneSolution.{exists}
-use Rattle.kc_language.specs.Expressions.{Truth}
-use Rattle.kc_language.specs.declared.expressions.Tri.TheVariants.{N}
-use Rattle.kc_language.specs.Values.{name_count, equations}
+use Rattle.kc_language.specs.{Expressions.Truth, Needs.{needs, needs_in}, Values.{equations, name_count}, declared.expressions.Tri.TheVariants.N}
+use Rattle.kc_order.proofs.{OneSolution.exists, Unique.only}
 use Rattle.kc_values.proofs.TreeNeeds.{below_count, free_count}
 use Rattle.kc_values.proofs.laws.accepted_have_one_solution.Goals as goal
 

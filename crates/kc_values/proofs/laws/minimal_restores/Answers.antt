@@ -1,10 +1,7 @@
-use Rattle.kc_language.specs.Needs.{needs_in, needs}
-use Rattle.kc_order.proofs.MinimalLaws.{restores, nothing_can_go}
-use Rattle.kc_language.specs.Values.{name_count, user_place, rhs}
+use Rattle.kc_language.specs.{Needs.{needs, needs_in}, Values.{name_count, rhs, user_place}}
+use Rattle.kc_order.proofs.MinimalLaws.{nothing_can_go, restores}
 use Rattle.kc_values.specs.GivenLines.{minimal_line}
-use Rattle.kc_values.proofs.FixedLines.{is_minimal}
-use Rattle.kc_values.proofs.ModeLaws.{members_are_theirs}
-use Rattle.kc_values.proofs.TreeNeeds.{below_count, free_count}
+use Rattle.kc_values.proofs.{FixedLines.is_minimal, ModeLaws.members_are_theirs, TreeNeeds.{below_count, free_count}}
 use Rattle.kc_values.proofs.laws.minimal_restores.Goals as goal
 
 pub returns-clause-restores : goal.returns-clause-restores

@@ -1,9 +1,8 @@
-use Rattle.std.proofs.Common.{◌≡◌, ◌++◌, [], map, take}
-use Rattle.kc_values.specs.NeedRows.{choice_row_of}
-use Rattle.kc_values.specs.MadeRows.{IsRow}
+use Rattle.std.proofs.Common.{[], map, ◌++◌, ◌≡◌}
+use Rattle.std.specs.{List.range_with_len, Prelude.slice_get}
+use Rattle.kc_values.specs.{MadeRows.IsRow, NeedRows.{choice_by, row_of}}
 use Rattle.kc_values.proofs.needs.add_choices.Given as goal
 
-abbrev pub invariant-loop-choice : goal.invariant-loop-choice
-invariant-loop-choice l =
-    (l.graph ≡ record l.initial.graph { rows = l.initial.graph.rows ++ map (choice_row_of l.layout) (take l.choice-index l.choice-items) })
-    × IsRow [] [] l.row
+abbrev pub invariant-loop-k : goal.invariant-loop-k
+invariant-loop-k l =
+    (l.graph ≡ record l.initial.graph { rows = l.initial.graph.rows ++ map (λ k. row_of l.layout (choice_by l.layout k (slice_get l.layout.choices.items k))) (range_with_len 0 l.k) }) × IsRow [] [] l.row

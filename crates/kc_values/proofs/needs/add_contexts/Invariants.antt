@@ -1,10 +1,7 @@
-use Rattle.std.proofs.Common.{◌≡◌, ℕ, ◌<◌, ◌++◌, List, [], length, get_or}
-use Rattle.kc_values.specs.NeedRows.{IsContextRow}
-use Rattle.kc_values.specs.MadeRows.{IsRow}
+use Rattle.std.proofs.Common.{[], map, ◌++◌, ◌≡◌}
+use Rattle.std.specs.List.{range_with_len}
+use Rattle.kc_values.specs.{MadeRows.IsRow, NeedRows.{context_row, row_of}}
 use Rattle.kc_values.proofs.needs.add_contexts.Given as goal
 
 abbrev pub invariant-loop-i : goal.invariant-loop-i
-invariant-loop-i l =
-    ((contexts : List (List ℕ)) × (length contexts ≡ l.i) × ((j : ℕ) → j < l.i → IsContextRow l.layout j (get_or contexts j []))
-    × (l.graph ≡ record l.initial.graph { rows = l.initial.graph.rows ++ contexts }))
-    × IsRow [] [] l.row
+invariant-loop-i l = (l.graph ≡ record l.initial.graph { rows = l.initial.graph.rows ++ map (λ at. row_of l.layout (context_row l.layout at)) (range_with_len 0 l.i) }) × IsRow [] [] l.row

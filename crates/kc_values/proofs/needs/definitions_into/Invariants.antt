@@ -1,9 +1,14 @@
-use Rattle.std.proofs.Common.{◌≡◌, ◌++◌, take}
-use Rattle.kc_tree.specs.Spans.{definition_ids}
-use Rattle.kc_values.specs.NeedRows.{definitions_nodes_of, definitions_names_of}
+use Rattle.std.proofs.Common.{length}
+use Rattle.kc_tree.specs.Layouts.{definitions_at}
+use Rattle.kc_tree.proofs.LayoutWalks.{IsDefinitionAt}
+use Rattle.kc_values.specs.NeedRows.{definitions}
+use Rattle.kc_values.proofs.RowSteps.{IsLeft}
 use Rattle.kc_values.proofs.needs.definitions_into.Given as goal
 
-abbrev pub invariant-loop-i : goal.invariant-loop-i
-invariant-loop-i l =
-    (l.out.nodes.items ≡ l.initial.out.nodes.items ++ definitions_nodes_of l.layout l.symbol.symbol_type (take l.i (definition_ids l.symbol))) ×
-    (l.out.names.items ≡ l.initial.out.names.items ++ definitions_names_of l.layout l.symbol.symbol_type (take l.i (definition_ids l.symbol)))
+abbrev pub invariant-definitions : goal.invariant-definitions
+invariant-definitions l =
+    IsLeft l.initial.out (definitions l.layout l.symbol.symbol_type l.fn.id l.symbol.first.0) l.out (definitions l.layout l.symbol.symbol_type l.fn.id l.at.0)
+    × IsDefinitionAt l.layout l.fn.id l.at.0
+
+abbrev pub decreases-definitions : goal.decreases-definitions
+decreases-definitions l = length (definitions_at l.layout l.fn.id l.at.0)

@@ -1,12 +1,13 @@
-use Rattle.std.proofs.Common.{◌≡◌, ◌++◌}
-use Rattle.kc_values.specs.NeedRows.{selectors_nodes, selectors_names}
-use Rattle.kc_values.proofs.ChainLemmas.{steps_left}
+use Rattle.std.proofs.Common.{length}
+use Rattle.kc_tree.specs.Layouts.{lines_up_to}
+use Rattle.kc_tree.proofs.LayoutWalks.{IsLineAt}
+use Rattle.kc_values.specs.NeedRows.{last_line, selectors}
+use Rattle.kc_values.proofs.RowSteps.{IsLeft}
 use Rattle.kc_values.proofs.needs.selectors_into.Given as goal
 
 abbrev pub invariant-lines : goal.invariant-lines
 invariant-lines l =
-    (l.out.nodes.items ++ selectors_nodes l.layout l.at ≡ l.initial.out.nodes.items ++ selectors_nodes l.layout l.initial.at) ×
-    (l.out.names.items ++ selectors_names l.layout l.at ≡ l.initial.out.names.items ++ selectors_names l.layout l.initial.at)
+    IsLeft l.initial.out (selectors l.layout l.fn.word l.fn.id (last_line l.fn.symbol l.fn.word)) l.out (selectors l.layout l.fn.word l.fn.id l.at.0) × IsLineAt l.layout l.fn.word l.fn.id l.at.0
 
 abbrev pub decreases-lines : goal.decreases-lines
-decreases-lines l = steps_left l.at
+decreases-lines l = length (lines_up_to l.layout l.fn.word l.fn.id l.at.0)

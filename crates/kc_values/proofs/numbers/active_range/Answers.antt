@@ -1,42 +1,62 @@
-use Rattle.std.proofs.Common.{◌+◌, sym, ap, ◌∙◌}
-use Rattle.kc_tree.specs.Contexts.{condition_in}
-use Rattle.kc_tree.specs.Layouts.{DefinitionFacts, definition_facts}
-use Rattle.kc_values.specs.TableFacts.{known_at}
-use Rattle.kc_language.specs.Values.{first_met}
-use Rattle.kc_values.specs.PartsOfValues.{interval}
-use Rattle.kc_values.proofs.DefinitionLemmas.{met_from, met-some, met-none}
-use Rattle.kc_values.proofs.MetLemmas.{range-some, range-none, range-bounds}
+use Rattle.std.proofs.Common.{None, Some, ap, refl, subst, sym, ◌∙◌}
+use Rattle.std.specs.List.{flat_map}
+use Rattle.kc_tree.specs.{Layouts.{DefinitionFacts, top}, declared.rows.EntryPlace.EntryPlace}
+use Rattle.kc_values.specs.{AtTable.{first_met, range_at}, FoundRows.IsMetRange, PartsOfValues.interval, TableFacts.{condition_at, known_at}}
+use Rattle.kc_values.proofs.{DefinitionLemmas.{all-left, met-ends, met-skip, met-step, met_left, next-is, walk-begins}, MetLemmas.{range-bounds, range-none, range-some}, numbers.active_range.Goals.{else-place, then-place+in_default}}
 use Rattle.kc_values.proofs.numbers.active_range.Goals as goal
-use Rattle.kc_values.proofs.numbers.active_range.Goals.{in-Some+in_default-first_met, in_default}
 
-pub returns-in-Some-first_met-clause-range : goal.returns-in-Some-first_met-clause-range
-returns-in-Some-first_met-clause-range c =
+pub definitions-init : goal.definitions-init
+definitions-init c =
     let t = c.args.table.now in
-    let k = known_at t in
-    let s = c.args.symbol.now in
-    let i = c.loop-i.i in
-    let d = c.in-Some.definition.now in
-    let lines = λ (d : DefinitionFacts). d.ranges in
-    let rest = met_from t.tree.now k t.layout.now s lines (i + 1) in
-    let here = first_met t.tree.now k (definition_facts t.layout.now.tables d).ranges in
-    let cs = t.layout.now.tables.contexts in
-    c.bounds_of.ensures.range
-    ∙ range-bounds t s.symbol_type here c.in-Some-first_met.range (condition_in cs 0) c.in-Some-first_met.ensures
-    ∙ ap (interval k s.symbol_type)
-    (range-some t here rest c.in-Some-first_met.range c.in-Some-first_met.ensures ∙ sym (met-some t.tree.now k t.layout.now s lines i d c.in-Some.ensures) ∙ c.loop-i.invariant)
+    record {
+      same = ap (λ ds. first_met t (flat_map (λ (d : DefinitionFacts). d.ranges) ds)) (all-left t c.args.id c.args.symbol.now c.requires);
+      walk = walk-begins t c.args.id c.args.symbol.now c.requires;
+    }
 
-pub loop-i-preserved : goal.loop-i-preserved
-loop-i-preserved c =
+pub definitions-preserved : goal.definitions-preserved
+definitions-preserved c =
     let t = c.args.table.now in
-    let k = known_at t in
-    let s = c.args.symbol.now in
-    let i = c.loop-i.i in
+    let id = c.args.id in
+    let at = c.definitions.at.0 in
     let lines = λ (d : DefinitionFacts). d.ranges in
-    let rest = met_from t.tree.now k t.layout.now s lines (i + 1) in
-    elim c.match-definition.branch [
-      | in-Some+in_default-first_met w ↦
-          sym (range-none t (first_met t.tree.now k (definition_facts t.layout.now.tables w.in-Some.definition.now).ranges) rest w.in_default-first_met.ensures)
-          ∙ sym (met-some t.tree.now k t.layout.now s lines i w.in-Some.definition.now w.in-Some.ensures)
-          ∙ c.loop-i.invariant
-      | in_default w ↦ sym (met-none t.tree.now k t.layout.now s lines i w.in_default.ensures) ∙ c.loop-i.invariant
+    let next = c.place-place.result.next.0 in
+    let is = next-is t id at next (sym c.is_some.ensures ∙ c.definitions-test.true) c.definitions.invariant.walk (ap (λ (p : EntryPlace). p.next.0) c.place-place.ensures) in
+    elim c.if-place.branch [
+      | then-place+in_default w ↦ record {
+        same =
+            let here = ap (λ (p : EntryPlace). range_at t at (condition_at t p.context.0)) c.place-place.ensures in
+            sym (range-none t _ (met_left t id lines next) (subst (λ o. IsMetRange t o None) here w.in_default.ensures))
+            ∙ sym (met-step t id lines at next is)
+            ∙ c.definitions.invariant.same;
+        walk = is.walk;
+      }
+      | else-place w ↦ record {
+        same = sym (met-skip t id lines at next is (is.no_range (sym (ap (λ (p : EntryPlace). p.has_range) c.place-place.ensures) ∙ w.if-place.false))) ∙ c.definitions.invariant.same;
+        walk = is.walk;
+      }
     ]
+
+pub definitions-smaller : goal.definitions-smaller
+definitions-smaller c =
+    let at = c.definitions.at.0 in
+    (next-is c.args.table.now c.args.id at c.place-place.result.next.0 (sym c.is_some.ensures ∙ c.definitions-test.true) c.definitions.invariant.walk (ap (λ (p : EntryPlace). p.next.0) c.place-place.ensures)).smaller
+
+pub returns-in-Some-clause-range : goal.returns-in-Some-clause-range
+returns-in-Some-clause-range c =
+    let t = c.args.table.now in
+    let id = c.args.id in
+    let at = c.definitions.at.0 in
+    let lines = λ (d : DefinitionFacts). d.ranges in
+    let next = c.place-place.result.next.0 in
+    let is = next-is t id at next (sym c.is_some.ensures ∙ c.definitions-test.true) c.definitions.invariant.walk (ap (λ (p : EntryPlace). p.next.0) c.place-place.ensures) in
+    let here = ap (λ (p : EntryPlace). range_at t at (condition_at t p.context.0)) c.place-place.ensures in
+    let found = subst (λ o. IsMetRange t o (Some c.in-Some.range)) here c.in-Some.ensures in
+    c.bounds_of.ensures.range
+    ∙ range-bounds t c.args.symbol.now.symbol_type _ c.in-Some.range top found
+    ∙ ap (interval (known_at t) c.args.symbol.now.symbol_type)
+    (range-some t _ (met_left t id lines next) c.in-Some.range found ∙ sym (met-step t id lines at next is) ∙ c.definitions.invariant.same)
+
+pub returns-clause-range : goal.returns-clause-range
+returns-clause-range c =
+    let t = c.args.table.now in
+    ap (interval (known_at t) c.args.symbol.now.symbol_type) (sym (met-ends t c.args.id (λ (d : DefinitionFacts). d.ranges) c.definitions.at.0 (sym c.is_some.ensures ∙ c.definitions-test.false)) ∙ c.definitions.invariant.same)

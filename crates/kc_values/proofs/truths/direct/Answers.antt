@@ -1,22 +1,43 @@
-use Rattle.std.proofs.Common.{◌+◌, sym, ap, ◌∙◌}
+use Rattle.std.proofs.Common.{ap, map, sym, ◌∙◌}
 use Rattle.kc_language.specs.Expressions.{greater}
-use Rattle.kc_values.specs.TableFacts.{known_at}
-use Rattle.kc_values.proofs.DefinitionLemmas.{deps_from, dependencies-some, dependencies-none}
-use Rattle.kc_values.proofs.TriLemmas.{greater-step}
+use Rattle.kc_values.specs.AtTable.{conditions, context, upgraded}
+use Rattle.kc_tree.specs.{Layouts.DefinitionFacts, declared.rows.EntryPlace.EntryPlace}
+use Rattle.kc_values.proofs.{DefinitionLemmas.{all-left, dependencies-step, dependencies_left, next-is, walk-begins, walk-ends}, TriLemmas.greater_n}
 use Rattle.kc_values.proofs.truths.direct.Goals as goal
-use Rattle.kc_values.proofs.truths.direct.Goals.{in-Some, in_default}
 
-pub loop-i-preserved : goal.loop-i-preserved
-loop-i-preserved c =
+pub definitions-init : goal.definitions-init
+definitions-init c =
     let t = c.args.table.now in
-    let k = known_at t in
-    let s = c.args.symbol.now in
-    let i = c.loop-i.i in
-    let rest = deps_from t.tree.now k t.layout.now s (i + 1) in
-    elim c.match-definition.branch [
-      | in-Some w ↦
-          ap (λ x. greater x rest) (w.greatest-is ∙ w.greater-greatest.ensures ∙ ap (greater c.loop-i.greatest) w.context.ensures)
-          ∙ greater-step c.loop-i.greatest _ rest _ _ (dependencies-some t.tree.now k t.layout.now s i w.in-Some.definition.now w.in-Some.ensures) c.loop-i.invariant
-      | in_default w ↦
-          ap (λ x. greater x rest) w.greatest-is ∙ ap (greater c.loop-i.greatest) (sym (dependencies-none t.tree.now k t.layout.now s i w.in_default.ensures)) ∙ c.loop-i.invariant
-    ]
+    record {
+      same = ap (λ ds. conditions t (map (λ (d : DefinitionFacts). d.dependency) ds)) (all-left t c.args.id c.args.symbol.now c.requires);
+      walk = walk-begins t c.args.id c.args.symbol.now c.requires;
+    }
+
+pub definitions-preserved : goal.definitions-preserved
+definitions-preserved c =
+    let t = c.args.table.now in
+    let l = t.layout.now in
+    let at = c.definitions.at.0 in
+    let next = next-is t c.args.id at c.place-place.result.next.0 (sym c.is_some.ensures ∙ c.definitions-test.true) c.definitions.invariant.walk (ap (λ (p : EntryPlace). p.next.0) c.place-place.ensures) in
+    record {
+      same =
+          ap (λ x. greater x (dependencies_left t c.args.id c.place-place.result.next.0)) c.greater-greatest.ensures
+          ∙ dependencies-step t c.args.id at c.place-place.result.next.0 c.definitions.greatest c.context.result _ next
+          (c.context.ensures ∙ ap (λ p. context t p.context.0) c.place-place.ensures)
+          c.definitions.invariant.same;
+      walk = next.walk;
+    }
+
+pub definitions-smaller : goal.definitions-smaller
+definitions-smaller c =
+    let at = c.definitions.at.0 in
+    (next-is c.args.table.now c.args.id at c.place-place.result.next.0 (sym c.is_some.ensures ∙ c.definitions-test.true) c.definitions.invariant.walk (ap (λ (p : EntryPlace). p.next.0) c.place-place.ensures)).smaller
+
+pub returns : goal.returns
+returns c =
+    let t = c.args.table.now in
+    c.upgraded.ensures
+    ∙ ap (upgraded t c.args.symbol.now.symbol_type)
+    (sym (greater_n c.definitions.greatest)
+    ∙ ap (greater c.definitions.greatest) (sym (ap (λ ds. conditions t (map (λ (d : DefinitionFacts). d.dependency) ds)) (walk-ends t c.args.id c.definitions.at.0 (sym c.is_some.ensures ∙ c.definitions-test.false))))
+    ∙ c.definitions.invariant.same)

@@ -1,9 +1,14 @@
 use Rattle.std.proofs.Common.{◌≡◌}
-use Rattle.kc_values.specs.TableFacts.{known_at}
-use Rattle.kc_values.proofs.DefinitionLemmas.{deps_from}
 use Rattle.kc_language.specs.Expressions.{greater}
+use Rattle.kc_values.specs.{AtTable.conditions, TableFacts.facts_in}
+use Rattle.kc_values.proofs.DefinitionLemmas.{IsWalk, dependencies_left, left}
 use Rattle.kc_values.proofs.truths.direct.Given as goal
 
-abbrev pub invariant-loop-i : goal.invariant-loop-i
-invariant-loop-i l =
-    greater l.greatest (deps_from l.table.tree.now (known_at l.table) l.table.layout.now l.symbol l.i) ≡ deps_from l.table.tree.now (known_at l.table) l.table.layout.now l.symbol 0
+abbrev pub invariant-definitions : goal.invariant-definitions
+invariant-definitions l = record {
+  same : greater l.greatest (dependencies_left l.table l.fn.id l.at.0) ≡ conditions l.table (facts_in l.table l.fn.id l.symbol).dependencies;
+  walk : IsWalk l.table l.fn.id l.at.0;
+}
+
+abbrev pub decreases-definitions : goal.decreases-definitions
+decreases-definitions l = left l.table l.fn.id l.at.0

@@ -1,14 +1,23 @@
-use Rattle.kc_values.specs.TableFacts.{known_at}
-use Rattle.kc_values.proofs.UpgradeLemmas.{none_upgraded, some_upgraded}
+use Rattle.std.proofs.Common.{ap, sym, ◌∙◌}
+use Rattle.kc_language.specs.declared.symbols.SelectOrImply.TheVariants as word
+use Rattle.kc_values.specs.{AtTable.upgraded, TableFacts.known_at}
+use Rattle.kc_values.proofs.{ChainLemmas.{implies-all, imply-at, values-none}, UpgradeLemmas.n_stays}
 use Rattle.kc_values.proofs.truths.implied_to.Goals as goal
 
-pub returns-in-None : goal.returns-in-None
-returns-in-None c =
-    let t = c.args.table.now in
-    rw c.last_imply.ensures at (none_upgraded t.tree.now (known_at t) t.layout.now.tables c.args.symbol.now.symbol_type c.last_imply.result c.in-None.is)
+pub selector_values-requires : goal.selector_values-requires
+selector_values-requires c = (word.Imply, c.args.id, imply-at c.args.table.now c.args.id c.args.symbol.now c.requires)
 
-pub returns-in-Some : goal.returns-in-Some
-returns-in-Some c =
+pub returns-then-not-is_some : goal.returns-then-not-is_some
+returns-then-not-is_some c =
     let t = c.args.table.now in
-    rw c.last_imply.ensures at (some_upgraded t.tree.now (known_at t) t.layout.now.tables c.args.symbol.now.symbol_type c.last_imply.result c.in-Some.last c.selector_values.result _
-    c.in-Some.is c.selector_values.ensures c.upgraded.ensures)
+    let row = c.args.symbol.now in
+    n_stays t.tree.now (known_at t) row.symbol_type
+    ∙ ap (upgraded t row.symbol_type)
+    (sym (values-none t word.Imply c.args.id row.last_imply.0 (sym c.is_some.ensures ∙ c.if-not-is_some.true)) ∙ implies-all t c.args.id row c.requires)
+
+pub returns : goal.returns
+returns c =
+    let t = c.args.table.now in
+    let row = c.args.symbol.now in
+    c.upgraded.ensures
+    ∙ ap (upgraded t row.symbol_type) (c.selector_values.ensures word.Imply c.args.id (imply-at t c.args.id row c.requires) ∙ implies-all t c.args.id row c.requires)

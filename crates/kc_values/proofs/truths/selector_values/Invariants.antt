@@ -1,13 +1,13 @@
 use Rattle.std.proofs.Common.{◌≡◌}
-use Rattle.kc_language.specs.Expressions.{greater}
-use Rattle.kc_values.specs.TableFacts.{known_at}
-use Rattle.kc_values.proofs.ChainLemmas.{selector_values_from, steps_left}
+use Rattle.kc_language.specs.{Expressions.greater, declared.{expressions.SymId.SymId, symbols.SelectOrImply.SelectOrImply}}
+use Rattle.kc_values.specs.TableFacts.{IsLineAt}
+use Rattle.kc_values.proofs.ChainLemmas.{values_left}
 use Rattle.kc_values.proofs.truths.selector_values.Given as goal
 
 abbrev pub invariant-lines : goal.invariant-lines
 invariant-lines l =
-    greater l.greatest (selector_values_from l.table.layout.now.tables l.table.tree.now (known_at l.table) l.at)
-    ≡ selector_values_from l.table.layout.now.tables l.table.tree.now (known_at l.table) l.fn.last
+    (w : SelectOrImply) (s : SymId) → IsLineAt l.table w s l.fn.last.0 →
+    IsLineAt l.table w s l.at.0 × (greater l.greatest (values_left l.table w s l.at.0) ≡ values_left l.table w s l.fn.last.0)
 
 abbrev pub decreases-lines : goal.decreases-lines
-decreases-lines l = steps_left l.at
+decreases-lines l = l.at.0

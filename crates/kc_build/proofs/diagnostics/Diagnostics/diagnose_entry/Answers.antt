@@ -1,18 +1,12 @@
-use Rattle.std.proofs.Common.{◌≡◌, ◌∙◌, ◌||◌, ◌+◌, ◌<◌, ℕ, Bool, List, length, drop, get_or, Option, ap, sym}
+use Rattle.std.proofs.Common.{Bool, List, Option, ap, drop, get_or, length, sym, ℕ, ◌+◌, ◌<◌, ◌||◌, ◌∙◌, ◌≡◌}
 use Rattle.std.specs.Option.{is_some}
-use Rattle.kc_language.specs.Expressions.{Form}
-use Rattle.kc_read.specs.declared.entries.AttributeLine.{AttributeLine}
-use Rattle.kc_read.specs.declared.entries.Entry.{Entry}
-use Rattle.kc_read.specs.Entries.{attribute_line, first_line, own_lines}
-use Rattle.kc_language.specs.Statements.{InputPrompt}
-use Rattle.kc_read.specs.StatementViews.{attribute_view}
+use Rattle.kc_language.specs.{Expressions.Form, Statements.InputPrompt, Symbols.prompt_of}
+use Rattle.kc_entries.specs.{Entries.{attribute_line, first_line, own_lines}, StatementViews.attribute_view, declared.entries.{AttributeLine.AttributeLine, Entry.Entry}}
 use Rattle.kc_tree.specs.declared.rows.Symbol.{Symbol}
-use Rattle.kc_build.specs.declared.diagnostics.EntrySummary.{EntrySummary}
-use Rattle.kc_build.specs.Diagnosed.{Diagnosis, lines_diagnosed, diagnosis_view, line_diagnosed}
-use Rattle.kc_language.specs.Symbols.{prompt_of}
-use Rattle.kc_build.proofs.QuietLemmas.{no_prompt}
+use Rattle.kc_build.specs.{Diagnosed.{Diagnosis, diagnosis_view, line_diagnosed, lines_diagnosed}, Quiet.is_quiet, declared.diagnostics.{Diagnostics.Diagnostics, EntrySummary.EntrySummary}}
+use Rattle.kc_build.proofs.{QuietLemmas.{no_prompt, quiet-line}, diagnostics.Diagnostics.diagnose_entry.Goals.{else-not-is_quiet, then-not-is_quiet+in_ok-diagnose_attribute}}
 use Rattle.kc_build.proofs.diagnostics.Diagnostics.diagnose_entry.Goals as goal
-use Rattle.kc_read.proofs.PlaceLemmas.{drop_at, drop_past}
+use Rattle.kc_entries.proofs.PlaceLemmas.{drop_at, drop_past}
 
 module _ (names : List (List ℕ)) (symbols : List Symbol) (summary : EntrySummary) (first : Entry) where
   next : (xs : List AttributeLine) (i : ℕ) (x : AttributeLine) (p q : Bool) (d e r : Diagnosis) → i < length xs → x ≡ get_or xs i x →
@@ -42,13 +36,20 @@ loop-line-preserved c =
     let symbols = c.args.symbols.now in
     let summary = c.args.summary in
     let prompted = c.loop-line.prompted in
+    let first = c.args.lines.first.now in
+    let own = c.args.lines.attributes.now in
     let x = c.line-item.result in
-    let line = attribute_line c.args.lines.first.now.file.value.items x.line x.attribute in
+    let line = attribute_line first.file.value.items x.line x.attribute in
     let old = diagnosis_view c.loop-line.self in
-    let line_is : diagnosis_view c.diagnose_attribute.new.self ≡ line_diagnosed names symbols summary prompted line old = c.in_ok-diagnose_attribute.ensures
-    ∙ (λ i. line_diagnosed names symbols summary prompted (attribute_line (c.place_in-place.ensures.file i) (c.place_in-place.ensures.line i) x.attribute) old) in
-    next names symbols summary c.args.lines.first.now c.args.lines.attributes.now c.loop-line.line-index x prompted c.is_prompted-prompted.result _ _ _ c.loop-line-test.true
-    c.line-item.is line_is c.is_prompted-prompted.ensures c.loop-line.invariant
+    let step : (now : Diagnostics) → diagnosis_view now ≡ line_diagnosed names symbols summary prompted line old → _ =
+    λ now n. next names symbols summary first own c.loop-line.line-index x prompted c.is_prompted-prompted.result old (diagnosis_view now) _ c.loop-line-test.true
+    c.line-item.is n c.is_prompted-prompted.ensures c.loop-line.invariant in
+    elim c.if-not-is_quiet.branch [
+      | then-not-is_quiet+in_ok-diagnose_attribute v ↦ rw v.self-is (step v.diagnose_attribute.new.self (v.in_ok-diagnose_attribute.ensures
+          ∙ (λ i. line_diagnosed names symbols summary prompted (attribute_line (v.place_in-place.ensures.file i) (v.place_in-place.ensures.line i) x.attribute) old)))
+      | else-not-is_quiet v ↦ rw v.self-is (step c.loop-line.self (sym (quiet-line names symbols summary prompted line old
+          (ap (λ k. is_quiet k prompted (attribute_view x.attribute)) (sym c.own_type-own_type.ensures) ∙ sym c.is_quiet.ensures ∙ v.if-not-is_quiet.false))))
+    ]
 
 pub returns : goal.returns
 returns c =

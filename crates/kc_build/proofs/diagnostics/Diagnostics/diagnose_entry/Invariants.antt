@@ -1,5 +1,5 @@
 use Rattle.std.proofs.Common.{◌≡◌, ◌∷◌, drop, false}
-use Rattle.kc_read.specs.Entries.{first_line, own_lines}
+use Rattle.kc_entries.specs.Entries.{first_line, own_lines}
 use Rattle.kc_build.specs.Diagnosed.{lines_diagnosed, diagnosis_view}
 use Rattle.kc_build.proofs.diagnostics.Diagnostics.diagnose_entry.Given as goal
 

@@ -2,7 +2,7 @@
 use Rattle.std.proofs.Common.{◌≡◌, ◌∙◌, List, ℕ, [], map, slice_index_or, string_bytes, subst, sym}
 use Rattle.std.proofs.lemmas.List.{get_or-map}
 use Rattle.std.proofs.lemmas.Result.{IfOk-weaker}
-use Rattle.kc_language.specs.Outcome.{Options}
+use Rattle.kc_outcome.specs.Outcome.{Options}
 use Rattle.kc_words.specs.CommandLine.{AreOptionsFor}
 use Rattle.kc_disk.specs.Program.{GivesPieced, IsPieced}
 use Rattle.kc_disk.proofs.including.PiecedConfigurationsConfigurations.options_of.Goals as goal

@@ -1,8 +1,7 @@
-use Rattle.std.proofs.Common.{ℕ, List, min, ◌+◌, Some, ap, subst, ◌∙◌, if◌then◌else◌}
+use Rattle.std.proofs.Common.{List, Some, ap, if◌then◌else◌, min, subst, ℕ, ◌+◌, ◌∙◌}
 use Rattle.kc_language.specs.Expressions.{same_name}
-use Rattle.kc_load.specs.Asking.{FileBytes}
-use Rattle.kc_read.specs.PartsOfExpansion.{lines_of}
-use Rattle.kc_load.specs.Asking.{AreSources}
+use Rattle.kc_load.specs.Asking.{AreSources, FileBytes}
+use Rattle.kc_entries.specs.PartsOfExpansion.{lines_of}
 use Rattle.kc_text.specs.PartsOfText.{last_count}
 use Rattle.kc_load.proofs.loading.Loading.take.Goals as goal
 

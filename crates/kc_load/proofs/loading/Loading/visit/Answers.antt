@@ -1,8 +1,6 @@
-use Rattle.std.proofs.Common.{ℕ, List, Some, IsUtf8, refl, sym, ap, subst, ◌∙◌}
-use Rattle.kc_language.specs.Expressions.{mention}
-use Rattle.kc_load.specs.Folder.{AnswersAs, files_told}
-use Rattle.kc_language.specs.Outcome.{path_of}
-use Rattle.kc_load.specs.Steps.{file, was_requested}
+use Rattle.std.proofs.Common.{IsUtf8, List, Some, ap, refl, subst, sym, ℕ, ◌∙◌}
+use Rattle.kc_language.specs.{Expressions.mention, Files.path_of}
+use Rattle.kc_load.specs.{Folder.{AnswersAs, files_told}, Steps.{file, was_requested}}
 use Rattle.kc_load.proofs.loading.Loading.visit.Goals as goal
 
 pub returns-in_ok-take-in-Ok-Some-clause-ok : goal.returns-in_ok-take-in-Ok-Some-clause-ok

@@ -1,5 +1,4 @@
-use Rattle.std.proofs.Common.{◌≡◌, ◌-◌, ◌≤◌, arith, length, length-drop, take, drop}
-use Rattle.std.proofs.lemmas.List.{take_all}
+use Rattle.std.proofs.{Common.{arith, drop, length, length-drop, take, ◌-◌, ◌≡◌, ◌≤◌}, lemmas.List.take_all}
 use Rattle.kc_memory_device.proofs.ReadLemmas.{reads_on}
 use Rattle.kc_memory_device.proofs.opened.Opened.read.Goals as goal
 

@@ -1,8 +1,6 @@
-use Rattle.std.proofs.Common.{arith, sym, ◌∙◌, subst, ◌≤◌, length}
-use Rattle.std.proofs.lemmas.Bool.{true≢false}
-use Rattle.kc_order.specs.Graph.{IsGraph}
-use Rattle.kc_order.specs.Rows.{RowsBelow}
-use Rattle.kc_order.proofs.Held.{rows_below, is_graph, graph_down}
+use Rattle.std.proofs.{Common.{arith, length, subst, sym, ◌∙◌, ◌≤◌}, lemmas.Bool.true≢false}
+use Rattle.kc_order.specs.{Graph.IsGraph, Rows.RowsBelow}
+use Rattle.kc_order.proofs.Held.{graph_down, is_graph, rows_below}
 use Rattle.kc_order.proofs.graph.Graph.is_within.Goals as goal
 
 pub returns-then-not-are_below : goal.returns-then-not-are_below

@@ -1,8 +1,7 @@
-use Rattle.std.proofs.Common.{arith, ap, length, ◌∙◌}
+use Rattle.std.proofs.Common.{ap, arith, length, ◌∙◌}
 use Rattle.kc_order.specs.Rows.{begin}
-use Rattle.kc_order.proofs.OneList.{rows_len, is_row, IsRow}
+use Rattle.kc_order.proofs.{OneList.{IsRow, is_row, rows_len}, rows.Rows.row.Goals.After-index}
 use Rattle.kc_order.proofs.rows.Rows.row.Goals as goal
-use Rattle.kc_order.proofs.rows.Rows.row.Goals.{After-index}
 
 pub beginning-begin-requires : goal.beginning-begin-requires
 beginning-begin-requires c =

@@ -1,7 +1,6 @@
-use Rattle.std.proofs.Common.{◌∙◌, ap, cond, Some, sym}
+use Rattle.std.proofs.Common.{Some, ap, cond, sym, ◌∙◌}
 use Rattle.kc_expr.proofs.NamesLemmas.{on_err}
-use Rattle.kc_language.specs.Expressions.{same_name}
-use Rattle.kc_language.specs.Expansion.{bytes_in}
+use Rattle.kc_language.specs.{Expansion.bytes_in, Expressions.same_name}
 use Rattle.kc_read.proofs.FileLemmas.{bytes_found, bytes_put, files_of}
 use Rattle.kc_read.proofs.file_map.FileMap.insert.Goals as goal
 

@@ -1,5 +1,5 @@
 use Rattle.std.proofs.Common.{◌∙◌, ap, slice_get, length, ◌-◌}
-use Rattle.kc_read.proofs.ListLemmas.{last_of-get}
+use Rattle.kc_entries.proofs.ListLemmas.{last_of-get}
 use Rattle.kc_read.proofs.frame.Frame.innermost.Goals as goal
 
 pub returns : goal.returns

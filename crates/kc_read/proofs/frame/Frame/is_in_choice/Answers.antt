@@ -1,6 +1,4 @@
-use Rattle.std.proofs.Common.{rules, tests}
-use Rattle.std.proofs.lemmas.Iterator.{YieldsList-from_slice}
-use Rattle.std.proofs.lemmas.Iterator.Search.{any_from_yields_List}
+use Rattle.std.proofs.{Common.{rules, tests}, lemmas.Iterator.{Search.any_from_yields_List, YieldsList-from_slice}}
 use Rattle.kc_language.specs.Expansion.{is_choice_block}
 use Rattle.kc_read.proofs.frame.Frame.is_in_choice.Goals as goal
 

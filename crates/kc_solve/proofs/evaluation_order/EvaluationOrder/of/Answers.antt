@@ -1,6 +1,5 @@
 use Rattle.std.proofs.Common.{map, subst}
-use Rattle.kc_language.specs.declared.expressions.SymId.{SymId}
-use Rattle.kc_language.specs.Needs.{needs}
+use Rattle.kc_language.specs.{Needs.needs, declared.expressions.SymId.SymId}
 use Rattle.kc_solve.specs.LoopFaults.{NamesTheLoop}
 use Rattle.kc_order.proofs.Rings.{some_unordered}
 use Rattle.kc_solve.proofs.evaluation_order.EvaluationOrder.of.Goals as goal

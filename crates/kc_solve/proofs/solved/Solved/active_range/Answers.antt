@@ -1,13 +1,8 @@
-use Rattle.std.proofs.Common.{◌<◌, ◌∙◌, ap, arith, subst, sym}
+use Rattle.std.proofs.Common.{ap, arith, subst, sym, ◌<◌, ◌∙◌}
 use Rattle.std.specs.Option.{option_and_then}
-use Rattle.kc_language.specs.Expressions.{SymbolValue}
-use Rattle.kc_language.specs.Symbols.{TreeFacts}
-use Rattle.kc_language.specs.Texts.{Solution}
-use Rattle.kc_language.specs.Values.{active_range, facts, name_count}
-use Rattle.kc_language.specs.declared.expressions.SymId.{SymId}
+use Rattle.kc_language.specs.{Expressions.SymbolValue, Symbols.TreeFacts, Texts.Solution, Values.{active_range, facts, name_count}, declared.expressions.SymId.SymId}
 use Rattle.kc_values.specs.TableFacts.{known_at}
-use Rattle.kc_solve.proofs.SolvedSteps.{told}
-use Rattle.kc_solve.proofs.TableSteps.{row_count, row_facts}
+use Rattle.kc_solve.proofs.{SolvedSteps.told, TableSteps.{row_count, row_facts}}
 use Rattle.kc_solve.proofs.solved.Solved.active_range.Goals as goal
 
 pub symbol_row-symbol-requires : goal.symbol_row-symbol-requires

@@ -1,6 +1,5 @@
 use Rattle.std.proofs.Common.{subst}
-use Rattle.kc_language.specs.Texts.{Solution}
-use Rattle.kc_language.specs.Needs.{IsAccepted}
+use Rattle.kc_language.specs.{Needs.IsAccepted, Texts.Solution}
 use Rattle.kc_solve.proofs.solved.Solved.is_accepted.Goals as goal
 
 pub returns : goal.returns

@@ -1,7 +1,4 @@
-use Rattle.kc_language.specs.Expressions.{SymbolValue}
-use Rattle.kc_language.specs.Symbols.{TreeFacts}
-use Rattle.kc_language.specs.Values.{choice_at, mode_of}
-use Rattle.kc_language.specs.declared.expressions.SymId.{SymId}
+use Rattle.kc_language.specs.{Expressions.SymbolValue, Symbols.TreeFacts, Values.{choice_at, mode_of}, declared.expressions.SymId.SymId}
 use Rattle.kc_solve.proofs.SolvedSteps.{told}
 use Rattle.kc_solve.proofs.solved.Solved.mode.Goals as goal
 

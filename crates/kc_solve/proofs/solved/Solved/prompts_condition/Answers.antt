@@ -1,8 +1,5 @@
 use Rattle.std.proofs.Common.{flat_map}
-use Rattle.kc_language.specs.Expressions.{SymbolValue}
-use Rattle.kc_language.specs.Symbols.{TreeFacts, listed}
-use Rattle.kc_language.specs.Values.{conditions, facts}
-use Rattle.kc_language.specs.declared.expressions.SymId.{SymId}
+use Rattle.kc_language.specs.{Expressions.SymbolValue, Symbols.{TreeFacts, listed}, Values.{conditions, facts}, declared.expressions.SymId.SymId}
 use Rattle.kc_solve.proofs.SolvedSteps.{told}
 use Rattle.kc_solve.proofs.solved.Solved.prompts_condition.Goals as goal
 

@@ -1,9 +1,7 @@
-use Rattle.std.proofs.Common.{◌<◌, arith, subst, sym}
-use Rattle.kc_language.specs.Texts.{Solution}
-use Rattle.kc_language.specs.Values.{name_count}
+use Rattle.std.proofs.Common.{arith, subst, sym, ◌<◌}
+use Rattle.kc_language.specs.{Texts.Solution, Values.name_count}
 use Rattle.kc_tree.specs.Layouts.{facts_of}
-use Rattle.kc_solve.proofs.SourceSteps.{source_is}
-use Rattle.kc_solve.proofs.TableSteps.{row_count, row_facts}
+use Rattle.kc_solve.proofs.{SourceSteps.source_is, TableSteps.{row_count, row_facts}}
 use Rattle.kc_solve.proofs.solved.Solved.source.Goals as goal
 
 pub symbol_row-symbol-requires : goal.symbol_row-symbol-requires

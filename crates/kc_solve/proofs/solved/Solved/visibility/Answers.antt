@@ -1,6 +1,5 @@
-use Rattle.std.proofs.Common.{◌∙◌, List, ap, get_or}
-use Rattle.kc_language.specs.declared.expressions.Tri.{Tri}
-use Rattle.kc_language.specs.declared.expressions.Tri.TheVariants.{N}
+use Rattle.std.proofs.Common.{List, ap, get_or, ◌∙◌}
+use Rattle.kc_language.specs.declared.expressions.Tri.{TheVariants.N, Tri}
 use Rattle.kc_solve.proofs.SolvedSteps.{visible_is}
 use Rattle.kc_solve.proofs.solved.Solved.visibility.Goals as goal
 

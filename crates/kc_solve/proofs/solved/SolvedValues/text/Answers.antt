@@ -1,7 +1,5 @@
-use Rattle.kc_language.specs.Expressions.{SymbolValue}
+use Rattle.kc_language.specs.{Expressions.SymbolValue, Symbols.TreeFacts, declared.expressions.SymId.SymId}
 use Rattle.kc_expr.specs.PartsOfExpressions.{text_of_value}
-use Rattle.kc_language.specs.declared.expressions.SymId.{SymId}
-use Rattle.kc_language.specs.Symbols.{TreeFacts}
 use Rattle.kc_solve.proofs.SolvedSteps.{told}
 use Rattle.kc_solve.proofs.solved.SolvedValues.text.Goals as goal
 

@@ -1,6 +1,4 @@
-use Rattle.kc_language.specs.Expressions.{SymbolValue, truth_of_value}
-use Rattle.kc_language.specs.declared.expressions.SymId.{SymId}
-use Rattle.kc_language.specs.Symbols.{TreeFacts}
+use Rattle.kc_language.specs.{Expressions.{SymbolValue, truth_of_value}, Symbols.TreeFacts, declared.expressions.SymId.SymId}
 use Rattle.kc_solve.proofs.SolvedSteps.{told}
 use Rattle.kc_solve.proofs.solved.SolvedValues.tri.Goals as goal
 

@@ -1,12 +1,8 @@
 -- Why `next_single` keeps its contract.
-use Rattle.std.proofs.Common.{arith, ◌∙◌, sym, ap, refl}
-use Rattle.std.proofs.lemmas.Bool.{eqb-true}
+use Rattle.std.proofs.{Common.{ap, arith, refl, sym, ◌∙◌}, lemmas.Bool.eqb-true}
 use Rattle.kc_language.specs.Lines.{UnreadLines}
-use Rattle.kc_text.proofs.Joins.{single_line, none_single, refused_none}
-use Rattle.kc_text.proofs.LongLineLemmas.{long_in_end}
-use Rattle.kc_text.proofs.Physicals.{lines_at_end}
+use Rattle.kc_text.proofs.{Joins.{none_single, refused_none, single_line}, LongLineLemmas.long_in_end, Physicals.lines_at_end, logical.LogicalLines.next_single.Goals.{then-is_some-via-else-is_some+then-is_empty, then-is_some-via-then-is_some}}
 use Rattle.kc_text.proofs.logical.LogicalLines.next_single.Goals as goal
-use Rattle.kc_text.proofs.logical.LogicalLines.next_single.Goals.{then-is_some-via-then-is_some, then-is_some-via-else-is_some+then-is_empty}
 
 pub returns-clause-some : goal.returns-clause-some
 returns-clause-some c =

@@ -1,7 +1,8 @@
-use Rattle.kc_tree.proofs.TreeLemmas.{choices-heads}
+use Rattle.kc_tree.proofs.LayoutLemmas.{layout-is, members-are}
 use Rattle.kc_tree.proofs.tree.Tree.choices.Goals as goal
 
 pub returns : goal.returns
 returns c =
-    let tables = c.self.inside.layout.tables in
-    rw (← c.self.view_is, c.choices.ensures) (choices-heads tables tables.choices.items)
+    let t = c.self.inside in
+    rw (← c.self.view_is, c.choices.ensures)
+    (members-are _ t.layout (layout-is t.names (record { layout = t.layout; warnings = t.warnings; main_menu = t.main_menu }) c.self.invariant.1))

@@ -1,5 +1,4 @@
-use Rattle.std.proofs.Common.{◌≡◌, [], ◌∷◌, ◌++◌, ◌+◌, ◌-◌, ◌∙◌, ap, arith, length, length-append, map, slice_index_or, slice_set, suc, sym, Some, None}
-use Rattle.std.proofs.lemmas.List.{map-set}
+use Rattle.std.proofs.{Common.{None, Some, [], ap, arith, length, length-append, map, slice_index_or, slice_set, suc, sym, ◌++◌, ◌+◌, ◌-◌, ◌∙◌, ◌∷◌, ◌≡◌}, lemmas.List.map-set}
 use Rattle.kc_user.specs.Sparse.{numbered}
 use Rattle.kc_user.proofs.SparseLemmas.{emptied_own, filled, filled_own, its_number, replaced, set_there}
 use Rattle.kc_user.proofs.sparse.SparseVec.set.Goals as goal

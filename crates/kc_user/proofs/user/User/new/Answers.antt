@@ -1,5 +1,4 @@
-use Rattle.std.proofs.Common.{ap, length, sym, ◌∙◌}
-use Rattle.std.proofs.lemmas.List.{length-map}
+use Rattle.std.proofs.{Common.{ap, length, sym, ◌∙◌}, lemmas.List.length-map}
 use Rattle.kc_tree.specs.declared.rows.Choice.{Choice}
 use Rattle.kc_language.specs.Symbols.{ChoiceFacts}
 use Rattle.kc_user.proofs.UserLemmas.{empties}

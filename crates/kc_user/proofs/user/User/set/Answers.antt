@@ -1,8 +1,7 @@
-use Rattle.std.proofs.Common.{◌∙◌, ap, List, Option, map}
+use Rattle.std.proofs.Common.{List, Option, ap, map, ◌∙◌}
 use Rattle.std.specs.Prelude.{option_map}
 use Rattle.kc_language.specs.ConfigFile.{Places}
-use Rattle.kc_user.specs.ValueView.{given_of_value}
-use Rattle.kc_user.specs.declared.value.UserValue.{UserValue}
+use Rattle.kc_user.specs.{ValueView.given_of_value, declared.value.UserValue.UserValue}
 use Rattle.kc_user.proofs.UserLemmas.{fills, on_err, on_ok}
 use Rattle.kc_user.proofs.user.User.set.Goals as goal
 

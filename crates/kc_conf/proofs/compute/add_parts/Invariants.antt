@@ -1,7 +1,0 @@
--- The parts so far were added.
-use Rattle.std.proofs.Common.{◌≡◌, ◌++◌, take}
-use Rattle.std.specs.List.{flat_map}
-use Rattle.kc_conf.proofs.compute.add_parts.Given as goal
-
-abbrev pub invariant-loop-part : goal.invariant-loop-part
-invariant-loop-part l = l.text.items ≡ l.fn.text.items ++ flat_map (λ part. part.now) (take l.part-index l.parts)

@@ -1,5 +1,0 @@
-use Rattle.kc_config_file.proofs.AssignLemmas.{allowed_assigned}
-use Rattle.kc_config_file.proofs.laws.allowed_are_assigned.Goals as goal
-
-pub returns : goal.returns
-returns c = allowed_assigned

@@ -1,5 +1,0 @@
-use Rattle.kc_config_file.proofs.LineLaws.{line_by_line}
-use Rattle.kc_config_file.proofs.laws.reading_goes_line_by_line.Goals as goal
-
-pub returns : goal.returns
-returns c = line_by_line

@@ -1,5 +1,0 @@
-use Rattle.kc_config_file.proofs.RoundTripLemmas.{set_read_again}
-use Rattle.kc_config_file.proofs.laws.set_line_read_again.Goals as goal
-
-pub returns : goal.returns
-returns c = set_read_again

@@ -1,8 +1,0 @@
--- Trusted: A reader adds whole lines.
-use Rattle.std.specs.Prelude.{◌≡◌, ℕ, List, ◌++◌, true}
-pub use Rattle.kc_io.specs.PartsOfLog.{ends_line}
-pub use Rattle.kc_io.specs.Log.{is_whole_lines}
-
--- adds whole lines, or nothing
-abbrev pub AddsWholeLines : List ℕ → List ℕ → Type 0
-AddsWholeLines old new = (added : List ℕ) × (new ≡ old ++ added) × (is_whole_lines added ≡ true)

@@ -1,0 +1,10 @@
+pub mod ChoiceLemmas
+pub mod ElementLemmas
+pub mod EnclosingLemmas
+pub mod EntryLemmas
+pub mod FirstLemmas
+pub mod ListLemmas
+pub mod MemberLemmas
+pub mod PlaceLemmas
+pub mod StackLemmas
+pub mod SymbolListLemmas

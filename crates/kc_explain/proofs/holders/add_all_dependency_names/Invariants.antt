@@ -1,8 +1,0 @@
--- Those of the entries so far were added.
-use Rattle.std.proofs.Common.{◌≡◌, ◌++◌, take}
-use Rattle.std.specs.List.{flat_map}
-use Rattle.kc_explain.specs.Holding as held
-use Rattle.kc_explain.proofs.holders.add_all_dependency_names.Given as goal
-
-abbrev pub invariant-loop-entry : goal.invariant-loop-entry
-invariant-loop-entry l = l.all.items ≡ l.fn.all.items ++ flat_map (held.dependency_names l.lines l.solved) (take l.entry-index l.entries)

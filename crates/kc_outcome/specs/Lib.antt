@@ -1,0 +1,3 @@
+-- The outcome of a run, in two chapters.
+pub mod Explanations
+pub mod Outcome

@@ -1,0 +1,15 @@
+pub mod SeenLemmas
+pub mod DefinitionWalks
+pub mod SelectorWalks
+pub mod DefaultLemmas
+pub mod TruthLemmas
+pub mod BoundsLemmas
+pub mod SideLemmas
+pub mod PartLemmas
+pub mod LeastBounds
+pub mod OutwardSteps
+pub mod MemberLemmas
+pub mod PlaceLemmas
+pub mod SolvedLemmas
+pub mod PromptWalks
+pub mod SomeLemmas

@@ -1,0 +1,4 @@
+pub mod Bounds
+pub mod Possible
+pub mod PartsOfPossible
+pub mod Sides

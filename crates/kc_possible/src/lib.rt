@@ -1,0 +1,15 @@
+#![tactic(auto)]
+//! What the symbols of a tree may be, whatever the user gives: bounds for each symbol, from the tree alone.
+//!
+//! - [`bounds`]: the truth values between a lowest and a highest one.
+//! - [`possible`]: the bounds of all symbols and of the conditions that many of them share; one pass in the order of needs.
+//! - [`expression`]: the bounds of an expression, [`conditions`] of what a line depends on.
+//! - [`truths`]: the bounds of a bool or tristate symbol, from those of what it needs.
+//! - [`dead`]: the prompts that no input can make visible, and the values that no input can give.
+
+pub mod bounds;
+mod conditions;
+pub mod dead;
+mod expression;
+pub mod possible;
+mod truths;

@@ -1,0 +1,10 @@
+use Rattle.std.proofs.Common.{arith}
+use Rattle.kc_language.specs.Symbols.{dependency_in}
+use Rattle.kc_values.specs.NeedRows.{when_names}
+use Rattle.kc_values.proofs.RowSteps.{lines_added}
+use Rattle.kc_values.proofs.needs.depends_into.Goals as goal
+
+pub returns : goal.returns
+returns c =
+    lines_added (λ line. when_names c.args.layout.now.modules (dependency_in line)) c.args.out.now c.loop-line.out c.args.attributes.now c.loop-line.line-index (omega arith)
+    c.loop-line.invariant.0 c.loop-line.invariant.1

@@ -1,0 +1,1 @@
+# CONFIG_USB is not set
