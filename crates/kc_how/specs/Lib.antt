@@ -1,0 +1,3 @@
+pub mod How
+pub mod FixTexts
+pub mod Questions

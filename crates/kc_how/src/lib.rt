@@ -1,0 +1,19 @@
+#![tactic(auto)]
+//! What must be set so that a symbol has a value: a fragment that works and has no line too many, or that no input works.
+//!
+//! A search suggests fragments; nothing is promised of it but that it ends. What is promised is checked on its answer.
+//!
+//! - [`question`]: what is asked, of which tree and input. [`goal`]: a symbol and the value that it shall have.
+//! - [`answer`]: the answer, with what is proved of it. [`text`]: how it is told.
+//! - [`lines`]: the lines of a fragment. [`merged`]: the user's values of two inputs.
+//! - [`facts`] and [`plan`]: what a goal needs, and the cheapest lines that give it. [`search`]: the fragments that are tried.
+
+pub mod answer;
+mod facts;
+pub mod goal;
+mod lines;
+mod merged;
+mod plan;
+pub mod question;
+mod search;
+pub mod text;
