@@ -19,7 +19,7 @@ pub enum Answer {
 }
 
 /// Searches a fix for the question (our own). The only error is that memory runs out.
-pub fn answer(alloc: Global, question: &Question<'_, '_, '_, '_>) -> Result<Answer, AllocError>
+pub fn answered(alloc: Global, question: &Question<'_, '_, '_, '_>) -> Result<Answer, AllocError>
     requires { IsQuestion question.now }
     ensures { IfOk result (Answers question.now) }
 {

@@ -39,7 +39,7 @@ pub(crate) struct Penalty {
 }
 
 /// The cheapest plan from the outcome `now` of the lines so far, or none if no plan gives the goal.
-pub(crate) fn plan(
+pub(crate) fn cheapest(
     alloc: Global,
     question: &Question<'_, '_, '_, '_>,
     now: &Solved<'_>,
