@@ -5,11 +5,12 @@
 //!
 //! - [`question`]: what is asked, of which tree and input. [`goal`]: a symbol and the value that it shall have.
 //! - [`answer`]: the answer, with what is proved of it. [`text`]: how it is told.
-//! - [`lines`]: the lines of a fragment. [`merged`]: the user's values of two inputs.
+//! - [`lines`]: the lines of a fragment. [`merged`]: the user's values of two inputs. [`fix`]: the check of a fragment.
 //! - [`facts`] and [`plan`]: what a goal needs, and the cheapest lines that give it. [`search`]: the fragments that are tried.
 
 pub mod answer;
 mod facts;
+pub mod fix;
 pub mod goal;
 mod lines;
 mod merged;
