@@ -5,6 +5,7 @@
 //!
 //! - [`question`]: what is asked, of which tree and input. [`goal`]: a symbol and the value that it shall have.
 //! - [`answer`]: the answer, with what is proved of it. [`text`]: how it is told.
+//! - [`shown`]: values of symbols.
 //! - [`lines`]: the lines of a fragment. [`merged`]: the user's values of two inputs. [`fix`]: the check of a fragment.
 //! - [`facts`] and [`plan`]: what a goal needs, and the cheapest lines that give it. [`search`]: the fragments that are tried.
 
@@ -17,4 +18,5 @@ mod merged;
 mod plan;
 pub mod question;
 mod search;
+mod shown;
 pub mod text;
