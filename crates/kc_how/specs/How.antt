@@ -1,8 +1,9 @@
 -- Trusted: What must be set so that a symbol has a value: a fragment that works and has no line too many, or that no input works.
 -- Our own. The rules are `IsFix` and `IsOutOfReach`.
 use Rattle.std.specs.{List.{flat_map, list_all, list_any}, Option.option_or, Prelude.{Bool, List, None, Option, Some, [], codes, drop, false, if◌then◌else◌, length, not, take, true, ℕ, ◌&&◌, ◌++◌, ◌+◌, ◌<◌, ◌||◌, ◌∷◌, ◌≡◌, nat_le}}
-use Rattle.kc_language.specs.{ConfigFile.{Notation, ReadResult, UserInput, place_at, reading_of, value_by}, Symbols.{TreeFacts, Warning}, Text.{longest_value}, Texts.{IsSolutionFor, Solution, known, read_alone, warnings_of}, Values.{GivenText, GivenValue, SymbolPlace, Solves, UserPlace, equations, facts, given_of, known_from, name, name_count, same_given}, Expressions.{SymbolValue, truth_of_value}, declared.{diagnostics.Warning.TheVariants.{Selected}, expressions.{SymId.SymId, SymbolType.{SymbolType, TheVariants.{Str}}, Tri.TheVariants.{N}}}}
+use Rattle.kc_language.specs.{ConfigFile.{Notation, ReadResult, UserInput, place_at, reading_of, value_by}, Symbols.{TreeFacts, Warning}, Text.{longest_value}, Texts.{IsSolutionFor, Solution, known, read_alone, warnings_of}, Values.{GivenText, GivenValue, SymbolPlace, UserPlace, facts, given_of, known_from, name, same_given}, Expressions.{SymbolValue}, declared.{diagnostics.Warning.TheVariants.{Selected}, expressions.{SymId.SymId, SymbolType.{SymbolType, TheVariants.{Str}}}}}
 use Rattle.kc_user.specs.Places.{fits_quoted}
+use Rattle.kc_possible.specs.Possible.{IsUnder}
 
 -- A symbol and the value that it shall have.
 pub record Goal : Type 0 where
@@ -64,10 +65,5 @@ module _ (tree : TreeFacts) (notation : Notation) (input : UserInput) (before : 
 -- ---- What no input does
 -- No input gives the symbol the value.
 abbrev pub IsOutOfReach : TreeFacts → Goal → Type 0
-IsOutOfReach tree goal = (user : UserPlace → Option GivenValue) (V : ℕ → SymbolValue) → Solves (name_count tree) (equations tree user) V →
+IsOutOfReach tree goal = (user : UserPlace → Option GivenValue) (V : ℕ → SymbolValue) → IsUnder tree user V →
     same_given goal.value (given_of (known_from tree V goal.symbol)) ≡ false
-
--- Under any input the symbol is n, or is no bool or tristate.
-abbrev pub IsOff : TreeFacts → SymId → Type 0
-IsOff tree s = (user : UserPlace → Option GivenValue) (V : ℕ → SymbolValue) → Solves (name_count tree) (equations tree user) V →
-    truth_of_value (known_from tree V s) ≡ N

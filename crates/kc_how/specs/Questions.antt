@@ -1,10 +1,10 @@
 -- For proofs: What is asked, and what is promised of the answer.
 use Rattle.std.specs.Prelude.{All, Bool, List, map, true, ◌<◌, ◌≡◌}
 use Rattle.kc_language.specs.{ConfigFile.ArePlacesOf, Texts.IsSolutionFor, Values.name_count}
-use Rattle.kc_possible.specs.Possible.{IsSound}
+use Rattle.kc_possible.specs.Possible.{IsOff, IsSound}
 use Rattle.kc_solve.specs.Orders.{IsOrderOf}
 use Rattle.kc_user.specs.ValueView.{given_of_value}
-use Rattle.kc_how.specs.{How.{Goal, IsFix, IsOff, IsOutOfReach, fragment_alone, with_fragment}, declared.{answer.Answer.{Answer, TheVariants.{Found, Impossible, NotFound}}, goal.Goal.Goal as AskedGoal, question.Question.Question, text.Fix.Fix}}
+use Rattle.kc_how.specs.{How.{Goal, IsFix, IsOutOfReach, fragment_alone, with_fragment}, declared.{answer.Answer.{Answer, TheVariants.{Found, Impossible, NotFound}}, goal.Goal.Goal as AskedGoal, question.Question.Question, text.Fix.Fix}}
 
 -- what shall hold
 abbrev pub goal_of : AskedGoal → Goal

@@ -22,6 +22,10 @@ abbrev pub AreSomeOf : List SymId → List SymId → Type 0
 AreSomeOf some [] = some ≡ []
 AreSomeOf some (s ∷ all) = AreSomeOf some all ⊎ ((rest : List SymId) × (some ≡ s ∷ rest) × AreSomeOf rest all)
 
+-- Under any input the symbol is n, or is no bool or tristate.
+abbrev pub IsOff : TreeFacts → SymId → Type 0
+IsOff tree s = (user : UserPlace → Option GivenValue) (V : ℕ → SymbolValue) → IsUnder tree user V → truth_of_value (known_from tree V s) ≡ N
+
 -- No input gives the symbol this truth value.
 abbrev pub IsImpossible : TreeFacts → SymId → Tri → Type 0
 IsImpossible tree s t = (user : UserPlace → Option GivenValue) (V : ℕ → SymbolValue) → IsUnder tree user V → known_from tree V s ≢ Truth t

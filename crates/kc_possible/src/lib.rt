@@ -6,10 +6,12 @@
 //! - [`expression`]: the bounds of an expression, [`conditions`] of what a line depends on.
 //! - [`truths`]: the bounds of a bool or tristate symbol, from those of what it needs.
 //! - [`dead`]: the prompts that no input can make visible, and the values that no input can give.
+//! - [`reason`]: the symbols that stand in the way of a dead prompt.
 
 pub mod bounds;
 mod conditions;
 pub mod dead;
 mod expression;
 pub mod possible;
+pub mod reason;
 mod truths;
