@@ -142,7 +142,10 @@ fn is_overruled(tree: &Tree, line: &Line, later: &Line) -> bool {
 // The number of these lines whose symbols are defined before this one.
 fn place_of(tree: &Tree, lines: &[Line], symbol: SymId) -> usize {
     let own = rank(tree, symbol);
-    lines.iter().filter(|line| rank(tree, line.symbol) < own).count()
+    lines
+        .iter()
+        .filter(|line| rank(tree, line.symbol) < own)
+        .count()
 }
 
 /// Adds a line in its place. It takes the place of a line for the same symbol, and of one that selects in the same choice.
@@ -164,11 +167,7 @@ fn type_of(tree: &Tree, symbol: SymId) -> SymbolType {
 }
 
 // Adds the text of a line that gives the symbol of this name n.
-fn add_unset<'a>(
-    prefix: &'a [u8],
-    name: &'a [u8],
-    text: &mut Vec<u8>,
-) -> Result<(), AllocError> {
+fn add_unset<'a>(prefix: &'a [u8], name: &'a [u8], text: &mut Vec<u8>) -> Result<(), AllocError> {
     add_parts(&[b"# ", prefix, name, b" is not set"], text)
 }
 
