@@ -10,13 +10,17 @@
 //! - [`facts`] and [`plan`]: what a goal needs, and the cheapest lines that give it. [`search`]: the fragments that are tried.
 
 pub mod answer;
+mod condition_ways;
 mod facts;
 pub mod fix;
 pub mod goal;
 mod lines;
 mod merged;
+mod needs;
 mod plan;
 pub mod question;
 mod search;
 mod shown;
 pub mod text;
+mod truth_ways;
+mod ways;
