@@ -37,7 +37,7 @@ module _ (root : List ℕ) (files others : Files) (alike : ExpandsAlike root fil
   accepted_over tree x = record { built = tree_over _ x.built; accepted = x.accepted }
 
   -- what is opened over these is opened over the others
-  opened_over : (opened : List (List ℕ)) → AreOpened files root opened → AreOpened others root opened
+  pub opened_over : (opened : List (List ℕ)) → AreOpened files root opened → AreOpened others root opened
   opened_over opened are log expands = are log ((alike.gives _).1 expands)
 
   -- and the other way round
@@ -128,7 +128,7 @@ module _ (options : Options) (files others : Files) (alike : ExpandsAlike (root_
     status_is = b.status_is;
   }
 
-  ends_over : (before : TreeFacts → List ℕ) (inputs : List InputFile) (outcome : Outcome) (old new : Log) (status : Status) →
+  pub ends_over : (before : TreeFacts → List ℕ) (inputs : List InputFile) (outcome : Outcome) (old new : Log) (status : Status) →
       Completes files options inputs outcome old new status ⊎ Broken files options before inputs outcome old new status →
       Completes others options inputs outcome old new status ⊎ Broken others options before inputs outcome old new status
   ends_over before inputs outcome old new status (inl c) = inl (completes_over inputs outcome old new status c)

@@ -4,6 +4,7 @@
 //! - [`run`]: one run. [`run_each`]: many [`Configurations`] of one tree. [`run_in_folder`]: one run that loads its
 //!   files.
 //! - [`list_dead`] and [`list_dead_in_folder`]: the prompts that no input makes visible.
+//! - [`how`] and [`how_in_folder`]: what must be set so that a symbol has a value.
 //! - [`AcceptedTree`]: a tree without errors.
 //! - [`Stop`]: why a run stopped early. [`say_load_fault`] reports why files could not be loaded.
 //! - [`laws`]: laws of the outcomes of runs.
@@ -18,6 +19,7 @@ mod diagnostics;
 mod explained;
 mod folder_run;
 mod groups;
+mod how_run;
 pub mod laws;
 mod lost;
 mod lost_text;
@@ -31,6 +33,7 @@ mod stop;
 pub use accepted::AcceptedTree;
 pub use dead::{list_dead, list_dead_in_folder};
 pub use folder_run::{run_in_folder, say_load_fault};
+pub use how_run::{Asked, how, how_in_folder};
 pub use kc_options::{Delivery, Options, Output, Status, WantedOutput};
 pub use kc_read::{Cause, FileMap, Refusal};
 pub use many::{Configurations, run_each};
