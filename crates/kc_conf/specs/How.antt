@@ -3,15 +3,20 @@
 use Rattle.std.specs.Prelude.{All, Err, List, None, Option, Some, [], map, string_bytes, true, ℕ, ◌++◌, ◌∷◌, ◌≡◌, ◌⊎◌}
 use Rattle.kc_language.specs.{ConfigFile.{ReadResult, StreamLocation, UserInput}, Expansion.{AreOpened, Files, Refused}, Statements.{error_at, error_line, run_error_text}, Symbols.TreeFacts, Texts.{IsSolutionFor, Solution}, Values.{facts, type_in}, declared.{diagnostics.RunError.{RunError}, expressions.SymId.SymId}}
 use Rattle.kc_outcome.specs.{Explanations.asked_symbol, Outcome.{IsAcceptedTree, IsRefusedTree, Options, Outcome, first_line, lead, lines_text, near_text, read_of, refusal_line, refused_outcome, reported, root_file, strictly, unknown_name, unreadable_name}, declared.outcome.Status.{Status}}
-use Rattle.kc_how.specs.{FixTexts.{fix_text, impossible_text, loses_nothing, no_value_text, not_found_text}, How.{Goal, IsFix, IsOff, IsOutOfReach, wanted_value, with_fragment}}
+use Rattle.kc_how.specs.{FixTexts.{fix_text, impossible_text, loses_nothing, no_value_text, not_found_text}, How.{Goal, IsFix, IsOutOfReach, wanted_value, with_fragment}}
+use Rattle.kc_possible.specs.Possible.{IsOff}
 use Rattle.kc_io.specs.{Inputs.{AreInputs, InputFile, bytes_of, still_told}, Log.{Log, TriesToSay}}
 use Rattle.kc_load.specs.{Folder.{AreFilesOf, FolderState, IsLoadFault, Leads as FolderLeads, failed_load, files_told}, declared.fault.LoadFault.LoadFault}
-use Rattle.kc_conf.specs.{Faults.{Broken, Completes, load_line}, declared.how_run.Asked.{Asked}}
+use Rattle.kc_conf.specs.{Faults.{Broken, Completes, load_line}, declared.reply.Asked.{Asked}}
 
 -- ---- What is asked
 -- The symbol that is asked about: the one of the first name to be explained.
 abbrev pub asked_first : Options → TreeFacts → Option SymId
 asked_first options tree = elim options.explain.items [ [] ↦ None | name ∷ _ ↦ asked_symbol tree options.prefix.prefix (string_bytes name) ]
+
+-- This text is told, for each output.
+abbrev pub told : Options → List ℕ → Outcome
+told options text = record { texts = map (λ wanted. text) options.outputs.items; warned = []; refusal = []; status = Status.Done }
 
 module _ (options : Options) (asked : Asked) (tree : TreeFacts) where
   -- This symbol shall have this value: the one that the text asks for, for a symbol of its type.
@@ -20,20 +25,16 @@ module _ (options : Options) (asked : Asked) (tree : TreeFacts) where
     pub value : wanted_value options.prefix.is_raw (type_in (facts tree goal.symbol)) asked.value.now ≡ Some goal.value
 
   -- ---- The answer
-  -- This text is told, for each output.
-  abbrev pub told : List ℕ → Outcome
-  told text = record { texts = map (λ wanted. text) options.outputs.items; warned = []; refusal = []; status = Status.Done }
-
   -- What is told about an input with this solution: the text of a fix, which under --strict loses no value of the user but those that it overrides; or why
   -- there is none. That none was found promises nothing.
   pub data IsToldOf (input : UserInput) (solution : Solution) (outcome : Outcome) : Type 0 where
-    nothing_asked : asked_first options tree ≡ None → outcome ≡ told [] → IsToldOf input solution outcome
+    nothing_asked : asked_first options tree ≡ None → outcome ≡ told options [] → IsToldOf input solution outcome
     no_value : (s : SymId) → asked_first options tree ≡ Some s → wanted_value options.prefix.is_raw (type_in (facts tree s)) asked.value.now ≡ None →
         outcome ≡ refused_outcome (no_value_text tree options.prefix s asked.value.now) → IsToldOf input solution outcome
     fixed : (goal : Goal) (lines : List (List ℕ)) (after : Solution) → IsGoal goal → IsFix tree options.prefix input solution goal lines →
         IsSolutionFor tree (with_fragment tree options.prefix input lines).places after →
         (options.strict ≡ true → loses_nothing tree options.prefix input solution after lines ≡ true) →
-        outcome ≡ told (fix_text tree options.prefix input solution after lines goal) → IsToldOf input solution outcome
+        outcome ≡ told options (fix_text tree options.prefix input solution after lines goal) → IsToldOf input solution outcome
     impossible : (goal : Goal) (reasons : List SymId) → IsGoal goal → IsOutOfReach tree goal → All (IsOff tree) reasons →
         outcome ≡ refused_outcome (impossible_text tree options.prefix goal reasons) → IsToldOf input solution outcome
     not_found : (goal : Goal) → IsGoal goal → outcome ≡ refused_outcome (not_found_text tree options.prefix goal asked.steps) → IsToldOf input solution outcome

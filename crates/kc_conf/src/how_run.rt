@@ -1,22 +1,205 @@
 //! A run that tells what must be set so that a symbol has a value.
 ghost use Rattle.kc_read.specs.Files.{files_in};
-ghost use Rattle.kc_conf.specs.How.{FolderHowRuns, HowRuns};
+ghost use Rattle.std.specs.Prelude.{◌≡◌, ◌++◌, [], IfOk, None, map, option_map};
+ghost use Rattle.kc_language.specs.Expansion.{Files};
+ghost use Rattle.kc_io.specs.Delivered.{text_view};
+ghost use Rattle.kc_io.specs.Delivery.{texts_of};
+ghost use Rattle.kc_io.specs.Log.{Leads, Log};
+ghost use Rattle.kc_outcome.specs.Outcome.{Options, is_not_empty, lines_text};
+ghost use Rattle.kc_conf.specs.Accepted.{IsAcceptedOf, IsReady};
+ghost use Rattle.kc_conf.specs.Endings.{Finishes, Refuses};
+ghost use Rattle.kc_conf.specs.Faults.{AreLines, refused_name_of};
+ghost use Rattle.kc_conf.specs.How.{FolderHowRuns, HowRuns, IsHowOutcome, told};
+ghost use Rattle.kc_conf.specs.HowParts.{given_unless};
+ghost use Rattle.kc_conf.specs.PartRuns.{Leaves};
+ghost use Rattle.kc_conf.specs.PartsOfFaults.{said_of_tree};
+ghost use Rattle.kc_conf.specs.Reads.{IsWholeEnd};
 
-use crate::accepted::AcceptedTree;
+use crate::accepted::{AcceptedTree, OrderedTree, read_tree};
+use crate::compute::{has_warnings, is_warned_by, names_if};
+use crate::diagnostics::{say_lines, say_parts};
 use crate::folder_run::say_load_fault;
-use kc_io::Device;
+use crate::laws::{exactly_one_outcome, one_answer};
+use crate::names::{refuse_name, refused_among};
+use crate::reading::{Streams, Waiting, read_inputs, stream_names};
+use crate::reply::{Asked, Reply, reply_about};
+use crate::runs::{answer, finish, finish_long, fresh_input, refuse, say_waiting};
+use crate::stop::Stop;
+use kc_io::{Device, Text};
 use kc_load::{Folder, load};
-use kc_options::{Options, Status};
+use kc_options::{Options, Status, holds_warnings, wants_sources};
 use kc_read::file_map::FileMap;
-use std::alloc::Global;
+use kc_read::laws::opened_are_one_list;
+use kc_tree::tree::Tree;
+use std::alloc::{AllocError, Global};
 
-/// What is asked of the symbol of the first name to be explained (our own).
-#[derive(Clone, Copy, Debug)]
-pub struct Asked<'w> {
-    /// The value that it shall have, as it stands right of the `=` of a `.config` line. A string may also stand without quotes.
-    pub value: &'w str,
-    /// The number of fragments that may be tried.
-    pub steps: usize,
+// ---- how a run ends
+
+// Refuses with these lines.
+fn refuse_with<D: Device>(lines: &[u8], device: &mut D) -> Result<Status, Stop<'static>>
+    requires { IsWholeEnd lines.now }
+    ensures { Refuses lines.now result (D.log device.old) (D.log device.new) }
+{
+    match say_parts(device, &[lines]) {
+        Ok(()) => Ok(Status::Refused),
+        Err(stop) => Err(stop),
+    }
+}
+
+// Reports the waiting diagnostics, then refuses with these lines.
+fn finish_refused<D: Device>(
+    waiting: &[u8],
+    lines: &[u8],
+    device: &mut D,
+) -> Result<Status, Stop<'static>>
+    requires waiting { AreLines waiting.now }
+    requires lines { IsWholeEnd lines.now }
+    ensures { (options : Options) → Finishes options (waiting.now ++ lines.now) [] Status.Refused result (D.log device.old) (D.log device.new) }
+{
+    match say_waiting(waiting, device) {
+        Ok(()) => refuse_with(lines, device),
+        Err(stop) => Err(stop),
+    }
+}
+
+// The text for each output.
+fn texts_by<'o>(
+    alloc: Global,
+    options: &'o Options,
+    text: &[u8],
+) -> Result<Vec<Text<'o>>, AllocError>
+    ensures { IfOk result (λ texts. map text_view texts.items ≡ texts_of options.now (told options.now text.now)) }
+{
+    let mut texts = Vec::new(alloc);
+    for wanted in &options.outputs {
+        texts.push(Text {
+            name: wanted.file.as_str(),
+            bytes: Vec::from_slice(alloc, text)?,
+        })?;
+    }
+    Ok(texts)
+}
+
+// The same; none if --strict-tree refuses the warnings.
+fn texts_unless<'o>(
+    alloc: Global,
+    options: &'o Options,
+    tree: &Tree,
+    waiting: &[u8],
+    text: &[u8],
+) -> Result<Option<Vec<Text<'o>>>, AllocError>
+    ensures { IfOk result (λ texts. option_map (λ texts. map text_view texts.items) texts
+        ≡ given_unless options.now (is_not_empty (lines_text tree.now.warnings)) waiting.now text.now) }
+{
+    if options.strict_tree && is_warned_by(has_warnings(tree), waiting) {
+        return Ok(None);
+    }
+    let texts = texts_by(alloc, options, text)?;
+    Ok(Some(texts))
+}
+
+// ---- the run
+
+// Replies to the input files of an accepted tree, after the tree's warnings.
+fn how_inputs<'o, D: Device>(
+    alloc: Global,
+    options: &'o Options,
+    asked: &Asked<'_>,
+    accepted: &OrderedTree<'_>,
+    device: &mut D,
+) -> Result<Status, Stop<'o>>
+    requires ready { IsReady accepted.now }
+    requires taken { refused_name_of options.now accepted.now.opened.now accepted.now.laid.tree.now ≡ None }
+    ensures { (files : Files) (start : Log) → IsAcceptedOf files options.now accepted.now →
+        Leads [] (said_of_tree accepted.now.laid.tree.now) start (D.log device.old) →
+        Leaves files options.now said_of_tree (IsHowOutcome files options.now asked.now) result start (D.log device.new) }
+{
+    one_answer();
+    exactly_one_outcome();
+    let tree = accepted.laid.tree;
+    let names_told = stream_names(alloc, options)?;
+    let mut user = fresh_input(alloc, options, tree)?;
+    let mut waiting = Waiting {
+        holds: holds_warnings(options),
+        text: Vec::new(alloc),
+    };
+    let streams = Streams {
+        names: &names_told,
+        tree,
+        prefix: &options.prefix,
+    };
+    let long = match read_inputs(alloc, options, streams, device, &mut user, &mut waiting) {
+        Ok(long) => long,
+        Err(stop) => return Err(stop),
+    };
+    if let Some(long) = long {
+        return finish_long(&waiting.text, long, device);
+    }
+    let reply = reply_about(alloc, options, asked, accepted, &user)?;
+    match reply {
+        Reply::Text(text) => {
+            let texts = texts_unless(alloc, options, tree, &waiting.text, &text)?;
+            finish(options, &waiting.text, texts, device)
+        }
+        Reply::Refusal(lines) => finish_refused(&waiting.text, &lines, device),
+    }
+}
+
+// Replies about an accepted tree: refuses a name, or reports the tree's warnings and goes on to the input files.
+fn how_accepted<'o, D: Device>(
+    alloc: Global,
+    options: &'o Options,
+    asked: &Asked<'_>,
+    accepted: &OrderedTree<'_>,
+    device: &mut D,
+) -> Result<Status, Stop<'o>>
+    requires { IsReady accepted.now }
+    ensures { (files : Files) → IsAcceptedOf files options.now accepted.now →
+        Leaves files options.now said_of_tree (IsHowOutcome files options.now asked.now) result (D.log device.old) (D.log device.new) }
+{
+    one_answer();
+    exactly_one_outcome();
+    let names = names_if(alloc, options, accepted.opened)?;
+    let refused = refused_among(alloc, options, &names, accepted.laid.tree)?;
+    if let Some(name) = refused {
+        return refuse_name(options, &name, device);
+    }
+    match say_lines(alloc, device, accepted.laid.tree.parse_warnings()) {
+        Ok(()) => how_inputs(alloc, options, asked, accepted, device),
+        Err(stop) => Err(stop),
+    }
+}
+
+// Replies about the tree of these files, without reporting why it stopped early.
+fn how_over<'o, D: Device>(
+    alloc: Global,
+    files: FileMap,
+    options: &'o Options,
+    asked: &Asked<'_>,
+    device: &mut D,
+    kept: &mut Option<AcceptedTree>,
+) -> Result<Status, Stop<'o>>
+    ensures { Leaves (files_in files) options.now said_of_tree (IsHowOutcome (files_in files) options.now asked.now) result (D.log device.old) (D.log device.new) }
+{
+    exactly_one_outcome();
+    opened_are_one_list();
+    let reading = match read_tree(
+        alloc,
+        files,
+        options.kconfig.as_bytes(),
+        wants_sources(options),
+    ) {
+        Ok(reading) => reading,
+        Err(refusal) => return refuse(&refusal, device),
+    };
+    let accepted = match reading.ordered(alloc) {
+        Ok(accepted) => accepted,
+        Err(refusal) => return refuse(&refusal, device),
+    };
+    let ended = how_accepted(alloc, options, asked, &accepted, device);
+    let order = accepted.order;
+    *kept = Some(AcceptedTree { reading, order });
+    ended
 }
 
 /// Reads the tree and the input files like [`run`](crate::run), and writes, replaces or compares a text for each output of the
@@ -38,7 +221,8 @@ pub fn how<D: Device>(
 ) -> Status
     ensures { HowRuns (files_in files) options.now asked.now (D.log device.old) (D.log device.new) result }
 {
-    Status::Faulted
+    let ended = how_over(alloc, files, options, asked, device, kept);
+    answer(options, ended, device).status
 }
 
 /// Loads the files of a folder, and tells like [`how`] (our own). If a file of the tree cannot be read (E18), or there is not

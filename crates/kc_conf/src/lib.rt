@@ -27,15 +27,17 @@ mod many;
 mod names;
 mod new_symbols;
 mod reading;
+mod reply;
 mod runs;
 mod stop;
 
 pub use accepted::AcceptedTree;
 pub use dead::{list_dead, list_dead_in_folder};
 pub use folder_run::{run_in_folder, say_load_fault};
-pub use how_run::{Asked, how, how_in_folder};
+pub use how_run::{how, how_in_folder};
 pub use kc_options::{Delivery, Options, Output, Status, WantedOutput};
 pub use kc_read::{Cause, FileMap, Refusal};
 pub use many::{Configurations, run_each};
+pub use reply::Asked;
 pub use runs::run;
 pub use stop::Stop;

@@ -1,0 +1,172 @@
+//! What a run replies that is asked what must be set so that a symbol has a value.
+ghost use Rattle.std.specs.Prelude.{All, IfOk, Some, map, ◌<◌, ◌≡◌};
+ghost use Rattle.kc_language.specs.ConfigFile.{ArePlacesOf};
+ghost use Rattle.kc_language.specs.Values.{name_count};
+ghost use Rattle.kc_language.specs.declared.expressions.SymId.{SymId};
+ghost use Rattle.kc_possible.specs.Possible.{IsOff};
+ghost use Rattle.kc_how.specs.How.{IsFix, IsOutOfReach};
+ghost use Rattle.kc_how.specs.Questions.{IsQuestion, goal_of};
+ghost use Rattle.kc_conf.specs.Accepted.{IsReady};
+ghost use Rattle.kc_conf.specs.How.{asked_first};
+ghost use Rattle.kc_conf.specs.HowParts.{IsReply, Replies};
+
+use crate::accepted::OrderedTree;
+use kc_explain::asked_symbol;
+use kc_expr::expression::SymId;
+use kc_expr::values::Values;
+use kc_how::answer::{Answer, answered};
+use kc_how::fix::{fragment_alone, with_fragment};
+use kc_how::goal::{Goal, wanted_value};
+use kc_how::question::Question;
+use kc_how::text::{Fix, fix_text, impossible_text, loses_nothing, no_value_text, not_found_text};
+use kc_input::user_input::UserInput;
+use kc_options::Options;
+use kc_possible::possible::Possible;
+use kc_solve::solve::solve;
+use kc_tree::tree::Tree;
+use std::alloc::{AllocError, Global};
+
+/// What is asked of the symbol of the first name to be explained (our own).
+#[derive(Clone, Copy, Debug)]
+pub struct Asked<'w> {
+    /// The value that it shall have, as it stands right of the `=` of a `.config` line. A string may also stand without quotes.
+    pub value: &'w str,
+    /// The number of fragments that may be tried.
+    pub steps: usize,
+}
+
+/// A reply.
+#[derive(Drop)]
+pub(crate) enum Reply {
+    /// This text, for each output.
+    Text(Vec<u8>),
+    /// The lines of a refusal.
+    Refusal(Vec<u8>),
+}
+
+// ---- to a question
+
+// No fix was found.
+fn not_found(alloc: Global, question: &Question<'_, '_, '_, '_>) -> Result<Reply, AllocError>
+    ensures { IfOk result (Replies question.now) }
+{
+    let text = not_found_text(
+        alloc,
+        question.laid.tree,
+        question.prefix,
+        question.goal,
+        question.steps,
+    )?;
+    Ok(Reply::Refusal(text))
+}
+
+// No input reaches the goal, and these symbols are off.
+fn impossible(
+    alloc: Global,
+    question: &Question<'_, '_, '_, '_>,
+    reasons: &[SymId],
+) -> Result<Reply, AllocError>
+    requires { IsOutOfReach question.now.laid.now.tree.now (goal_of question.now.goal.now) × All (IsOff question.now.laid.now.tree.now) reasons.now }
+    ensures { IfOk result (Replies question.now) }
+{
+    let text = impossible_text(
+        alloc,
+        question.laid.tree,
+        question.prefix,
+        question.goal,
+        reasons,
+    )?;
+    Ok(Reply::Refusal(text))
+}
+
+// A fragment of these lines is a fix. Where no value may be lost, it counts only if it loses none.
+fn fixed(
+    alloc: Global,
+    question: &Question<'_, '_, '_, '_>,
+    lines: &[Vec<u8>],
+) -> Result<Reply, AllocError>
+    requires question { IsQuestion question.now }
+    requires fix { IsFix question.now.laid.now.tree.now question.now.prefix.now question.now.input.now question.now.before.now (goal_of question.now.goal.now)
+        (map (λ line. line.items) lines.now) }
+    ensures { IfOk result (Replies question.now) }
+{
+    let alone = fragment_alone(alloc, question, lines)?;
+    let user = with_fragment(alloc, question, lines)?;
+    let after = solve(alloc, question.laid, question.order, &user)?;
+    let fix = Fix {
+        lines,
+        alone: &alone,
+        after: &after,
+    };
+    if question.is_strict && !loses_nothing(question, &fix) {
+        return not_found(alloc, question);
+    }
+    let text = fix_text(alloc, question, &fix)?;
+    Ok(Reply::Text(text))
+}
+
+// The reply to a question.
+fn reply_to(alloc: Global, question: &Question<'_, '_, '_, '_>) -> Result<Reply, AllocError>
+    requires { IsQuestion question.now }
+    ensures { IfOk result (Replies question.now) }
+{
+    let answer = answered(alloc, question)?;
+    match answer {
+        Answer::Found(lines) => fixed(alloc, question, &lines),
+        Answer::Impossible(reasons) => impossible(alloc, question, &reasons),
+        Answer::NotFound => not_found(alloc, question),
+    }
+}
+
+// ---- about an input
+
+// The symbol of the first name to be explained, if there is one.
+fn asked_first(options: &Options, tree: &Tree) -> Option<SymId>
+    ensures symbol { result ≡ asked_first options.now tree.now }
+    ensures there { (s : SymId) → result ≡ Some s → s.0 < name_count tree.now }
+{
+    let _count = tree.name_count();
+    match options.explain.as_slice() {
+        [] => None,
+        [name, ..] => asked_symbol(tree, &options.prefix, name.as_bytes()),
+    }
+}
+
+/// The reply about the user's input of an accepted tree. The caller must pass an order and user values of the tree. The only
+/// error is that memory runs out.
+pub(crate) fn reply_about<'q>(
+    alloc: Global,
+    options: &'q Options,
+    asked: &Asked<'_>,
+    accepted: &'q OrderedTree<'_>,
+    input: &'q UserInput<'_>,
+) -> Result<Reply, AllocError>
+    requires ready { IsReady accepted.now }
+    requires places { ArePlacesOf accepted.now.laid.tree.now input.now.places }
+    ensures { IfOk result (IsReply options.now asked.now accepted.now.laid.tree.now input.now) }
+{
+    let laid = &accepted.laid;
+    let before = solve(alloc, laid, &accepted.order, input.user())?;
+    let Some(symbol) = asked_first(options, laid.tree) else {
+        return Ok(Reply::Text(Vec::new(alloc)));
+    };
+    let symbol_type = before.symbol_type(symbol);
+    let text = asked.value.as_bytes();
+    let Some(value) = wanted_value(alloc, symbol_type, text, options.prefix.is_raw())? else {
+        let line = no_value_text(alloc, laid.tree, &options.prefix, symbol, asked.value)?;
+        return Ok(Reply::Refusal(line));
+    };
+    let possible = Possible::of(alloc, laid, accepted.order.nodes())?;
+    let question = Question {
+        laid,
+        order: &accepted.order,
+        possible: &possible,
+        prefix: &options.prefix,
+        input,
+        before: &before,
+        goal: &Goal { symbol, value },
+        steps: asked.steps,
+        is_strict: options.strict,
+    };
+    reply_to(alloc, &question)
+}
