@@ -6,7 +6,7 @@ use Rattle.kc_load.specs.Loading.{ExpandsAlike}
 use Rattle.kc_outcome.specs.Outcome.{Options, Outcome, root_file}
 use Rattle.kc_outcome.specs.declared.outcome.Status.{Status}
 use Rattle.kc_conf.specs.How.{HowRuns, IsHowOutcome, IsLenientHow, accepted_tree, refused_name, refused_tree, unknown_symbol}
-use Rattle.kc_conf.specs.declared.how_run.Asked.{Asked}
+use Rattle.kc_conf.specs.declared.reply.Asked.{Asked}
 use Rattle.kc_conf.proofs.FolderLemmas.{accepted_over, ends_over, opened_over, refused_over}
 
 -- ---- a folder's files

@@ -31,3 +31,4 @@ pub mod SeparateLemmas
 pub mod AmongLemmas
 pub mod FolderLemmas
 pub mod DeadLemmas
+pub mod HowLemmas
