@@ -1,6 +1,7 @@
 //! Fragments that were suggested, and whether one is a fix.
 
 ghost use Rattle.std.specs.Prelude.{◌≡◌, IfOk, map};
+ghost use Rattle.kc_language.specs.ConfigFile.{ArePlacesOf};
 ghost use Rattle.kc_how.specs.How as spec;
 ghost use Rattle.kc_how.specs.Questions.{IsQuestion};
 
@@ -26,7 +27,8 @@ pub fn with_fragment(
     lines: &[Vec<u8>],
 ) -> Result<User, AllocError>
     requires { IsQuestion question.now }
-    ensures { IfOk result (λ user. user ≡ (spec.with_fragment question.now.laid.now.tree.now question.now.prefix.now question.now.input.now (map (λ line. line.items) lines.now)).places) }
+    ensures user { IfOk result (λ user. user ≡ (spec.with_fragment question.now.laid.now.tree.now question.now.prefix.now question.now.input.now (map (λ line. line.items) lines.now)).places) }
+    ensures places { IfOk result (λ user. ArePlacesOf question.now.laid.now.tree.now user) }
 {
     Err(AllocError)
 }
