@@ -11,14 +11,18 @@
 
 pub mod answer;
 mod condition_ways;
+mod costs;
 mod facts;
 pub mod fix;
 pub mod goal;
 mod lines;
+mod memo;
 mod merged;
 mod needs;
 mod plan;
+mod prices;
 pub mod question;
+mod relations;
 mod search;
 mod shown;
 pub mod text;

@@ -1,0 +1,177 @@
+//! What lines and losses cost.
+
+use crate::facts::{Aim, Fact, Outcome};
+use crate::lines::Line;
+use crate::needs::Give;
+use kc_expr::expression::{SymId, Tri};
+use kc_expr::values::truth_of;
+use kc_tree::rows::ChoiceId;
+use kc_user::value::UserValue;
+use kc_values::conditions::mode_of;
+
+/// A fact of a plan, and the number of the way to it that was taken.
+#[derive(Clone, Copy, Debug, PartialEq, Eq)]
+pub(crate) struct Step {
+    pub fact: Fact,
+    pub way: usize,
+}
+
+/// What is to be avoided: a way to a fact, or a line that gives this symbol a value.
+#[derive(Clone, Copy, Debug, PartialEq, Eq)]
+pub(crate) enum Blame {
+    Step(Step),
+    Line(SymId),
+}
+
+/// How much more that costs.
+#[derive(Clone, Copy, Debug)]
+pub(crate) struct Penalty {
+    pub blame: Blame,
+    pub more: u32,
+}
+
+/// What sets the prices: an outcome, the lines so far, and what is to be avoided.
+#[derive(Clone, Copy)]
+pub(crate) struct Prices<'a> {
+    pub outcome: Outcome<'a>,
+    pub lines: &'a [Line],
+    pub penalties: &'a [Penalty],
+}
+
+// The cost of a line, of one that contradicts an earlier one, and of one that gives a text.
+const LINE: u32 = 100;
+
+const CONTRADICTION: u32 = 3000;
+
+const TEXT_LINE: u32 = 110;
+
+const OTHER_TEXT: u32 = 150;
+
+// Whether a value is less than another one.
+fn is_less(a: Tri, b: Tri) -> bool {
+    match (a, b) {
+        (Tri::N, Tri::M) | (Tri::N, Tri::Y) | (Tri::M, Tri::Y) => true,
+        _ => false,
+    }
+}
+
+impl<'a> Prices<'a> {
+    /// How much more something costs, since it is to be avoided.
+    pub(crate) fn penalty(&self, blame: Blame) -> u32 {
+        let mut sum = 0u32;
+        for penalty in self.penalties {
+            if penalty.blame == blame {
+                sum = sum.saturating_add(penalty.more);
+            }
+        }
+        sum
+    }
+
+    // Whether one of the lines so far gives a symbol this value; none if no line is about it.
+    fn has_line(&self, id: SymId, value: Tri) -> Option<bool> {
+        for line in self.lines {
+            if line.symbol.0 == id.0 {
+                return Some(match &line.value {
+                    UserValue::Tri(given) => *given == value,
+                    UserValue::Text(_) => false,
+                });
+            }
+        }
+        None
+    }
+
+    // The value of a symbol for the user's input.
+    fn before(&self, id: SymId) -> Tri {
+        truth_of(id, self.outcome.before)
+    }
+
+    // Whether the user gave a symbol a value, which is in force.
+    fn is_held(&self, id: SymId) -> bool {
+        let before = self.outcome.before;
+        match before.user().symbols().get(id.0) {
+            Some(UserValue::Tri(value)) => {
+                *value == self.before(id) && before.visibility(id) != Tri::N
+            }
+            _ => false,
+        }
+    }
+
+    // What it costs to choose another member than before.
+    fn member_cost(&self, choice: ChoiceId, id: SymId) -> u32 {
+        let before = self.outcome.before;
+        let mut cost = 0u32;
+        if self.before(id) == Tri::N && mode_of(before.table(), choice) != Tri::N {
+            cost = 200;
+        }
+        match before.user().choices().get(choice.0 as usize) {
+            Some(Some(chosen)) if chosen.0 != id.0 => cost.saturating_add(80),
+            _ => cost,
+        }
+    }
+
+    // What a line costs that gives a symbol a value, besides that it is a line.
+    fn change_cost(&self, id: SymId, value: Tri) -> u32 {
+        if let Some(row) = self.outcome.layout.symbol(id) {
+            if let Some(choice) = row.choice.get() {
+                return self.member_cost(choice, id);
+            }
+        }
+        let is_given = self.outcome.before.user().symbols().get(id.0).is_some();
+        if is_given && is_less(self.before(id), value) {
+            10
+        } else {
+            0
+        }
+    }
+
+    // The cost of a line that gives a symbol a truth value.
+    fn truth_line(&self, id: SymId, value: Tri) -> u32 {
+        match self.has_line(id, value) {
+            Some(true) => 0,
+            Some(false) => CONTRADICTION,
+            None if id.0 == self.outcome.goal.symbol.0 => LINE,
+            None => LINE.saturating_add(self.change_cost(id, value)),
+        }
+    }
+
+    /// The cost of a line that gives a symbol a text.
+    pub(crate) fn text_line(&self, id: SymId) -> u32 {
+        let cost = if self.outcome.is_given(id) {
+            OTHER_TEXT
+        } else {
+            TEXT_LINE
+        };
+        cost.saturating_add(self.penalty(Blame::Line(id)))
+    }
+
+    /// The cost of the line that a way needs.
+    pub(crate) fn line(&self, give: Give) -> u32 {
+        match give {
+            Give::Nothing => 0,
+            Give::Truth(id, value) => self
+                .truth_line(id, value)
+                .saturating_add(self.penalty(Blame::Line(id))),
+            Give::GoalText => LINE,
+        }
+    }
+
+    // What is lost if a symbol is at most m, or is n.
+    fn loss_of(&self, id: SymId, aim: Aim) -> u32 {
+        if id.0 == self.outcome.goal.symbol.0 || aim.is_met(self.before(id)) {
+            return 0;
+        }
+        match self.outcome.layout.modules {
+            Some(modules) if modules.0 == id.0 => 5000,
+            _ if aim == Aim::AtMostN && self.is_held(id) => 150,
+            _ => 40,
+        }
+    }
+
+    /// What is lost with a fact, on any way.
+    pub(crate) fn loss(&self, fact: Fact) -> u32 {
+        match fact {
+            Fact::Truth(id, aim) if !aim.is_least() => self.loss_of(id, aim),
+            _ => 0,
+        }
+    }
+}
