@@ -8,6 +8,7 @@
 //! - [`shown`]: values of symbols.
 //! - [`lines`]: the lines of a fragment. [`merged`]: the user's values of two inputs. [`fix`]: the check of a fragment.
 //! - [`facts`] and [`plan`]: what a goal needs, and the cheapest lines that give it. [`search`]: the fragments that are tried.
+//! - [`reached`]: whether the goal is reached. [`minimal`]: what is needed of a fragment. [`rank`]: what it costs the user.
 
 pub mod answer;
 mod condition_ways;
@@ -18,10 +19,14 @@ pub mod goal;
 mod lines;
 mod memo;
 mod merged;
+mod minimal;
 mod needs;
+mod penalties;
 mod plan;
 mod prices;
 pub mod question;
+mod rank;
+mod reached;
 mod relations;
 mod search;
 mod shown;
