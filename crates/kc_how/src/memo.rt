@@ -7,8 +7,10 @@ use std::alloc::{AllocError, Global};
 /// The cost of what cannot be had. Every other cost is less.
 pub(crate) const IMPOSSIBLE: u32 = 1_000_000_000;
 
-// The cost of a fact that is not known yet.
+// The cost of a fact that is not known yet: of one that was not asked for, and of one that does not hold yet.
 const UNKNOWN: u32 = u32::MAX;
+
+const ASKED: u32 = u32::MAX - 1;
 
 // The number of the way to a fact that needs none: it holds, or there is no way.
 const NO_WAY: u32 = u32::MAX;
@@ -96,11 +98,19 @@ impl Memo {
         }
     }
 
+    // What is noted as the cost of a fact.
+    fn noted(&self, fact: Fact) -> u32 {
+        match self.best.get(self.place(fact)) {
+            Some(best) => best.cost,
+            None => IMPOSSIBLE,
+        }
+    }
+
     /// The cost of a fact, if it is known.
     pub(crate) fn known(&self, fact: Fact) -> Option<u32> {
-        match self.best.get(self.place(fact)) {
-            Some(best) if best.cost != UNKNOWN => Some(best.cost),
-            _ => None,
+        match self.noted(fact) {
+            UNKNOWN | ASKED => None,
+            cost => Some(cost),
         }
     }
 
@@ -113,18 +123,24 @@ impl Memo {
         }
     }
 
-    /// The cost of a fact. Where it is not known yet it is asked for, and 0 stands for it.
-    pub(crate) fn cost(&mut self, outcome: &Outcome<'_>, fact: Fact) -> Result<u32, AllocError> {
-        if let Some(cost) = self.known(fact) {
-            return Ok(cost);
-        }
+    // Looks at a fact for the first time: whether it holds, or never does. Otherwise its cost is open.
+    fn look(&mut self, outcome: &Outcome<'_>, fact: Fact) {
         if outcome.holds(fact) {
             self.note(fact, 0, NO_WAY);
-            return Ok(0);
-        }
-        if outcome.is_excluded(fact) {
+        } else if outcome.is_excluded(fact) {
             self.note(fact, IMPOSSIBLE, NO_WAY);
-            return Ok(IMPOSSIBLE);
+        } else {
+            self.note(fact, ASKED, NO_WAY);
+        }
+    }
+
+    /// The cost of a fact. Where it is not known yet it is asked for, and 0 stands for it.
+    pub(crate) fn cost(&mut self, outcome: &Outcome<'_>, fact: Fact) -> Result<u32, AllocError> {
+        if self.noted(fact) == UNKNOWN {
+            self.look(outcome, fact);
+        }
+        if let Some(cost) = self.known(fact) {
+            return Ok(cost);
         }
         self.open.push(fact)?;
         Ok(0)

@@ -60,6 +60,9 @@ pub(crate) struct Way {
 /// The ways to a fact.
 #[derive(Drop)]
 pub(crate) struct Ways<'a> {
+    pub alloc: Global,
+    /// The outcome that they start from.
+    pub outcome: Outcome<'a>,
     /// What each of them needs.
     pub common: Vec<Need<'a>>,
     /// The ways.
@@ -140,8 +143,10 @@ pub(crate) fn fact<'a>(fact: Fact) -> Need<'a> {
 
 impl<'a> Ways<'a> {
     /// No ways.
-    pub(crate) fn new(alloc: Global) -> Ways<'a> {
+    pub(crate) fn new(alloc: Global, outcome: &Outcome<'a>) -> Ways<'a> {
         Ways {
+            alloc,
+            outcome: *outcome,
             common: Vec::new(alloc),
             list: Vec::new(alloc),
             needs: Vec::new(alloc),
@@ -184,19 +189,19 @@ impl<'a> Ways<'a> {
         Ok(())
     }
 
+    /// Adds a fact that the next way needs.
+    pub(crate) fn need_fact(&mut self, fact: Fact) -> Result<(), AllocError> {
+        self.need(Need::Part(Part::Fact(fact)))
+    }
+
     /// Adds one of several ways, or one of several things that the only way needs. Nothing is needed there that holds already.
-    pub(crate) fn one_of(
-        &mut self,
-        outcome: &Outcome<'a>,
-        need: Need<'a>,
-        is_way: bool,
-    ) -> Result<(), AllocError> {
+    pub(crate) fn one_of(&mut self, need: Need<'a>, is_way: bool) -> Result<(), AllocError> {
         if is_way {
             self.need(need)?;
             let number = self.list.len();
             return self.end(number, 0, Give::Nothing);
         }
-        if need.holds(outcome) {
+        if need.holds(&self.outcome) {
             return Ok(());
         }
         self.need(need)
@@ -229,7 +234,8 @@ impl<'a> Ways<'a> {
     }
 
     /// Whether all holds that a way needs.
-    pub(crate) fn is_met(&self, outcome: &Outcome<'a>, way: &Way) -> bool {
+    pub(crate) fn is_met(&self, way: &Way) -> bool {
+        let outcome = &self.outcome;
         for need in self.common.iter() {
             if !need.holds(outcome) {
                 return false;

@@ -2,12 +2,12 @@
 
 ghost use Rattle.kc_how.specs.Questions.{IsQuestion};
 
-use crate::costs::{expression_cost, find_costs, module_fact, operand_fact, part_cost};
+use crate::costs::{module_fact, operand_fact};
 use crate::facts::{Aim, Fact, Outcome};
 use crate::lines::Line;
 use crate::memo::{IMPOSSIBLE, Memo, plus};
 use crate::needs::{Give, Need, Part};
-use crate::prices::Prices;
+use crate::prices::{Costs, Prices};
 pub(crate) use crate::prices::{Blame, Penalty, Step};
 use crate::question::Question;
 use crate::relations::{Making, Relation, Side, facts_of, picked, swapped};
@@ -29,17 +29,68 @@ pub(crate) struct Plan {
 
 // A plan under construction.
 #[derive(Drop)]
-struct Draft {
+struct Draft<'a> {
+    alloc: Global,
     plan: Plan,
-    // What facts cost.
-    memo: Memo,
+    costs: Costs<'a>,
     // The number of the line of each symbol plus 1, or 0.
     given: Vec<u32>,
     // The facts that are still to be had.
     todo: Vec<Fact>,
 }
 
-impl Draft {
+// The value of two lines.
+fn raised(first: &UserValue, value: Tri) -> Tri {
+    match first {
+        UserValue::Tri(Tri::N) => Tri::N,
+        UserValue::Tri(given) => match value {
+            Tri::N => *given,
+            _ => greater(*given, value),
+        },
+        UserValue::Text(_) => value,
+    }
+}
+
+// The number of the cheapest part of a chain.
+fn cheapest_part(costs: &mut Costs<'_>, parts: &Parts, aim: Aim) -> Result<usize, AllocError> {
+    let mut least = costs.expression(&parts.first, aim)?;
+    let mut chosen = 0;
+    let second = costs.expression(&parts.second, aim)?;
+    if second < least {
+        least = second;
+        chosen = 1;
+    }
+    let mut number = 2usize;
+    for part in parts.rest.iter() {
+        let cost = costs.expression(part, aim)?;
+        if cost < least {
+            least = cost;
+            chosen = number;
+        }
+        number = number.saturating_add(1);
+    }
+    Ok(chosen)
+}
+
+// The number of the part of a chain that is needed, or none if all are.
+fn needed_part(costs: &mut Costs<'_>, e: &Expr, aim: Aim) -> Result<Option<usize>, AllocError> {
+    match (e, aim.is_least()) {
+        (Expr::All(parts), false) | (Expr::Any(parts), true) => {
+            Ok(Some(cheapest_part(costs, parts, aim)?))
+        }
+        _ => Ok(None),
+    }
+}
+
+// Whether the part with this number is needed.
+fn is_needed(part: Option<usize>, number: usize) -> bool {
+    match part {
+        Some(part) => part == number,
+        None => true,
+    }
+}
+
+impl<'a> Draft<'a> {
     // The line of a symbol, if it has one.
     fn line_of(&mut self, id: SymId) -> Option<&mut Line> {
         match self.given.get(id.0) {
@@ -80,6 +131,19 @@ impl Draft {
         self.add_line(id, UserValue::Text(text))
     }
 
+    // Adds the line that a way needs.
+    fn give(&mut self, give: Give) -> Result<(), AllocError> {
+        let goal = self.costs.prices.outcome.goal;
+        match (give, &goal.value) {
+            (Give::Truth(id, value), _) => self.give_truth(id, value),
+            (Give::GoalText, UserValue::Text(text)) => {
+                let copy = Vec::from_slice(self.alloc, text)?;
+                self.give_text(goal.symbol, copy)
+            }
+            _ => Ok(()),
+        }
+    }
+
     // Adds a fact that is still to be had, if there is one.
     fn need(&mut self, fact: Option<Fact>) -> Result<(), AllocError> {
         if let Some(fact) = fact {
@@ -87,270 +151,143 @@ impl Draft {
         }
         Ok(())
     }
-}
 
-// The value of two lines.
-fn raised(first: &UserValue, value: Tri) -> Tri {
-    match first {
-        UserValue::Tri(Tri::N) => Tri::N,
-        UserValue::Tri(given) => match value {
-            Tri::N => *given,
-            _ => greater(*given, value),
-        },
-        UserValue::Text(_) => value,
+    // Adds that a side of a relation has a truth value.
+    fn add_side(&mut self, side: Side, value: Tri) -> Result<(), AllocError> {
+        let (first, second) = facts_of(&self.costs.prices.outcome, side, value);
+        self.need(first)?;
+        self.need(second)
     }
-}
 
-// Adds the line that a way needs.
-fn add_give(
-    alloc: Global,
-    prices: &Prices<'_>,
-    draft: &mut Draft,
-    give: Give,
-) -> Result<(), AllocError> {
-    let goal = prices.outcome.goal;
-    match (give, &goal.value) {
-        (Give::Truth(id, value), _) => draft.give_truth(id, value),
-        (Give::GoalText, UserValue::Text(text)) => {
-            let copy = Vec::from_slice(alloc, text)?;
-            draft.give_text(goal.symbol, copy)
-        }
-        _ => Ok(()),
+    // Adds a line that gives a symbol a text in relation to another one, and that its prompt is visible.
+    fn add_text(&mut self, id: SymId, op: Op, other: &Operand) -> Result<(), AllocError> {
+        let outcome = self.costs.prices.outcome;
+        let other = text(other, outcome.now);
+        let picked = picked(self.alloc, outcome.type_of(id), op, other)?;
+        self.need(Some(Fact::Prompts(id, Aim::AtLeastM)))?;
+        self.give_text(id, picked)
     }
-}
 
-// Adds that a side of a relation has a truth value.
-fn add_side(
-    prices: &Prices<'_>,
-    draft: &mut Draft,
-    side: Side,
-    value: Tri,
-) -> Result<(), AllocError> {
-    let (first, second) = facts_of(&prices.outcome, side, value);
-    draft.need(first)?;
-    draft.need(second)
-}
-
-// Adds a line that gives a symbol a text in relation to another one, and that its prompt is visible.
-fn add_text(
-    alloc: Global,
-    prices: &Prices<'_>,
-    draft: &mut Draft,
-    relation: (Op, &Operand),
-    id: SymId,
-) -> Result<(), AllocError> {
-    let (op, operand) = relation;
-    let outcome = &prices.outcome;
-    let other = text(operand, outcome.now);
-    let picked = picked(alloc, outcome.type_of(id), op, other)?;
-    draft.need(Some(Fact::Prompts(id, Aim::AtLeastM)))?;
-    draft.give_text(id, picked)
-}
-
-// Adds what makes a relation hold.
-fn add_relation(
-    alloc: Global,
-    prices: &Prices<'_>,
-    draft: &mut Draft,
-    relation: Relation,
-    operands: &Operands,
-) -> Result<(), AllocError> {
-    let (_, making) = relation.making(prices, &mut draft.memo)?;
-    match making {
-        Making::Values(left, right) => {
-            add_side(prices, draft, relation.left, left)?;
-            add_side(prices, draft, relation.right, right)
-        }
-        Making::LeftText(id) => {
-            add_text(alloc, prices, draft, (relation.op, &operands.right), id)
-        }
-        Making::RightText(id) => {
-            let op = swapped(relation.op);
-            add_text(alloc, prices, draft, (op, &operands.left), id)
-        }
-    }
-}
-
-// The number of the cheapest part of a chain.
-fn cheapest_part(
-    prices: &Prices<'_>,
-    memo: &mut Memo,
-    parts: &Parts,
-    aim: Aim,
-) -> Result<usize, AllocError> {
-    let mut least = expression_cost(prices, memo, &parts.first, aim)?;
-    let mut chosen = 0;
-    let second = expression_cost(prices, memo, &parts.second, aim)?;
-    if second < least {
-        least = second;
-        chosen = 1;
-    }
-    let mut number = 2usize;
-    for part in parts.rest.iter() {
-        let cost = expression_cost(prices, memo, part, aim)?;
-        if cost < least {
-            least = cost;
-            chosen = number;
-        }
-        number = number.saturating_add(1);
-    }
-    Ok(chosen)
-}
-
-// The number of the part of a chain that is needed, or none if all are.
-fn needed_part(
-    prices: &Prices<'_>,
-    memo: &mut Memo,
-    e: &Expr,
-    aim: Aim,
-) -> Result<Option<usize>, AllocError> {
-    match (e, aim.is_least()) {
-        (Expr::All(parts), false) | (Expr::Any(parts), true) => {
-            Ok(Some(cheapest_part(prices, memo, parts, aim)?))
-        }
-        _ => Ok(None),
-    }
-}
-
-// Whether the part with this number is needed.
-fn is_needed(part: Option<usize>, number: usize) -> bool {
-    match part {
-        Some(part) => part == number,
-        None => true,
-    }
-}
-
-// Adds the facts of the cheapest branch of an expression that shall be so.
-fn add_expression(
-    alloc: Global,
-    prices: &Prices<'_>,
-    draft: &mut Draft,
-    e: &Expr,
-    aim: Aim,
-) -> Result<(), AllocError> {
-    match e {
-        Expr::One(o) => draft.need(operand_fact(&prices.outcome, o, aim)),
-        Expr::NotOne(o) => draft.need(operand_fact(&prices.outcome, o, aim.opposite())),
-        Expr::Not(e) => add_expression(alloc, prices, draft, e, aim.opposite()),
-        Expr::Module => draft.need(module_fact(&prices.outcome, aim)),
-        Expr::Rel(op, operands) => {
-            if aim.is_met(eval(e, prices.outcome.now)) {
-                return Ok(());
+    // Adds what makes a relation hold.
+    fn add_relation(&mut self, relation: &Relation, operands: &Operands) -> Result<(), AllocError> {
+        let (_, making) = self.costs.making(relation)?;
+        match making {
+            Making::Values(left, right) => {
+                self.add_side(relation.left, left)?;
+                self.add_side(relation.right, right)
             }
-            let relation = Relation::of(&prices.outcome, *op, operands, aim);
-            add_relation(alloc, prices, draft, relation, operands)
+            Making::LeftText(id) => self.add_text(id, relation.op, &operands.right),
+            Making::RightText(id) => self.add_text(id, swapped(relation.op), &operands.left),
         }
-        Expr::All(parts) | Expr::Any(parts) => {
-            let needed = needed_part(prices, &mut draft.memo, e, aim)?;
-            if is_needed(needed, 0) {
-                add_expression(alloc, prices, draft, &parts.first, aim)?;
-            }
-            if is_needed(needed, 1) {
-                add_expression(alloc, prices, draft, &parts.second, aim)?;
-            }
-            let mut number = 2usize;
-            for part in parts.rest.iter() {
-                if is_needed(needed, number) {
-                    add_expression(alloc, prices, draft, part, aim)?;
+    }
+
+    // Adds the facts of the cheapest branch of an expression that shall be so.
+    fn add_expression(&mut self, e: &Expr, aim: Aim) -> Result<(), AllocError> {
+        let outcome = self.costs.prices.outcome;
+        match e {
+            Expr::One(o) => self.need(operand_fact(&outcome, o, aim)),
+            Expr::NotOne(o) => self.need(operand_fact(&outcome, o, aim.opposite())),
+            Expr::Not(e) => self.add_expression(e, aim.opposite()),
+            Expr::Module => self.need(module_fact(&outcome, aim)),
+            Expr::Rel(op, operands) => {
+                if aim.is_met(eval(e, outcome.now)) {
+                    return Ok(());
                 }
-                number = number.saturating_add(1);
+                let relation = Relation::of(&outcome, *op, operands, aim);
+                self.add_relation(&relation, operands)
             }
-            Ok(())
+            Expr::All(parts) | Expr::Any(parts) => {
+                let needed = needed_part(&mut self.costs, e, aim)?;
+                if is_needed(needed, 0) {
+                    self.add_expression(&parts.first, aim)?;
+                }
+                if is_needed(needed, 1) {
+                    self.add_expression(&parts.second, aim)?;
+                }
+                let mut number = 2usize;
+                for part in parts.rest.iter() {
+                    if is_needed(needed, number) {
+                        self.add_expression(part, aim)?;
+                    }
+                    number = number.saturating_add(1);
+                }
+                Ok(())
+            }
         }
     }
-}
 
-// Adds the facts of a part.
-fn add_part<'a>(
-    alloc: Global,
-    prices: &Prices<'a>,
-    draft: &mut Draft,
-    part: Part<'a>,
-) -> Result<(), AllocError> {
-    match part {
-        Part::Fact(fact) => draft.need(Some(fact)),
-        Part::Expression(e, aim) => add_expression(alloc, prices, draft, e, aim),
-    }
-}
-
-// Adds the facts of the cheapest part of the condition of a line.
-fn add_cheapest<'a>(
-    alloc: Global,
-    prices: &Prices<'a>,
-    draft: &mut Draft,
-    parts: &[Part<'a>; 5],
-) -> Result<(), AllocError> {
-    let mut least = IMPOSSIBLE;
-    let mut chosen = None;
-    for part in parts.iter() {
-        let cost = part_cost(prices, &mut draft.memo, *part)?;
-        if cost < least {
-            least = cost;
-            chosen = Some(*part);
+    // Adds the facts of a part.
+    fn add_part(&mut self, part: Part<'a>) -> Result<(), AllocError> {
+        match part {
+            Part::Fact(fact) => self.need(Some(fact)),
+            Part::Expression(e, aim) => self.add_expression(e, aim),
         }
     }
-    match chosen {
-        Some(part) => add_part(alloc, prices, draft, part),
-        None => Ok(()),
-    }
-}
 
-// Adds the facts of what a way needs.
-fn add_need<'a>(
-    alloc: Global,
-    prices: &Prices<'a>,
-    draft: &mut Draft,
-    need: Need<'a>,
-) -> Result<(), AllocError> {
-    let (guard, aim) = match need {
-        Need::Part(part) => return add_part(alloc, prices, draft, part),
-        Need::Guard(guard, aim) => (guard, aim),
-    };
-    let parts = guard.parts(&prices.outcome, aim);
-    if !aim.is_least() {
-        return add_cheapest(alloc, prices, draft, &parts);
-    }
-    for part in parts.iter() {
-        add_part(alloc, prices, draft, *part)?;
-    }
-    Ok(())
-}
-
-// Adds a way to a fact: its line, and what it needs.
-fn add_way(
-    alloc: Global,
-    prices: &Prices<'_>,
-    draft: &mut Draft,
-    step: Step,
-) -> Result<(), AllocError> {
-    let ways = ways_of(alloc, &prices.outcome, step.fact)?;
-    let Some(way) = ways.numbered(step.way) else {
-        return Ok(());
-    };
-    draft.plan.steps.push(step)?;
-    add_give(alloc, prices, draft, way.give)?;
-    for need in ways.common.iter() {
-        add_need(alloc, prices, draft, *need)?;
-    }
-    for place in way.start..way.end {
-        if let Some(need) = ways.need_at(place) {
-            add_need(alloc, prices, draft, need)?;
+    // Adds the facts of the cheapest part of the condition of a line.
+    fn add_cheapest(&mut self, parts: &[Part<'a>; 5]) -> Result<(), AllocError> {
+        let mut least = IMPOSSIBLE;
+        let mut chosen = None;
+        for part in parts.iter() {
+            let cost = self.costs.part(*part)?;
+            if cost < least {
+                least = cost;
+                chosen = Some(*part);
+            }
+        }
+        match chosen {
+            Some(part) => self.add_part(part),
+            None => Ok(()),
         }
     }
-    Ok(())
-}
 
-// Walks along the cheapest ways from the facts that are to be had. No fact needs itself, so this ends.
-fn add_ways(alloc: Global, prices: &Prices<'_>, draft: &mut Draft) -> Result<(), AllocError> {
-    for _ in 0..u32::MAX {
-        let Some(fact) = draft.todo.pop() else {
-            break;
+    // Adds the facts of what a way needs.
+    fn add_need(&mut self, need: Need<'a>) -> Result<(), AllocError> {
+        let (guard, aim) = match need {
+            Need::Part(part) => return self.add_part(part),
+            Need::Guard(guard, aim) => (guard, aim),
         };
-        if let Some(way) = draft.memo.planned_way(fact) {
-            add_way(alloc, prices, draft, Step { fact, way })?;
+        let parts = guard.parts(&self.costs.prices.outcome, aim);
+        if !aim.is_least() {
+            return self.add_cheapest(&parts);
         }
+        for part in parts.iter() {
+            self.add_part(*part)?;
+        }
+        Ok(())
     }
-    Ok(())
+
+    // Adds a way to a fact: its line, and what it needs.
+    fn add_way(&mut self, step: Step) -> Result<(), AllocError> {
+        let ways = ways_of(self.alloc, &self.costs.prices.outcome, step.fact)?;
+        let Some(way) = ways.numbered(step.way) else {
+            return Ok(());
+        };
+        self.plan.steps.push(step)?;
+        self.give(way.give)?;
+        for need in ways.common.iter() {
+            self.add_need(*need)?;
+        }
+        for place in way.start..way.end {
+            if let Some(need) = ways.need_at(place) {
+                self.add_need(need)?;
+            }
+        }
+        Ok(())
+    }
+
+    // Walks along the cheapest ways from the facts that are to be had. No fact needs itself, so this ends.
+    fn walk(&mut self) -> Result<(), AllocError> {
+        for _ in 0..u32::MAX {
+            let Some(fact) = self.todo.pop() else {
+                break;
+            };
+            if let Some(way) = self.costs.memo.planned_way(fact) {
+                self.add_way(Step { fact, way })?;
+            }
+        }
+        Ok(())
+    }
 }
 
 // The facts that the goal is.
@@ -373,42 +310,42 @@ fn goal_facts(alloc: Global, outcome: &Outcome<'_>) -> Result<Vec<Fact>, AllocEr
 }
 
 // The cost of all these facts.
-fn cost_of_all(
-    alloc: Global,
-    prices: &Prices<'_>,
-    memo: &mut Memo,
-    facts: &[Fact],
-) -> Result<u32, AllocError> {
+fn cost_of_all(alloc: Global, costs: &mut Costs<'_>, facts: &[Fact]) -> Result<u32, AllocError> {
     for fact in facts {
-        memo.cost(&prices.outcome, *fact)?;
+        costs.fact(*fact)?;
     }
-    find_costs(alloc, prices, memo)?;
+    costs.find(alloc)?;
     let mut sum = 0;
     for fact in facts {
-        sum = plus(sum, memo.known(*fact).unwrap_or(IMPOSSIBLE));
+        sum = plus(sum, costs.memo.known(*fact).unwrap_or(IMPOSSIBLE));
     }
     Ok(sum)
 }
 
 // The cheapest plan at these prices.
 fn plan_at(alloc: Global, prices: &Prices<'_>) -> Result<Option<Plan>, AllocError> {
+    let layout = prices.outcome.layout;
     let todo = goal_facts(alloc, &prices.outcome)?;
-    let mut memo = Memo::new(alloc, prices.outcome.layout)?;
-    let cost = cost_of_all(alloc, prices, &mut memo, &todo)?;
+    let mut costs = Costs {
+        prices: *prices,
+        memo: Memo::new(alloc, layout)?,
+    };
+    let cost = cost_of_all(alloc, &mut costs, &todo)?;
     if cost >= IMPOSSIBLE {
         return Ok(None);
     }
     let mut draft = Draft {
+        alloc,
         plan: Plan {
             lines: Vec::new(alloc),
             steps: Vec::new(alloc),
             cost,
         },
-        memo,
-        given: vec![in alloc; 0; prices.outcome.layout.symbols().len()]?,
+        costs,
+        given: vec![in alloc; 0; layout.symbols().len()]?,
         todo,
     };
-    add_ways(alloc, prices, &mut draft)?;
+    draft.walk()?;
     Ok(Some(draft.plan))
 }
 
@@ -445,7 +382,7 @@ pub(crate) fn has_failed(
     }
     let ways = ways_of(alloc, &outcome, step.fact)?;
     match ways.numbered(step.way) {
-        Some(way) => Ok(ways.is_met(&outcome, &way)),
+        Some(way) => Ok(ways.is_met(&way)),
         None => Ok(false),
     }
 }

@@ -1,8 +1,8 @@
 //! Relations: the values of their sides that make them hold.
 
 use crate::facts::{Aim, Fact, Outcome};
-use crate::memo::{IMPOSSIBLE, Memo, plus};
-use crate::prices::Prices;
+use crate::memo::{IMPOSSIBLE, plus};
+use crate::prices::Costs;
 use kc_expr::expression::{Operand, Operands, SymId, SymbolType, Tri};
 use kc_expr::values::{text, tristate_constant};
 use kc_text::{Op, has_hex_prefix, read_hex, read_int};
@@ -123,30 +123,6 @@ fn may_be(outcome: &Outcome<'_>, side: Side, value: Tri) -> bool {
     }
 }
 
-// The cost of a fact, if there is one.
-fn cost_of_some(
-    prices: &Prices<'_>,
-    memo: &mut Memo,
-    fact: Option<Fact>,
-) -> Result<u32, AllocError> {
-    match fact {
-        Some(fact) => memo.cost(&prices.outcome, fact),
-        None => Ok(0),
-    }
-}
-
-// The cost of a side with this truth value.
-fn side_cost(
-    prices: &Prices<'_>,
-    memo: &mut Memo,
-    side: Side,
-    value: Tri,
-) -> Result<u32, AllocError> {
-    let (first, second) = facts_of(&prices.outcome, side, value);
-    let cost = cost_of_some(prices, memo, first)?;
-    Ok(plus(cost, cost_of_some(prices, memo, second)?))
-}
-
 /// A relation between two sides.
 #[derive(Clone, Copy)]
 pub(crate) struct Relation {
@@ -165,15 +141,39 @@ impl Relation {
         }
     }
 
-    // The cheapest truth values of the sides, and what they cost.
-    fn values(&self, prices: &Prices<'_>, memo: &mut Memo) -> Result<(u32, Making), AllocError> {
+    // Whether the sides may have these values, with which the relation holds.
+    fn allows(&self, outcome: &Outcome<'_>, left: Tri, right: Tri) -> bool {
+        relates(self.op, left, right)
+            && may_be(outcome, self.left, left)
+            && may_be(outcome, self.right, right)
+    }
+}
+
+impl<'a> Costs<'a> {
+    // The cost of a side with this truth value.
+    fn side(&mut self, side: Side, value: Tri) -> Result<u32, AllocError> {
+        let (first, second) = facts_of(&self.prices.outcome, side, value);
+        let cost = self.some_fact(first)?;
+        let other = self.some_fact(second)?;
+        Ok(plus(cost, other))
+    }
+
+    // The cost of another text of a symbol: a line under one of its prompts.
+    fn text(&mut self, id: SymId) -> Result<u32, AllocError> {
+        let shown = self.fact(Fact::Prompts(id, Aim::AtLeastM))?;
+        Ok(plus(shown, self.prices.text_line(id)))
+    }
+
+    // The cheapest truth values of the sides of a relation, and what they cost.
+    fn values(&mut self, relation: &Relation) -> Result<(u32, Making), AllocError> {
         let mut best = IMPOSSIBLE;
         let mut making = Making::Values(Tri::N, Tri::N);
         for left in [Tri::N, Tri::M, Tri::Y] {
             for right in [Tri::N, Tri::M, Tri::Y] {
-                if self.allows(&prices.outcome, left, right) {
-                    let cost = side_cost(prices, memo, self.left, left)?;
-                    let cost = plus(cost, side_cost(prices, memo, self.right, right)?);
+                if relation.allows(&self.prices.outcome, left, right) {
+                    let first = self.side(relation.left, left)?;
+                    let second = self.side(relation.right, right)?;
+                    let cost = plus(first, second);
                     if cost < best {
                         best = cost;
                         making = Making::Values(left, right);
@@ -184,40 +184,24 @@ impl Relation {
         Ok((best, making))
     }
 
-    // Whether the sides may have these values, with which the relation holds.
-    fn allows(&self, outcome: &Outcome<'_>, left: Tri, right: Tri) -> bool {
-        relates(self.op, left, right)
-            && may_be(outcome, self.left, left)
-            && may_be(outcome, self.right, right)
-    }
-
-    /// What makes the relation hold, and what it costs.
-    pub(crate) fn making(
-        &self,
-        prices: &Prices<'_>,
-        memo: &mut Memo,
-    ) -> Result<(u32, Making), AllocError> {
-        match (self.left, self.right) {
-            (Side::Text(id), _) => Ok((text_cost(prices, memo, id)?, Making::LeftText(id))),
-            (_, Side::Text(id)) => Ok((text_cost(prices, memo, id)?, Making::RightText(id))),
-            _ => self.values(prices, memo),
+    /// What makes a relation hold, and what it costs.
+    pub(crate) fn making(&mut self, relation: &Relation) -> Result<(u32, Making), AllocError> {
+        match (relation.left, relation.right) {
+            (Side::Text(id), _) => Ok((self.text(id)?, Making::LeftText(id))),
+            (_, Side::Text(id)) => Ok((self.text(id)?, Making::RightText(id))),
+            _ => self.values(relation),
         }
     }
 }
 
-// The cost of another text of a symbol: a line under one of its prompts.
-fn text_cost(prices: &Prices<'_>, memo: &mut Memo, id: SymId) -> Result<u32, AllocError> {
-    let shown = memo.cost(&prices.outcome, Fact::Prompts(id, Aim::AtLeastM))?;
-    Ok(plus(shown, prices.text_line(id)))
-}
-
 // ---- texts
 
-// A number beside this one.
+// A number in this relation to another one.
 fn beside(op: Op, number: i128) -> i128 {
     match op {
         Op::Lt => number.saturating_sub(1),
-        _ => number.saturating_add(1),
+        Op::Gt | Op::Ne => number.saturating_add(1),
+        _ => number,
     }
 }
 
@@ -246,7 +230,7 @@ fn number_text(
     Ok(text.into_bytes())
 }
 
-// A text that is less or greater than another one, or another one.
+// A text in this relation to another one.
 fn other_text(alloc: Global, op: Op, text: &[u8]) -> Result<Vec<u8>, AllocError> {
     match op {
         Op::Gt => {
@@ -255,7 +239,8 @@ fn other_text(alloc: Global, op: Op, text: &[u8]) -> Result<Vec<u8>, AllocError>
             Ok(longer)
         }
         Op::Ne if text.is_empty() => Ok(Vec::from_slice(alloc, b"y")?),
-        _ => Ok(Vec::new(alloc)),
+        Op::Ne | Op::Lt => Ok(Vec::new(alloc)),
+        _ => Ok(Vec::from_slice(alloc, text)?),
     }
 }
 
@@ -266,16 +251,10 @@ pub(crate) fn picked(
     op: Op,
     other: &[u8],
 ) -> Result<Vec<u8>, AllocError> {
-    match op {
-        Op::Lt | Op::Gt | Op::Ne => {
-            if symbol_type == SymbolType::Str {
-                return other_text(alloc, op, other);
-            }
-            match number_of(other) {
-                Some(number) => number_text(alloc, symbol_type, beside(op, number)),
-                None => other_text(alloc, op, other),
-            }
+    match (symbol_type, number_of(other)) {
+        (SymbolType::Int | SymbolType::Hex, Some(number)) => {
+            number_text(alloc, symbol_type, beside(op, number))
         }
-        _ => Ok(Vec::from_slice(alloc, other)?),
+        _ => other_text(alloc, op, other),
     }
 }

@@ -128,420 +128,344 @@ fn condition_of<'a>(default: &Guard<'a>) -> Guard<'a> {
     guard
 }
 
-// Adds that no user value counts.
-fn need_hidden<'a>(
-    outcome: &Outcome<'a>,
-    subject: &Subject<'a>,
-    ways: &mut Ways<'a>,
-) -> Result<(), AllocError> {
-    if subject.has_prompt && outcome.is_given(subject.id) {
-        ways.need(fact(Fact::Prompts(subject.id, Aim::AtMostN)))?;
-    }
-    Ok(())
-}
-
-// ---- up
-
-// Adds that the modules symbol is off, if it shall be.
-fn need_lift<'a>(
-    outcome: &Outcome<'a>,
-    reach: Reach,
-    ways: &mut Ways<'a>,
-) -> Result<(), AllocError> {
-    if let (true, Some(modules)) = (reach.is_lifted, outcome.layout.modules) {
-        ways.need(fact(outcome.truth(modules, Aim::AtMostN)))?;
-    }
-    Ok(())
-}
-
-// The line of the user that raises a symbol.
-fn raising_line<'a>(outcome: &Outcome<'a>, subject: &Subject<'a>, reach: Reach) -> Give {
-    match outcome.given(subject.id) {
-        Some(value) if reach.aim.is_met(value) => Give::Nothing,
-        _ => Give::Truth(
-            subject.id,
-            if subject.aim == Aim::AtLeastM {
-                Tri::M
-            } else {
-                Tri::Y
-            },
-        ),
-    }
-}
-
-// Adds the way by the user's value.
-fn user_up<'a>(
-    outcome: &Outcome<'a>,
-    subject: &Subject<'a>,
-    reach: Reach,
-    ways: &mut Ways<'a>,
-) -> Result<(), AllocError> {
-    if !subject.has_prompt {
-        return Ok(());
-    }
-    ways.need(fact(Fact::Prompts(subject.id, reach.aim)))?;
-    need_lift(outcome, reach, ways)?;
-    let give = raising_line(outcome, subject, reach);
-    ways.end(numbered(USER, reach), reach.more, give)
-}
-
-// Adds the ways by a line that selects: within what the symbol depends on, and against it.
-fn selected_up<'a>(
-    outcome: &Outcome<'a>,
-    subject: &Subject<'a>,
-    reach: Reach,
-    ways: &mut Ways<'a>,
-) -> Result<(), AllocError> {
-    if !subject.row.last_select.is_some() {
-        return Ok(());
-    }
-    let more = reach.more.saturating_add(subject.if_prompt(40));
-    let selected = fact(Fact::Selected(subject.id, reach.aim));
-    ways.need(selected)?;
-    ways.need(fact(Fact::Direct(subject.id, reach.aim)))?;
-    need_lift(outcome, reach, ways)?;
-    ways.end(numbered(SELECTED, reach), more, Give::Nothing)?;
-    ways.need(selected)?;
-    need_lift(outcome, reach, ways)?;
-    let against = more.saturating_add(1500);
-    ways.end(numbered(SELECTED_AGAINST, reach), against, Give::Nothing)
-}
-
-// Adds the way by a line that implies.
-fn implied_up<'a>(
-    outcome: &Outcome<'a>,
-    subject: &Subject<'a>,
-    reach: Reach,
-    ways: &mut Ways<'a>,
-) -> Result<(), AllocError> {
-    if !subject.row.last_imply.is_some() {
-        return Ok(());
-    }
-    ways.need(fact(Fact::Implied(subject.id, reach.aim)))?;
-    ways.need(fact(Fact::Direct(subject.id, reach.aim)))?;
-    need_lift(outcome, reach, ways)?;
-    need_hidden(outcome, subject, ways)?;
-    let more = reach.more.saturating_add(60);
-    ways.end(numbered(IMPLIED, reach), more, Give::Nothing)
-}
-
-// Adds the ways by a default: those before it are off.
-fn defaults_up<'a>(
-    alloc: Global,
-    outcome: &Outcome<'a>,
-    subject: &Subject<'a>,
-    reach: Reach,
-    ways: &mut Ways<'a>,
-) -> Result<(), AllocError> {
-    let more = reach.more.saturating_add(subject.if_prompt(30));
-    let mut earlier = Vec::new(alloc);
-    let mut number = numbered(FIRST_DEFAULT, reach);
-    for default in subject.defaults.iter() {
-        ways.need_all(&earlier)?;
-        ways.need(Need::Guard(*default, reach.aim))?;
-        need_lift(outcome, reach, ways)?;
-        need_hidden(outcome, subject, ways)?;
-        ways.end(number, more, Give::Nothing)?;
-        number = number.saturating_add(2);
-        if !add_earlier(outcome, default, &mut earlier)? {
-            break;
+impl<'a> Ways<'a> {
+    // The user's line that gives the symbol this value, unless the value that it has from the user will do. The goal's symbol gets
+    // the goal's value.
+    fn line(&self, subject: &Subject<'a>, aim: Aim, value: Tri) -> Give {
+        let goal = self.outcome.goal;
+        match (self.outcome.given(subject.id), &goal.value) {
+            (Some(given), _) if aim.is_met(given) => Give::Nothing,
+            (_, UserValue::Tri(asked)) if goal.symbol.0 == subject.id.0 => {
+                Give::Truth(subject.id, *asked)
+            }
+            _ => Give::Truth(subject.id, value),
         }
     }
-    Ok(())
-}
 
-// Adds that a default is not met, if it is met now. Whether there are still few of them.
-fn add_earlier<'a>(
-    outcome: &Outcome<'a>,
-    default: &Guard<'a>,
-    earlier: &mut Vec<Need<'a>>,
-) -> Result<bool, AllocError> {
-    let guard = condition_of(default);
-    if Need::Guard(guard, Aim::AtLeastM).holds(outcome) {
-        earlier.push(Need::Guard(guard, Aim::AtMostN))?;
-    }
-    Ok(earlier.len() < MOST_DEFAULTS)
-}
-
-// Adds the ways up with these conditions.
-fn ways_up_by<'a>(
-    alloc: Global,
-    outcome: &Outcome<'a>,
-    subject: &Subject<'a>,
-    reach: Reach,
-    ways: &mut Ways<'a>,
-) -> Result<(), AllocError> {
-    user_up(outcome, subject, reach, ways)?;
-    selected_up(outcome, subject, reach, ways)?;
-    implied_up(outcome, subject, reach, ways)?;
-    defaults_up(alloc, outcome, subject, reach, ways)
-}
-
-// Adds the ways up.
-fn ways_up<'a>(
-    alloc: Global,
-    outcome: &Outcome<'a>,
-    subject: &Subject<'a>,
-    ways: &mut Ways<'a>,
-) -> Result<(), AllocError> {
-    let is_tristate = outcome.is_tristate(subject.id);
-    let reach = Reach {
-        aim: if is_tristate {
-            subject.aim
-        } else {
-            Aim::AtLeastM
-        },
-        is_lifted: false,
-        more: 0,
-    };
-    ways_up_by(alloc, outcome, subject, reach, ways)?;
-    if !is_tristate || subject.aim != Aim::AtLeastY {
-        return Ok(());
-    }
-    let lifted = Reach {
-        aim: Aim::AtLeastM,
-        is_lifted: true,
-        more: 500,
-    };
-    ways_up_by(alloc, outcome, subject, lifted, ways)
-}
-
-// ---- down
-
-// The line of the user that lowers a symbol.
-fn lowering_line<'a>(outcome: &Outcome<'a>, subject: &Subject<'a>, aim: Aim) -> Give {
-    match outcome.given(subject.id) {
-        Some(value) if aim.is_met(value) => Give::Nothing,
-        _ => Give::Truth(
-            subject.id,
-            if aim == Aim::AtMostM { Tri::M } else { Tri::N },
-        ),
-    }
-}
-
-// Adds what all ways down need: no line selects the symbol to more, and m is a value.
-fn need_for_down<'a>(
-    outcome: &Outcome<'a>,
-    subject: &Subject<'a>,
-    aim: Aim,
-    ways: &mut Ways<'a>,
-) -> Result<(), AllocError> {
-    if subject.row.last_select.is_some() {
-        ways.need_always(fact(Fact::Selected(subject.id, aim)))?;
-    }
-    if let (Aim::AtMostM, Some(modules)) = (aim, outcome.layout.modules) {
-        ways.need_always(fact(outcome.truth(modules, Aim::AtLeastM)))?;
-    }
-    Ok(())
-}
-
-// Adds the ways by the user's value, or by the condition of the prompts.
-fn user_down<'a>(
-    outcome: &Outcome<'a>,
-    subject: &Subject<'a>,
-    aim: Aim,
-    ways: &mut Ways<'a>,
-) -> Result<(), AllocError> {
-    if !subject.has_prompt {
-        return Ok(());
-    }
-    ways.need(fact(Fact::Prompts(subject.id, Aim::AtLeastM)))?;
-    let give = lowering_line(outcome, subject, aim);
-    ways.end(USER, 0, give)?;
-    if aim == Aim::AtMostM {
-        ways.need(fact(Fact::Prompts(subject.id, aim)))?;
-        ways.end(CAPPED, 50, Give::Nothing)?;
-    }
-    Ok(())
-}
-
-// Adds that no user value counts, and that no line implies the symbol to more.
-fn need_quiet<'a>(
-    outcome: &Outcome<'a>,
-    subject: &Subject<'a>,
-    aim: Aim,
-    ways: &mut Ways<'a>,
-) -> Result<(), AllocError> {
-    need_hidden(outcome, subject, ways)?;
-    if subject.row.last_imply.is_some() {
-        ways.need(fact(Fact::Implied(subject.id, aim)))?;
-    }
-    Ok(())
-}
-
-// Adds the ways by a default that is low, or by none.
-fn defaults_down<'a>(
-    alloc: Global,
-    outcome: &Outcome<'a>,
-    subject: &Subject<'a>,
-    aim: Aim,
-    ways: &mut Ways<'a>,
-) -> Result<(), AllocError> {
-    let more = subject.if_prompt(60);
-    let mut earlier = Vec::new(alloc);
-    let mut number = FIRST_DEFAULT;
-    for default in subject.defaults.iter() {
-        ways.need_all(&earlier)?;
-        ways.need(Need::Guard(condition_of(default), Aim::AtLeastM))?;
-        ways.need(Need::Guard(*default, aim))?;
-        need_quiet(outcome, subject, aim, ways)?;
-        ways.end(number, more, Give::Nothing)?;
-        number = number.saturating_add(1);
-        if !add_earlier(outcome, default, &mut earlier)? {
-            return Ok(());
+    // Adds that no user value counts.
+    fn need_hidden(&mut self, subject: &Subject<'a>) -> Result<(), AllocError> {
+        if subject.has_prompt && self.outcome.is_given(subject.id) {
+            self.need_fact(Fact::Prompts(subject.id, Aim::AtMostN))?;
         }
+        Ok(())
     }
-    ways.need_all(&earlier)?;
-    need_quiet(outcome, subject, aim, ways)?;
-    ways.end(NO_DEFAULT, more, Give::Nothing)
-}
 
-// Adds the ways down.
-fn ways_down<'a>(
-    alloc: Global,
-    outcome: &Outcome<'a>,
-    subject: &Subject<'a>,
-    ways: &mut Ways<'a>,
-) -> Result<(), AllocError> {
-    let aim = if outcome.is_tristate(subject.id) {
-        subject.aim
-    } else {
-        Aim::AtMostN
-    };
-    need_for_down(outcome, subject, aim, ways)?;
-    user_down(outcome, subject, aim, ways)?;
-    defaults_down(alloc, outcome, subject, aim, ways)?;
-    ways.need(fact(Fact::Direct(subject.id, aim)))?;
-    ways.end(NO_DEPENDENCY, subject.if_prompt(60), Give::Nothing)
-}
+    // ---- up
 
-// ---- members
-
-// The line that chooses a member.
-fn choosing_line<'a>(outcome: &Outcome<'a>, choice: ChoiceId, member: SymId) -> Give {
-    match outcome.chosen(choice) {
-        Some(chosen) if chosen.0 == member.0 => Give::Nothing,
-        _ => Give::Truth(member, Tri::Y),
-    }
-}
-
-// Adds the way by choosing a member.
-fn way_by_member<'a>(
-    outcome: &Outcome<'a>,
-    choice: ChoiceId,
-    member: SymId,
-    number: usize,
-    ways: &mut Ways<'a>,
-) -> Result<(), AllocError> {
-    ways.need(fact(Fact::Prompts(member, Aim::AtLeastM)))?;
-    ways.end(number, 0, choosing_line(outcome, choice, member))
-}
-
-// Adds the ways down of a member: the mode is n, another member is chosen, or it is hidden.
-fn member_down<'a>(
-    outcome: &Outcome<'a>,
-    choice: ChoiceId,
-    id: SymId,
-    ways: &mut Ways<'a>,
-) -> Result<(), AllocError> {
-    ways.need(fact(Fact::Mode(choice, Aim::AtMostN)))?;
-    ways.end(MODE_OFF, 0, Give::Nothing)?;
-    ways.need(fact(Fact::Prompts(id, Aim::AtMostN)))?;
-    ways.end(HIDDEN, 50, Give::Nothing)?;
-    let Some(row) = outcome.layout.choice(choice) else {
-        return Ok(());
-    };
-    let mut number = FIRST_MEMBER;
-    for member in row.members.iter() {
-        if member.0 != id.0 {
-            way_by_member(outcome, choice, *member, number, ways)?;
+    // Adds that the modules symbol is off, if it shall be.
+    fn need_lift(&mut self, reach: Reach) -> Result<(), AllocError> {
+        if let (true, Some(modules)) = (reach.is_lifted, self.outcome.layout.modules) {
+            let fact = self.outcome.truth(modules, Aim::AtMostN);
+            self.need_fact(fact)?;
         }
-        number = number.saturating_add(1);
-        if number > MOST_MEMBERS {
-            break;
-        }
+        Ok(())
     }
-    Ok(())
-}
 
-// ---- all
-
-/// Adds the ways to the truth value of a symbol.
-pub(crate) fn truth_ways<'a>(
-    alloc: Global,
-    outcome: &Outcome<'a>,
-    id: SymId,
-    aim: Aim,
-    ways: &mut Ways<'a>,
-) -> Result<(), AllocError> {
-    let Some(row) = outcome.layout.symbol(id) else {
-        return Ok(());
-    };
-    if let Some(choice) = row.choice.get() {
-        return if aim.is_least() {
-            way_by_member(outcome, choice, id, USER, ways)
-        } else {
-            member_down(outcome, choice, id, ways)
+    // The line of the user that raises a symbol.
+    fn raising_line(&self, subject: &Subject<'a>, reach: Reach) -> Give {
+        let value = match subject.aim {
+            Aim::AtLeastM => Tri::M,
+            _ => Tri::Y,
         };
+        self.line(subject, reach.aim, value)
     }
-    let subject = Subject::of(alloc, outcome, id, row, aim)?;
-    if aim.is_least() {
-        ways_up(alloc, outcome, &subject, ways)
-    } else {
-        ways_down(alloc, outcome, &subject, ways)
-    }
-}
 
-// Adds the ways by a default that has the goal's text, or by none if that is empty.
-fn text_defaults<'a>(
-    alloc: Global,
-    outcome: &Outcome<'a>,
-    subject: &Subject<'a>,
-    text: &[u8],
-    ways: &mut Ways<'a>,
-) -> Result<(), AllocError> {
-    let mut earlier = Vec::new(alloc);
-    let mut number = FIRST_DEFAULT;
-    for default in subject.defaults.iter() {
-        if is_text(outcome, default, text) {
-            ways.need_all(&earlier)?;
-            ways.need(Need::Guard(condition_of(default), Aim::AtLeastM))?;
-            need_hidden(outcome, subject, ways)?;
-            ways.end(number, 20, Give::Nothing)?;
-        }
-        number = number.saturating_add(1);
-        if !add_earlier(outcome, default, &mut earlier)? {
+    // Adds the way by the user's value.
+    fn user_up(&mut self, subject: &Subject<'a>, reach: Reach) -> Result<(), AllocError> {
+        if !subject.has_prompt {
             return Ok(());
         }
+        self.need_fact(Fact::Prompts(subject.id, reach.aim))?;
+        self.need_lift(reach)?;
+        let give = self.raising_line(subject, reach);
+        self.end(numbered(USER, reach), reach.more, give)
     }
-    if text.is_empty() {
-        ways.need_all(&earlier)?;
-        need_hidden(outcome, subject, ways)?;
-        ways.end(NO_DEFAULT, 20, Give::Nothing)?;
-    }
-    Ok(())
-}
 
-// Whether a default has this text now.
-fn is_text<'a>(outcome: &Outcome<'a>, default: &Guard<'a>, text: &[u8]) -> bool {
-    match default.value {
-        Some(e) => single_text(e, outcome.now) == text,
-        None => false,
+    // Adds the ways by a line that selects: within what the symbol depends on, and against it.
+    fn selected_up(&mut self, subject: &Subject<'a>, reach: Reach) -> Result<(), AllocError> {
+        if !subject.row.last_select.is_some() {
+            return Ok(());
+        }
+        let more = reach.more.saturating_add(subject.if_prompt(40));
+        let selected = fact(Fact::Selected(subject.id, reach.aim));
+        self.need(selected)?;
+        self.need_fact(Fact::Direct(subject.id, reach.aim))?;
+        self.need_lift(reach)?;
+        self.end(numbered(SELECTED, reach), more, Give::Nothing)?;
+        self.need(selected)?;
+        self.need_lift(reach)?;
+        let against = more.saturating_add(1500);
+        self.end(numbered(SELECTED_AGAINST, reach), against, Give::Nothing)
     }
-}
 
-/// Adds the ways to the goal's text. What ranges ask for is left to the check.
-pub(crate) fn text_ways<'a>(
-    alloc: Global,
-    outcome: &Outcome<'a>,
-    ways: &mut Ways<'a>,
-) -> Result<(), AllocError> {
-    let id = outcome.goal.symbol;
-    let (Some(row), UserValue::Text(text)) = (outcome.layout.symbol(id), &outcome.goal.value) else {
-        return Ok(());
-    };
-    ways.need(fact(Fact::Prompts(id, Aim::AtLeastM)))?;
-    ways.end(USER, 0, Give::GoalText)?;
-    let subject = Subject::of(alloc, outcome, id, row, Aim::AtLeastM)?;
-    text_defaults(alloc, outcome, &subject, text, ways)
+    // Adds the way by a line that implies.
+    fn implied_up(&mut self, subject: &Subject<'a>, reach: Reach) -> Result<(), AllocError> {
+        if !subject.row.last_imply.is_some() {
+            return Ok(());
+        }
+        self.need_fact(Fact::Implied(subject.id, reach.aim))?;
+        self.need_fact(Fact::Direct(subject.id, reach.aim))?;
+        self.need_lift(reach)?;
+        self.need_hidden(subject)?;
+        let more = reach.more.saturating_add(60);
+        self.end(numbered(IMPLIED, reach), more, Give::Nothing)
+    }
+
+    // Adds the ways by a default: those before it are off.
+    fn defaults_up(&mut self, subject: &Subject<'a>, reach: Reach) -> Result<(), AllocError> {
+        let more = reach.more.saturating_add(subject.if_prompt(30));
+        let mut earlier = Vec::new(self.alloc);
+        let mut number = numbered(FIRST_DEFAULT, reach);
+        for default in subject.defaults.iter() {
+            self.need_all(&earlier)?;
+            self.need(Need::Guard(*default, reach.aim))?;
+            self.need_lift(reach)?;
+            self.need_hidden(subject)?;
+            self.end(number, more, Give::Nothing)?;
+            number = number.saturating_add(2);
+            if !self.add_earlier(default, &mut earlier)? {
+                break;
+            }
+        }
+        Ok(())
+    }
+
+    // Adds that a default is not met, if it is met now. Whether there are still few of them.
+    fn add_earlier(
+        &self,
+        default: &Guard<'a>,
+        earlier: &mut Vec<Need<'a>>,
+    ) -> Result<bool, AllocError> {
+        let guard = condition_of(default);
+        if Need::Guard(guard, Aim::AtLeastM).holds(&self.outcome) {
+            earlier.push(Need::Guard(guard, Aim::AtMostN))?;
+        }
+        Ok(earlier.len() < MOST_DEFAULTS)
+    }
+
+    // Adds the ways up with these conditions.
+    fn ways_up_by(&mut self, subject: &Subject<'a>, reach: Reach) -> Result<(), AllocError> {
+        self.user_up(subject, reach)?;
+        self.selected_up(subject, reach)?;
+        self.implied_up(subject, reach)?;
+        self.defaults_up(subject, reach)
+    }
+
+    // Adds the ways up.
+    fn ways_up(&mut self, subject: &Subject<'a>) -> Result<(), AllocError> {
+        let is_tristate = self.outcome.is_tristate(subject.id);
+        let reach = Reach {
+            aim: if is_tristate {
+                subject.aim
+            } else {
+                Aim::AtLeastM
+            },
+            is_lifted: false,
+            more: 0,
+        };
+        self.ways_up_by(subject, reach)?;
+        if !is_tristate || subject.aim != Aim::AtLeastY {
+            return Ok(());
+        }
+        let lifted = Reach {
+            aim: Aim::AtLeastM,
+            is_lifted: true,
+            more: 500,
+        };
+        self.ways_up_by(subject, lifted)
+    }
+
+    // ---- down
+
+    // The line of the user that lowers a symbol.
+    fn lowering_line(&self, subject: &Subject<'a>) -> Give {
+        let value = match subject.aim {
+            Aim::AtMostM => Tri::M,
+            _ => Tri::N,
+        };
+        self.line(subject, subject.aim, value)
+    }
+
+    // Adds what all ways down need: no line selects the symbol to more, and m is a value.
+    fn need_for_down(&mut self, subject: &Subject<'a>) -> Result<(), AllocError> {
+        if subject.row.last_select.is_some() {
+            self.need_always(fact(Fact::Selected(subject.id, subject.aim)))?;
+        }
+        if let (Aim::AtMostM, Some(modules)) = (subject.aim, self.outcome.layout.modules) {
+            let need = fact(self.outcome.truth(modules, Aim::AtLeastM));
+            self.need_always(need)?;
+        }
+        Ok(())
+    }
+
+    // Adds the ways by the user's value, or by the condition of the prompts.
+    fn user_down(&mut self, subject: &Subject<'a>) -> Result<(), AllocError> {
+        if !subject.has_prompt {
+            return Ok(());
+        }
+        self.need_fact(Fact::Prompts(subject.id, Aim::AtLeastM))?;
+        let give = self.lowering_line(subject);
+        self.end(USER, 0, give)?;
+        if subject.aim == Aim::AtMostM {
+            self.need_fact(Fact::Prompts(subject.id, subject.aim))?;
+            self.end(CAPPED, 50, Give::Nothing)?;
+        }
+        Ok(())
+    }
+
+    // Adds that no user value counts, and that no line implies the symbol to more.
+    fn need_quiet(&mut self, subject: &Subject<'a>) -> Result<(), AllocError> {
+        self.need_hidden(subject)?;
+        if subject.row.last_imply.is_some() {
+            self.need_fact(Fact::Implied(subject.id, subject.aim))?;
+        }
+        Ok(())
+    }
+
+    // Adds the ways by a default that is low, or by none.
+    fn defaults_down(&mut self, subject: &Subject<'a>) -> Result<(), AllocError> {
+        let more = subject.if_prompt(60);
+        let mut earlier = Vec::new(self.alloc);
+        let mut number = FIRST_DEFAULT;
+        for default in subject.defaults.iter() {
+            self.need_all(&earlier)?;
+            self.need(Need::Guard(condition_of(default), Aim::AtLeastM))?;
+            self.need(Need::Guard(*default, subject.aim))?;
+            self.need_quiet(subject)?;
+            self.end(number, more, Give::Nothing)?;
+            number = number.saturating_add(1);
+            if !self.add_earlier(default, &mut earlier)? {
+                return Ok(());
+            }
+        }
+        self.need_all(&earlier)?;
+        self.need_quiet(subject)?;
+        self.end(NO_DEFAULT, more, Give::Nothing)
+    }
+
+    // Adds the ways down.
+    fn ways_down(&mut self, subject: &Subject<'a>) -> Result<(), AllocError> {
+        self.need_for_down(subject)?;
+        self.user_down(subject)?;
+        self.defaults_down(subject)?;
+        self.need_fact(Fact::Direct(subject.id, subject.aim))?;
+        self.end(NO_DEPENDENCY, subject.if_prompt(60), Give::Nothing)
+    }
+
+    // ---- members
+
+    // The line that chooses a member.
+    fn choosing_line(&self, choice: ChoiceId, member: SymId) -> Give {
+        match self.outcome.chosen(choice) {
+            Some(chosen) if chosen.0 == member.0 => Give::Nothing,
+            _ => Give::Truth(member, Tri::Y),
+        }
+    }
+
+    // Adds the way by choosing a member.
+    fn way_by_member(
+        &mut self,
+        choice: ChoiceId,
+        member: SymId,
+        number: usize,
+    ) -> Result<(), AllocError> {
+        self.need_fact(Fact::Prompts(member, Aim::AtLeastM))?;
+        self.end(number, 0, self.choosing_line(choice, member))
+    }
+
+    // Adds the ways down of a member: the mode is n, another member is chosen, or it is hidden.
+    fn member_down(&mut self, choice: ChoiceId, id: SymId) -> Result<(), AllocError> {
+        self.need_fact(Fact::Mode(choice, Aim::AtMostN))?;
+        self.end(MODE_OFF, 0, Give::Nothing)?;
+        self.need_fact(Fact::Prompts(id, Aim::AtMostN))?;
+        self.end(HIDDEN, 50, Give::Nothing)?;
+        let Some(row) = self.outcome.layout.choice(choice) else {
+            return Ok(());
+        };
+        let mut number = FIRST_MEMBER;
+        for member in row.members.iter() {
+            if member.0 != id.0 {
+                self.way_by_member(choice, *member, number)?;
+            }
+            number = number.saturating_add(1);
+            if number > MOST_MEMBERS {
+                break;
+            }
+        }
+        Ok(())
+    }
+
+    // ---- all
+
+    /// Adds the ways to the truth value of a symbol.
+    pub(crate) fn truth_ways(&mut self, id: SymId, aim: Aim) -> Result<(), AllocError> {
+        let Some(row) = self.outcome.layout.symbol(id) else {
+            return Ok(());
+        };
+        if let Some(choice) = row.choice.get() {
+            return if aim.is_least() {
+                self.way_by_member(choice, id, USER)
+            } else {
+                self.member_down(choice, id)
+            };
+        }
+        let aim = if self.outcome.is_tristate(id) {
+            aim
+        } else {
+            aim.without_m()
+        };
+        let subject = Subject::of(self.alloc, &self.outcome, id, row, aim)?;
+        if aim.is_least() {
+            self.ways_up(&subject)
+        } else {
+            self.ways_down(&subject)
+        }
+    }
+
+    // Adds the ways by a default that has the goal's text, or by none if that is empty.
+    fn text_defaults(&mut self, subject: &Subject<'a>, text: &[u8]) -> Result<(), AllocError> {
+        let mut earlier = Vec::new(self.alloc);
+        let mut number = FIRST_DEFAULT;
+        for default in subject.defaults.iter() {
+            if self.is_text(default, text) {
+                self.need_all(&earlier)?;
+                self.need(Need::Guard(condition_of(default), Aim::AtLeastM))?;
+                self.need_hidden(subject)?;
+                self.end(number, 20, Give::Nothing)?;
+            }
+            number = number.saturating_add(1);
+            if !self.add_earlier(default, &mut earlier)? {
+                return Ok(());
+            }
+        }
+        if text.is_empty() {
+            self.need_all(&earlier)?;
+            self.need_hidden(subject)?;
+            self.end(NO_DEFAULT, 20, Give::Nothing)?;
+        }
+        Ok(())
+    }
+
+    // Whether a default has this text now.
+    fn is_text(&self, default: &Guard<'a>, text: &[u8]) -> bool {
+        match default.value {
+            Some(e) => single_text(e, self.outcome.now) == text,
+            None => false,
+        }
+    }
+
+    /// Adds the ways to the goal's text. What ranges ask for is left to the check.
+    pub(crate) fn text_ways(&mut self) -> Result<(), AllocError> {
+        let id = self.outcome.goal.symbol;
+        let (Some(row), UserValue::Text(text)) = (
+            self.outcome.layout.symbol(id),
+            &self.outcome.goal.value,
+        ) else {
+            return Ok(());
+        };
+        self.need_fact(Fact::Prompts(id, Aim::AtLeastM))?;
+        self.end(USER, 0, Give::GoalText)?;
+        let subject = Subject::of(self.alloc, &self.outcome, id, row, Aim::AtLeastM)?;
+        self.text_defaults(&subject, text)
+    }
 }

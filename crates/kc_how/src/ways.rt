@@ -1,11 +1,7 @@
 //! The ways to a fact.
 
-use crate::condition_ways::{
-    context_ways, dependency_ways, direct_ways, mode_ways, prompt_ways, selector_ways, visible_ways,
-};
 use crate::facts::{Aim, Fact, Outcome};
 use crate::needs::Ways;
-use crate::truth_ways::{text_ways, truth_ways};
 use kc_expr::expression::SymId;
 use kc_tree::rows::SelectorId;
 use std::alloc::{AllocError, Global};
@@ -24,19 +20,18 @@ pub(crate) fn ways_of<'a>(
     outcome: &Outcome<'a>,
     fact: Fact,
 ) -> Result<Ways<'a>, AllocError> {
-    let mut found = Ways::new(alloc);
-    let ways = &mut found;
+    let mut ways = Ways::new(alloc, outcome);
     match fact {
-        Fact::Truth(id, aim) => truth_ways(alloc, outcome, id, aim, ways)?,
-        Fact::Prompts(id, aim) => prompt_ways(outcome, id, aim, ways)?,
-        Fact::Direct(id, aim) => direct_ways(outcome, id, aim, ways)?,
-        Fact::Selected(id, aim) => selector_ways(outcome, last_lines(outcome, id).0, aim, ways)?,
-        Fact::Implied(id, aim) => selector_ways(outcome, last_lines(outcome, id).1, aim, ways)?,
-        Fact::Context(at, aim) => context_ways(outcome, at, aim, ways)?,
-        Fact::Visible(id, aim) => visible_ways(outcome, id, aim, ways)?,
-        Fact::Dependency(id, aim) => dependency_ways(outcome, id, aim, ways)?,
-        Fact::Mode(id, aim) => mode_ways(outcome, id, aim, ways)?,
-        Fact::GoalText => text_ways(alloc, outcome, ways)?,
+        Fact::Truth(id, aim) => ways.truth_ways(id, aim)?,
+        Fact::Prompts(id, aim) => ways.prompt_ways(id, aim)?,
+        Fact::Direct(id, aim) => ways.direct_ways(id, aim)?,
+        Fact::Selected(id, aim) => ways.selector_ways(last_lines(outcome, id).0, aim)?,
+        Fact::Implied(id, aim) => ways.selector_ways(last_lines(outcome, id).1, aim)?,
+        Fact::Context(at, aim) => ways.context_ways(at, aim)?,
+        Fact::Visible(id, aim) => ways.visible_ways(id, aim)?,
+        Fact::Dependency(id, aim) => ways.dependency_ways(id, aim)?,
+        Fact::Mode(id, aim) => ways.mode_ways(id, aim)?,
+        Fact::GoalText => ways.text_ways()?,
     }
-    Ok(found)
+    Ok(ways)
 }
