@@ -13,3 +13,4 @@ pub mod PlaceLemmas
 pub mod SolvedLemmas
 pub mod PromptWalks
 pub mod SomeLemmas
+pub mod ReasonLemmas

@@ -1,5 +1,5 @@
 -- For proofs: What the bounds of a part of an equation cover.
-use Rattle.std.specs.{Option.option_map_or, Prelude.{List, Option, Some, length, map, slice_get, true, ℕ, ◌<◌, ◌≡◌}}
+use Rattle.std.specs.{Option.option_map_or, Prelude.{All, List, Option, Some, length, map, slice_get, true, ℕ, ◌<◌, ◌≡◌}}
 use Rattle.kc_language.specs.{Expressions.{Form, SymbolValue, greatest, truth_of_value}, Statements.{ChoiceLine, Numbered}, Symbols.{Guarded, SymbolFacts, TreeFacts}, Values.{GivenValue, and_value, choice_at, default_value, mode_of}, declared.{expressions.{SymId.SymId, SymbolType.SymbolType, Tri.{TheVariants.N, Tri}}, symbols.SelectOrImply.SelectOrImply}}
 use Rattle.kc_tree.specs.Layouts.{asked_by, choice_at as choice_begun, facts_of}
 use Rattle.kc_tree.specs.{Places.names, Stored.unstored, declared.{layout.Layout.Layout, rows.{Choice.Choice, Symbol.Symbol}}}
@@ -9,6 +9,10 @@ use Rattle.kc_possible.specs.{Bounds.IsWithin, Possible.{Allows, IsTyped}, decla
 -- whatever values the symbols may have, this is between the bounds
 abbrev pub Covers : Possible → Bounds → ((SymId → SymbolValue) → Tri) → Type 0
 Covers p b worth = (known : SymId → SymbolValue) → Allows p known → IsWithin b (worth known)
+
+-- whatever values the symbols may have, each of these is n
+abbrev pub AreOff : Possible → List SymId → Type 0
+AreOff p found = All (λ s. (known : SymId → SymbolValue) → Allows p known → truth_of_value (known s) ≡ N) found
 
 -- the truth value of a symbol of this type is between the bounds
 abbrev pub IsOfType : SymbolType → Bounds → Type 0

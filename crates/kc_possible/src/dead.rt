@@ -11,8 +11,8 @@ use kc_expr::expression::{SymId, Tri};
 use kc_tree::rows::Symbol;
 use std::alloc::{AllocError, Global};
 
-// Whether one of the definitions of a symbol has a prompt.
-fn has_prompt(p: &Possible<'_>, id: SymId, row: &Symbol) -> bool
+/// Whether one of the definitions of a symbol has a prompt.
+pub(crate) fn has_prompt(p: &Possible<'_>, id: SymId, row: &Symbol) -> bool
     requires { IsRowOf p.now id row.now }
     ensures { result ≡ has_prompt (facts_in p.now id row.now).prompts }
 {

@@ -1,0 +1,6 @@
+-- The symbols found are always n.
+use Rattle.kc_possible.specs.PartsOfPossible.{AreOff}
+use Rattle.kc_possible.proofs.reason.add_defaults.Given as goal
+
+abbrev pub invariant-loop-line : goal.invariant-loop-line
+invariant-loop-line l = AreOff l.p l.found.items
