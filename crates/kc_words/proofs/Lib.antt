@@ -1,5 +1,6 @@
 pub mod ApartLemmas
-pub mod DepthLemmas
+pub mod GoalLemmas
+pub mod NumberLemmas
 pub mod PartLemmas
 pub mod PlaceLemmas
 pub mod RowLemmas

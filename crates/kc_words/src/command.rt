@@ -124,6 +124,16 @@ const EXPLAIN_DEPTH: OptionTexts = OptionTexts {
     help: "Also explain what holds it down, in at most N steps [default: 3]",
 };
 
+const HOW: OptionTexts = OptionTexts {
+    value: "NAME=VALUE",
+    help: "Print what must be set so that the symbol NAME has VALUE, and write no file",
+};
+
+const HOW_STEPS: OptionTexts = OptionTexts {
+    value: "N",
+    help: "The most fragments to try for --how [default: 60]",
+};
+
 const REPLACE: &str = "Write files atomically, and leave unchanged files untouched";
 
 const CHECK: &str = "Write no file, and fail for each that is not up to date (E22)";
@@ -255,6 +265,8 @@ fn with_options<'a>(alloc: Global, command: Command<'a>) -> Result<Command<'a>, 
     let command = with_flag(alloc, command, "explain-lost", EXPLAIN_LOST)?;
     let command = with_repeated(alloc, command, "explain", EXPLAIN)?;
     let command = with_option(alloc, command, "explain-depth", EXPLAIN_DEPTH)?;
+    let command = with_option(alloc, command, "how", HOW)?;
+    let command = with_option(alloc, command, "how-steps", HOW_STEPS)?;
     let command = with_flag(alloc, command, "replace", REPLACE)?;
     let command = with_flag(alloc, command, "check", CHECK)?;
     let command = with_flag(alloc, command, "diff", DIFF)?;
