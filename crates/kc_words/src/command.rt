@@ -22,8 +22,8 @@ With --each, {} in the FILEs of --out, --header, --savedefconfig, --list-new, --
 Exit status:
   0  success: every output file is complete
   1  refused: an error in the input (the tree, a .config file, a file name with --depfile, a name of
-     --explain), a warning under --strict or --strict-tree, or a file that is not up to date
-     (--check); no file was created or changed
+     --explain or --how), no way found by --how, a warning under --strict or --strict-tree, or a file
+     that is not up to date (--check); no file was created or changed
   2  wrong arguments
   3  I/O error or out of memory: output files may be truncated; with --replace they are unchanged,
      unless a rename failed
