@@ -7,8 +7,8 @@ use Rattle.kc_outcome.specs.{Outcome.{Options, file_for}, declared.outcome.{Outp
 use Rattle.kc_io.specs.Log.{Journal, Log, TriesToSay, held}
 use Rattle.kc_language.specs.Lines.{is_whole_lines}
 use Rattle.kc_load.specs.{Folder.{AnswersAs, AreFilesOf, FolderState, IsLoadFault, Leads as FolderLeads, failed_load, files_told}, declared.fault.LoadFault.LoadFault}
-use Rattle.kc_words.specs.{CommandLine.{AreApart, AreOptionsFor, IsClash, IsRefused, IsRequestOf, arguments_of, kconf_app, listed, refusal_of, rows_for, with_hint}, declared.{each.Each.Each, options.Request.{Request, TheVariants.{Dead, One, Each as Many}}, usage.UsageError.{UsageError, TheVariants.{Bad, Memory}}}}
-use Rattle.kc_conf.specs.{Dead.FolderListsDead, Faults.{FolderRuns, load_line}, Many.{LeavesEach, RunsEach}}
+use Rattle.kc_words.specs.{CommandLine.{AreApart, AreOptionsFor, IsClash, IsRefused, IsRequestOf, arguments_of, kconf_app, listed, refusal_of, rows_for, with_hint}, declared.{each.Each.Each, how.HowQuestion.HowQuestion, options.Request.{Request, TheVariants.{Dead, How, One, Each as Many}}, usage.UsageError.{UsageError, TheVariants.{Bad, Memory}}}}
+use Rattle.kc_conf.specs.{Dead.FolderListsDead, Faults.{FolderRuns, load_line}, How.FolderHowRuns, Many.{LeavesEach, RunsEach}, declared.reply.Asked.Asked}
 use Rattle.kc_disk.specs.declared.arguments.Arguments.{Arguments, TheVariants.{Given, Unread}}
 
 -- The exit status.
@@ -136,12 +136,32 @@ abbrev pub EndsOne : Bool → Options → Option FolderState → Option FolderSt
 EndsOne true options folder folder_after old new status = RunsIncluding options folder folder_after status
 EndsOne false options folder folder_after old new status = FolderRuns options folder folder_after old new status
 
--- A run for one configuration or for many, or a list of dead prompts.
+-- What must be set so that a symbol has a value: for the value and the number of tries of the question.
+pub record IsAskedBy (how : HowQuestion) (asked : Asked) : Type 0 where
+  pub value : asked.value.now ≡ string_bytes how.value
+  pub steps : asked.steps ≡ how.steps
+
+abbrev pub FolderAsks : HowQuestion → Option FolderState → Option FolderState → Log → Log → Status → Type 0
+FolderAsks how folder folder_after old new status =
+    (asked : Asked) × IsAskedBy how asked × FolderHowRuns how.options asked folder folder_after old new status
+
+-- The same with or without included files. There was not enough memory for the pieces; or it is asked over them.
+pub data AsksIncluding (how : HowQuestion) (folder folder_after : Option FolderState) (status : Status) : Type 0 where
+  no_pieces_to_ask : folder_after ≡ folder → status ≡ Faulted → AsksIncluding how folder folder_after status
+  asked_pieces : (pieced : Options) → IsPieced how.options pieced → FolderAsks (record how { options = pieced }) folder folder_after None None status →
+      AsksIncluding how folder folder_after status
+
+abbrev pub EndsHow : Bool → HowQuestion → Option FolderState → Option FolderState → Log → Log → Status → Type 0
+EndsHow true how folder folder_after old new status = AsksIncluding how folder folder_after status
+EndsHow false how folder folder_after old new status = FolderAsks how folder folder_after old new status
+
+-- A run for one configuration or for many, a list of dead prompts, or what must be set.
 abbrev pub EndsAsked : Request → Option FolderState → Option FolderState → Log → Log → Status → Type 0
 EndsAsked (One options) folder folder_after old new status = EndsOne (is_some options.include) options folder folder_after old new status
 EndsAsked (Many each) folder folder_after old new status = FolderRunsEach each folder folder_after old new status
 EndsAsked (Dead dead) folder folder_after old new status =
     FolderListsDead dead.options (string_bytes dead.file) folder folder_after old new status
+EndsAsked (How how) folder folder_after old new status = EndsHow (is_some how.options.include) how folder folder_after old new status
 
 -- What is done with the arguments: the requested run; or the error is reported, and nothing else is done.
 module _ (arguments : List (String Global)) (folder folder_after : Option FolderState) (old new : Log) (status : Status) where

@@ -4,8 +4,9 @@ ghost use Rattle.kc_read.specs.Files.{files_in};
 ghost use Rattle.kc_outcome.specs.declared.outcome.Status.TheVariants as status;
 ghost use Rattle.kc_conf.specs.Faults.{FolderRuns};
 ghost use Rattle.kc_conf.specs.Many.{RunsEach};
-ghost use Rattle.kc_disk.specs.Program.{GivesPieced, IsPieced, RunsEachIncluding, RunsIncluding};
+ghost use Rattle.kc_disk.specs.Program.{AsksIncluding, FolderAsks, GivesPieced, IsPieced, RunsEachIncluding, RunsIncluding};
 
+use crate::asking::ask;
 use kc_conf::{
     AcceptedTree, Configurations, Options, Status, run_each, run_in_folder, say_load_fault,
 };
@@ -14,7 +15,7 @@ use kc_io::Device;
 use kc_load::{Folder, LoadFault};
 use kc_options::wants_sources;
 use kc_read::file_map::FileMap;
-use kc_words::Each;
+use kc_words::{Each, HowQuestion};
 use std::alloc::{AllocError, Global};
 use std::cell::Cell;
 
@@ -153,6 +154,70 @@ pub(crate) fn run_including<F: Folder, D: Device>(
 {
     match read_inputs(alloc, &options, &[options.config.as_str()], device) {
         Ok(inputs) => run_inputs(alloc, folder, options, &inputs, device, kept),
+        Err(_) => say_no_memory(device),
+    }
+}
+
+// Asks over pieces.
+fn ask_pieces<F: Folder, D: Device>(
+    alloc: Global,
+    folder: &mut F,
+    how: &HowQuestion,
+    turns: &[Vec<Piece<'_>>],
+    device: &mut D,
+    kept: &mut Option<AcceptedTree>,
+) -> Status
+    ensures { FolderAsks how.now (F.state folder.old) (F.state folder.new) None None result }
+{
+    let turn = Cell::new(0);
+    let mut pieces = PiecedDevice::new(device, turns, &turn);
+    ask(alloc, folder, how, &mut pieces, kept)
+}
+
+// Asks over the input files that were read.
+fn ask_inputs<F: Folder, D: Device>(
+    alloc: Global,
+    folder: &mut F,
+    how: HowQuestion,
+    inputs: &Inputs,
+    device: &mut D,
+    kept: &mut Option<AcceptedTree>,
+) -> Status
+    ensures { AsksIncluding how (F.state folder.old) (F.state folder.new) result }
+{
+    let HowQuestion {
+        options,
+        value,
+        steps,
+    } = how;
+    match turn_of(alloc, options, inputs) {
+        Ok((options, turns)) => {
+            let pieced = HowQuestion {
+                options,
+                value,
+                steps,
+            };
+            ask_pieces(alloc, folder, &pieced, &turns, device, kept)
+        }
+        Err(_) => say_no_memory(device),
+    }
+}
+
+/// Tells what must be set so that the symbol of the question has the value, with the files that lines of the input files
+/// include (our own).
+///
+/// The input files and their included files are read at once, before the tree, as by [`run_including`].
+pub(crate) fn ask_including<F: Folder, D: Device>(
+    alloc: Global,
+    folder: &mut F,
+    how: HowQuestion,
+    device: &mut D,
+    kept: &mut Option<AcceptedTree>,
+) -> Status
+    ensures { AsksIncluding how (F.state folder.old) (F.state folder.new) result }
+{
+    match read_inputs(alloc, &how.options, &[how.options.config.as_str()], device) {
+        Ok(inputs) => ask_inputs(alloc, folder, how, &inputs, device, kept),
         Err(_) => say_no_memory(device),
     }
 }

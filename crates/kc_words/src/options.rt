@@ -3,7 +3,7 @@
 ghost use Rattle.std.specs.Prelude.{◌≡◌, ◌++◌, ◌<◌, [], IfOk, IfErr, OnOk, Some, codes, false, is_some, length, map, option_map, string_bytes, unwrap_or, true};
 ghost use Rattle.kc_language.specs.ConfigFile.{is_prefix};
 ghost use Rattle.clap.specs.Words.{takes, rows_of, found_of, kind_of, first_of, fault_of};
-ghost use Rattle.kc_words.specs.CommandLine.{asked_names, asks, exclusion_of, goal_in, goal_option, has_value, how_exclusion, is_each, is_given, steps_option, values_of, AreOptionsOf, AreSharedOptions, AsksAlone, AsksFor, IsDeadOf, IsEachOf, IsHowOf, IsRequestOf, asked_outputs, delivery_of, other_outputs, output_if, number_of, prefix_option, kconf_app, arguments_of, rows_for, IsRefused, refusal_of, unless_asking, unless_explained};
+ghost use Rattle.kc_words.specs.CommandLine.{asked_names, asks, exclusion_of, goal_error, goal_option, has_value, how_exclusion, is_each, is_given, steps_option, values_of, AreOptionsOf, AreSharedOptions, AsksAlone, AsksFor, IsDeadOf, IsEachOf, IsHowOf, IsRequestOf, asked_outputs, delivery_of, other_outputs, output_if, number_of, prefix_option, kconf_app, arguments_of, rows_for, IsRefused, refusal_of, unless_asking, unless_explained};
 ghost use Rattle.std.specs.List.{flat_map};
 ghost use Rattle.kc_words.specs.Inputs.{AreValues, HasInputs, IsAsked, IsForm, IsQuestionOrRun, goal_view, output_view};
 ghost use Rattle.kc_words.specs.Refusals.{IsErrorOf, IsKindOf, IsNoForm, IsNoNumber, IsNoPrefix, IsNoRequest, IsNoValue, IsNotAsked, IsBadWords, IsTold};
@@ -471,11 +471,7 @@ fn read_options(
 }
 
 // Reads the options of one configuration.
-fn read_one(
-    alloc: Global,
-    matches: &ArgMatches<'_>,
-    values: Values,
-) -> Result<Options, AllocError>
+fn read_one(alloc: Global, matches: &ArgMatches<'_>, values: Values) -> Result<Options, AllocError>
     requires { AreValues (rows_of (found_of matches.now)) values }
     ensures { IfOk result (AreOptionsOf (rows_of (found_of matches.now))) }
 {
