@@ -8,7 +8,8 @@
 //! - [`shown`]: values of symbols.
 //! - [`lines`]: the lines of a fragment. [`merged`]: the user's values of two inputs. [`fix`]: the check of a fragment.
 //! - [`facts`] and [`plan`]: what a goal needs, and the cheapest lines that give it. [`search`]: the fragments that are tried.
-//! - [`reached`]: whether the goal is reached. [`minimal`]: what is needed of a fragment. [`rank`]: what it costs the user.
+//! - [`tries`] and [`reached`]: what comes of lines. [`minimal`]: those that are needed. [`rank`]: what they cost the user. [`penalties`]: what
+//!   the search avoids.
 
 pub mod answer;
 mod condition_ways;
@@ -31,5 +32,6 @@ mod relations;
 mod search;
 mod shown;
 pub mod text;
+mod tries;
 mod truth_ways;
 mod ways;

@@ -27,8 +27,8 @@ pub(crate) struct Line {
 
 // ---- copies
 
-/// A copy of a value.
-pub(crate) fn copied_value(alloc: Global, value: &UserValue) -> Result<UserValue, AllocError> {
+// A copy of a value.
+fn copied_value(alloc: Global, value: &UserValue) -> Result<UserValue, AllocError> {
     match value {
         UserValue::Tri(tri) => Ok(UserValue::Tri(*tri)),
         UserValue::Text(text) => {
@@ -38,8 +38,8 @@ pub(crate) fn copied_value(alloc: Global, value: &UserValue) -> Result<UserValue
     }
 }
 
-// A copy of a line.
-fn copied_line(alloc: Global, line: &Line) -> Result<Line, AllocError> {
+/// A copy of a line.
+pub(crate) fn copied_line(alloc: Global, line: &Line) -> Result<Line, AllocError> {
     let value = copied_value(alloc, &line.value)?;
     Ok(Line {
         symbol: line.symbol,
@@ -73,7 +73,7 @@ pub(crate) fn copied_without(
 
 // ---- what lines give
 
-/// What the lines give a symbol.
+/// What lines give a symbol.
 pub(crate) fn given(lines: &[Line], symbol: SymId) -> Option<&UserValue> {
     for line in lines {
         if line.symbol == symbol {
@@ -83,8 +83,8 @@ pub(crate) fn given(lines: &[Line], symbol: SymId) -> Option<&UserValue> {
     None
 }
 
-/// Whether both are the same value.
-pub(crate) fn is_same_value(value: &UserValue, other: &UserValue) -> bool {
+// Whether both are the same value.
+fn is_same_value(value: &UserValue, other: &UserValue) -> bool {
     is_same(shown_given(value), shown_given(other))
 }
 

@@ -10,6 +10,7 @@ use crate::needs::{Give, Need, Part};
 use crate::prices::{Costs, Prices};
 pub(crate) use crate::prices::{Blame, Penalty, Step};
 use crate::question::Question;
+use crate::reached::add_dependencies;
 use crate::relations::{Making, Relation, Side, facts_of, picked, swapped};
 use crate::ways::ways_of;
 use kc_expr::expression::{Expr, Operand, Operands, Parts, SymId, Tri};
@@ -290,7 +291,7 @@ impl<'a> Draft<'a> {
     }
 }
 
-// The facts that the goal is.
+// The facts that the goal is, and those that end conflicts.
 fn goal_facts(alloc: Global, outcome: &Outcome<'_>) -> Result<Vec<Fact>, AllocError> {
     let id = outcome.goal.symbol;
     let mut facts = Vec::new(alloc);
@@ -306,6 +307,7 @@ fn goal_facts(alloc: Global, outcome: &Outcome<'_>) -> Result<Vec<Fact>, AllocEr
         }
         UserValue::Text(_) => facts.push(Fact::GoalText)?,
     }
+    add_dependencies(outcome, &mut facts)?;
     Ok(facts)
 }
 

@@ -121,6 +121,15 @@ fn is_only_selected(question: &Question<'_, '_, '_, '_>, after: &Solved<'_>) -> 
         && has_prompt(question.laid.layout, goal)
 }
 
+/// What lines cost, as lines.
+pub(crate) fn lines_cost(lines: &[Line]) -> u32 {
+    let mut cost = 0u32;
+    for _ in lines {
+        cost = cost.saturating_add(LINE);
+    }
+    cost
+}
+
 /// What a fragment costs: mainly its lines, and the values of the user that it turns off.
 pub(crate) fn score(question: &Question<'_, '_, '_, '_>, trial: Trial<'_, '_>) -> u32 {
     let mut quarters = 0u32;
@@ -130,10 +139,7 @@ pub(crate) fn score(question: &Question<'_, '_, '_, '_>, trial: Trial<'_, '_>) -
             quarters = quarters.saturating_add(1);
         }
     }
-    let mut score = quarters / 4;
-    for _ in trial.lines {
-        score = score.saturating_add(LINE);
-    }
+    let mut score = lines_cost(trial.lines).saturating_add(quarters / 4);
     if is_only_selected(question, trial.after) {
         score = score.saturating_add(ONLY_SELECTED);
     }
