@@ -15,6 +15,12 @@ location_text at = elim at [ None ↦ [] | Some place ↦ codes " (" ++ place.st
 abbrev pub many_changes : ℕ
 many_changes = 100
 
+abbrev pub many_text : ℕ → List ℕ
+many_text n = if nat_le many_changes n then codes ": it may be meant for another board or architecture" else []
+
+abbrev pub changes_line : ℕ → List ℕ
+changes_line n = codes "# changes " ++ decimal n ++ codes " other values" ++ many_text n ++ codes "\n"
+
 -- The solutions before and after a fragment of these lines.
 module _ (tree : TreeFacts) (notation : Notation) (input : UserInput) (before after : Solution) (lines : List (List ℕ)) where
   -- what the fragment gives a symbol, and what the user's input files gave it
@@ -52,10 +58,6 @@ module _ (tree : TreeFacts) (notation : Notation) (input : UserInput) (before af
     | None ↦ not (same_given (given_of (known before s)) (given_of (known after s))) && not (elim (user_value s) [ None ↦ false | Some old ↦ is_loss s old ])
   ]
 
-  abbrev pub changes_line : ℕ → List ℕ
-  changes_line n = codes "# changes " ++ decimal n ++ codes " other values"
-      ++ (if nat_le many_changes n then codes ": it may be meant for another board or architecture" else []) ++ codes "\n"
-
   -- The lines of the fragment; how many other values change; and what it costs the user. Without lines the goal is reached already.
   abbrev pub fix_text : Goal → List ℕ
   fix_text goal =
@@ -70,8 +72,11 @@ module _ (tree : TreeFacts) (notation : Notation) (input : UserInput) (before af
   ]) tree.defined) == 0
 
 -- E25: no input reaches the goal, and these symbols are always n; or the text is no value of the type. E26: no fix was found in so many tries.
+abbrev pub reason_text : SymbolType → List ℕ
+reason_text kind = elim kind [ Undefined ↦ codes ": not defined\n" | _ ↦ codes ": always n\n" ]
+
 abbrev pub reason_line : TreeFacts → SymId → List ℕ
-reason_line tree s = codes "  " ++ name tree s ++ (elim (type_in (facts tree s)) [ Undefined ↦ codes ": not defined\n" | _ ↦ codes ": always n\n" ])
+reason_line tree s = codes "  " ++ name tree s ++ reason_text (type_in (facts tree s))
 
 abbrev pub impossible_text : TreeFacts → Notation → Goal → List SymId → List ℕ
 impossible_text tree notation goal reasons =

@@ -5,13 +5,14 @@
 //!
 //! - [`question`]: what is asked, of which tree and input. [`goal`]: a symbol and the value that it shall have.
 //! - [`answer`]: the answer, with what is proved of it. [`text`]: how it is told.
-//! - [`shown`]: values of symbols.
+//! - [`shown`]: values of symbols. [`changes`]: what a fix changes.
 //! - [`lines`]: the lines of a fragment. [`merged`]: the user's values of two inputs. [`fix`]: the check of a fragment.
 //! - [`facts`] and [`plan`]: what a goal needs, and the cheapest lines that give it. [`search`]: the fragments that are tried.
 //! - [`tries`] and [`reached`]: what comes of lines. [`minimal`]: those that are needed. [`rank`]: what they cost the user. [`penalties`]: what
 //!   the search avoids.
 
 pub mod answer;
+mod changes;
 mod condition_ways;
 mod costs;
 mod facts;
