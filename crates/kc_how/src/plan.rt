@@ -20,7 +20,7 @@ use kc_text::Op;
 use kc_user::value::UserValue;
 use std::alloc::{AllocError, Global};
 
-/// Lines that are expected to give the goal, the facts that they give, and what they cost.
+/// Lines that are expected to give the goal, the steps by which they do so that may fail or be taken in another way, and what they cost.
 #[derive(Drop)]
 pub(crate) struct Plan {
     pub lines: Vec<Line>,
@@ -88,6 +88,14 @@ fn is_needed(part: Option<usize>, number: usize) -> bool {
     match part {
         Some(part) => part == number,
         None => true,
+    }
+}
+
+// Whether a fact is about the value of a symbol. A condition with one way can't fail by itself.
+fn is_value(fact: Fact) -> bool {
+    match fact {
+        Fact::Truth(_, _) | Fact::GoalText => true,
+        _ => false,
     }
 }
 
@@ -264,7 +272,9 @@ impl<'a> Draft<'a> {
         let Some(way) = ways.numbered(step.way) else {
             return Ok(());
         };
-        self.plan.steps.push(step)?;
+        if ways.list.len() > 1 || is_value(step.fact) {
+            self.plan.steps.push(step)?;
+        }
         self.give(way.give)?;
         for need in ways.common.iter() {
             self.add_need(*need)?;
