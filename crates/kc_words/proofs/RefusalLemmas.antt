@@ -9,10 +9,12 @@ use Rattle.clap.specs.declared.error.Error.{Error}
 use Rattle.clap.specs.declared.error.kind.ErrorKind.{ErrorKind}
 use Rattle.clap.specs.declared.error.kind.ErrorKind.TheVariants as kind
 use Rattle.kc_language.specs.Text.{longest_prefix}
-use Rattle.kc_words.specs.CommandLine.{kconf_app, depth_option, exclusion_of, prefix_option, IsRefused, goal_error, goal_in, has_value, how_exclusion, is_each, no_prefix_text, number_error, number_of, refusal_of, steps_option, value_error}
+use Rattle.kc_words.specs.CommandLine.{kconf_app, depth_option, exclusion_of, prefix_option, IsRefused, form_error, goal_error, goal_in, has_value, how_exclusion, is_each, no_prefix_text, number_error, number_of, refusal_of, steps_option, value_error}
 use Rattle.kc_language.specs.ConfigFile.{is_prefix}
 use Rattle.kc_words.specs.PartsOfCommandLine.{are_exclusive, dead_how_text, dead_of_many_text, exclusion_text, explains_dead, explains_dead_text, explains_how_text, explains_many, explains_many_text, how_of_many_text, is_dead_of_many, is_one_of_many, lacks_check, lacks_target, no_check_text, one_of_many_text, target_text}
-use Rattle.kc_words.specs.Refusals.{IsBadFor, IsKindOf, IsNoRequest, IsNoValue, IsTold}
+use Rattle.kc_words.specs.Refusals.{IsBadFor, IsErrorOf, IsKindOf, IsNoRequest, IsNoValue, IsTold}
+use Rattle.kc_words.specs.Inputs.{IsForm}
+use Rattle.kc_words.specs.declared.options.Form.{Form}
 use Rattle.kc_words.specs.declared.usage.UsageError.{UsageError}
 use Rattle.kc_words.specs.declared.usage.UsageError.TheVariants as usage
 use Rattle.kc_words.proofs.RowLemmas.{kconf_app-free}
@@ -25,6 +27,30 @@ pub has_kind : (app : App) (words : List Text) (e : Error) → app ≡ kconf_app
 has_kind app words e is h = subst (λ (a : App). HasKind (fault_of a words) e) is (h (ap is_simple_and_free is ∙ kconf_app-free))
 
 -- ---- arguments that are refused for what they hold
+
+-- the first of two errors
+pub first-error : (a b : Option Text) (u : UsageError) → IsErrorOf a u → IsErrorOf (option_or a b) u
+first-error a b (usage.Help t) h = absurd h
+first-error a b usage.Version h = absurd h
+first-error a b (usage.Bad t) h = rw h refl
+first-error a b usage.Memory h = tt
+
+pub next-error : (a b : Option Text) (u : UsageError) → a ≡ None → IsErrorOf b u → IsErrorOf (option_or a b) u
+next-error a b (usage.Help t) none h = absurd h
+next-error a b usage.Version none h = absurd h
+next-error a b (usage.Bad t) none h = rw none h
+next-error a b usage.Memory none h = tt
+
+-- values that are no errors
+pub form-good : (rows : List Row) (form : Form) → IsForm rows form → form_error rows ≡ None
+form-good rows form is = rw (is.prefix_is_one, sym is.explain_depth) refl
+
+pub goal-good : (text : Option Text) (goal : Option (Text × Text)) → is_some goal ≡ is_some text → goal ≡ (elim text [ None ↦ None | Some t ↦ goal_in t ]) → goal_error text ≡ None
+goal-good None goal there is = refl
+goal-good (Some t) None there is = absurd (let e : false ≡ true = there in cc)
+goal-good (Some t) (Some goal) there is = rw (sym is) refl
+
+pub ruleset two_errors = (first-error, next-error, form-good, goal-good)
 
 pub no_value-no_request : (rows : List Row) (u : UsageError) → exclusion_of rows ≡ None → IsNoValue rows u → IsNoRequest rows u
 no_value-no_request rows (usage.Help t) apart h = absurd h

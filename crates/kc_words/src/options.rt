@@ -395,6 +395,7 @@ fn read_goal(alloc: Global, matches: &ArgMatches<'_>) -> Result<Option<Goal>, Us
 }
 
 // Reads what `--how` asks. Reports the first that is not valid.
+#[tactic(auto, using(crate::proofs::RefusalLemmas::two_errors))]
 fn read_asked(alloc: Global, matches: &ArgMatches<'_>) -> Result<Asked, UsageError>
     ensures ok { IfOk result (IsAsked (rows_of (found_of matches.now))) }
     ensures err { IfErr result (IsNotAsked (rows_of (found_of matches.now))) }
@@ -548,6 +549,7 @@ fn question_or_run(options: Options, asked: Asked) -> Request
 }
 
 // Reads the request for one configuration, what must be set, or a list of dead prompts.
+#[tactic(auto, using(crate::proofs::RequestLemmas::requests))]
 fn read_alone(
     alloc: Global,
     matches: &ArgMatches<'_>,
@@ -585,6 +587,7 @@ fn read_checked(
 }
 
 // Reads the request. Reports the first value that is not valid.
+#[tactic(auto, using(crate::proofs::RefusalLemmas::two_errors))]
 fn read_taken(alloc: Global, matches: &ArgMatches<'_>) -> Result<Request, UsageError>
     ensures ok { IfOk result (AsksFor (rows_of (found_of matches.now))) }
     ensures err { IfErr result (IsNoValue (rows_of (found_of matches.now))) }
