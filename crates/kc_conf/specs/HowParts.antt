@@ -1,9 +1,9 @@
 -- For proofs: Parts of a run that tells what must be set so that a symbol has a value.
-use Rattle.std.specs.Prelude.{◌&&◌, ◌||◌, ◌≡◌, Bool, List, None, Option, Some, if◌then◌else◌, ℕ}
+use Rattle.std.specs.Prelude.{◌&&◌, ◌||◌, ◌≡◌, Bool, List, None, Option, Some, if◌then◌else◌, map, string_bytes, ℕ}
 use Rattle.kc_language.specs.{ConfigFile.UserInput, Symbols.TreeFacts, Texts.{IsSolutionFor, Solution}}
-use Rattle.kc_outcome.specs.Outcome.{Options, Outcome, is_not_empty, refused_outcome}
+use Rattle.kc_outcome.specs.{Outcome.{Options, Outcome, is_not_empty, refused_outcome}, declared.outcome.WantedOutput.{WantedOutput}}
 use Rattle.kc_how.specs.{Questions.goal_of, declared.question.Question.{Question}}
-use Rattle.kc_io.specs.Delivery.{NamedText, texts_of}
+use Rattle.kc_io.specs.Delivery.{NamedText}
 use Rattle.kc_conf.specs.{How.{IsGoal, IsToldOf, told}, Reads.IsWholeEnd, declared.reply.{Asked.{Asked}, Reply.{Reply, TheVariants.{Refusal, Text}}}}
 
 -- what such a reply leaves: its text for each output, or a refusal
@@ -35,7 +35,10 @@ pub record IsReply (options : Options) (asked : Asked) (tree : TreeFacts) (input
   pub told : IsToldOf options asked tree input solution (outcome_by options reply)
   pub ends : EndsLine reply
 
--- the text for each output, unless --strict-tree refuses the warnings
+-- an output with this text; all of them, unless --strict-tree refuses the warnings
+abbrev pub named_with : List ℕ → WantedOutput → NamedText
+named_with text wanted = record { name = string_bytes wanted.file; bytes = text }
+
 abbrev pub given_unless : Options → Bool → List ℕ → List ℕ → Option (List NamedText)
 given_unless options before waits text =
-    if options.strict_tree && (before || is_not_empty waits) then None else Some (texts_of options (told options text))
+    if options.strict_tree && (before || is_not_empty waits) then None else Some (map (named_with text) options.outputs.items)

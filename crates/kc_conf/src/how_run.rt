@@ -3,14 +3,13 @@ ghost use Rattle.kc_read.specs.Files.{files_in};
 ghost use Rattle.std.specs.Prelude.{◌≡◌, ◌++◌, [], IfOk, None, map, option_map};
 ghost use Rattle.kc_language.specs.Expansion.{Files};
 ghost use Rattle.kc_io.specs.Delivered.{text_view};
-ghost use Rattle.kc_io.specs.Delivery.{texts_of};
 ghost use Rattle.kc_io.specs.Log.{Leads, Log};
 ghost use Rattle.kc_outcome.specs.Outcome.{Options, is_not_empty, lines_text};
 ghost use Rattle.kc_conf.specs.Accepted.{IsAcceptedOf, IsReady};
 ghost use Rattle.kc_conf.specs.Endings.{Finishes, Refuses};
 ghost use Rattle.kc_conf.specs.Faults.{AreLines, refused_name_of};
-ghost use Rattle.kc_conf.specs.How.{FolderHowRuns, HowRuns, IsHowOutcome, told};
-ghost use Rattle.kc_conf.specs.HowParts.{given_unless};
+ghost use Rattle.kc_conf.specs.How.{FolderHowRuns, HowRuns, IsHowOutcome};
+ghost use Rattle.kc_conf.specs.HowParts.{given_unless, named_with};
 ghost use Rattle.kc_conf.specs.PartRuns.{Leaves};
 ghost use Rattle.kc_conf.specs.PartsOfFaults.{said_of_tree};
 ghost use Rattle.kc_conf.specs.Reads.{IsWholeEnd};
@@ -68,7 +67,7 @@ fn texts_by<'o>(
     options: &'o Options,
     text: &[u8],
 ) -> Result<Vec<Text<'o>>, AllocError>
-    ensures { IfOk result (λ texts. map text_view texts.items ≡ texts_of options.now (told options.now text.now)) }
+    ensures { IfOk result (λ texts. map text_view texts.items ≡ map (named_with text.now) options.now.outputs.items) }
 {
     let mut texts = Vec::new(alloc);
     for wanted in &options.outputs {

@@ -1,11 +1,12 @@
 //! What a run replies that is asked what must be set so that a symbol has a value.
-ghost use Rattle.std.specs.Prelude.{All, IfOk, Some, map, ◌<◌, ◌≡◌};
+ghost use Rattle.std.specs.Prelude.{All, IfOk, Some, map, not, ◌<◌, ◌||◌, ◌≡◌};
 ghost use Rattle.kc_language.specs.ConfigFile.{ArePlacesOf};
 ghost use Rattle.kc_language.specs.Values.{name_count};
 ghost use Rattle.kc_language.specs.declared.expressions.SymId.{SymId};
 ghost use Rattle.kc_possible.specs.Possible.{IsOff};
 ghost use Rattle.kc_how.specs.How.{IsFix, IsOutOfReach};
-ghost use Rattle.kc_how.specs.Questions.{IsQuestion, goal_of};
+ghost use Rattle.kc_how.specs.FixTexts as spec;
+ghost use Rattle.kc_how.specs.Questions.{IsQuestion, IsWith, goal_of};
 ghost use Rattle.kc_conf.specs.Accepted.{IsReady};
 ghost use Rattle.kc_conf.specs.How.{asked_first};
 ghost use Rattle.kc_conf.specs.HowParts.{IsReply, Replies};
@@ -79,7 +80,17 @@ fn impossible(
     Ok(Reply::Refusal(text))
 }
 
-// A fragment of these lines is a fix. Where no value may be lost, it counts only if it loses none.
+// Whether a fix counts: where no value may be lost, it loses none.
+fn counts(question: &Question<'_, '_, '_, '_>, fix: &Fix<'_, '_>) -> bool
+    requires question { IsQuestion question.now }
+    requires fix { IsWith question.now fix.now }
+    ensures { result ≡ (not question.now.is_strict || spec.loses_nothing question.now.laid.now.tree.now question.now.prefix.now question.now.input.now question.now.before.now
+        fix.now.after.now (map (λ line. line.items) fix.now.lines.now)) }
+{
+    !question.is_strict || loses_nothing(question, fix)
+}
+
+// A fragment of these lines is a fix.
 fn fixed(
     alloc: Global,
     question: &Question<'_, '_, '_, '_>,
@@ -98,11 +109,12 @@ fn fixed(
         alone: &alone,
         after: &after,
     };
-    if question.is_strict && !loses_nothing(question, &fix) {
-        return not_found(alloc, question);
+    if counts(question, &fix) {
+        let text = fix_text(alloc, question, &fix)?;
+        Ok(Reply::Text(text))
+    } else {
+        not_found(alloc, question)
     }
-    let text = fix_text(alloc, question, &fix)?;
-    Ok(Reply::Text(text))
 }
 
 // The reply to a question.
@@ -134,37 +146,38 @@ fn asked_first(options: &Options, tree: &Tree) -> Option<SymId>
 
 /// The reply about the user's input of an accepted tree. The caller must pass an order and user values of the tree. The only
 /// error is that memory runs out.
-pub(crate) fn reply_about<'q>(
+pub(crate) fn reply_about(
     alloc: Global,
-    options: &'q Options,
+    options: &Options,
     asked: &Asked<'_>,
-    accepted: &'q OrderedTree<'_>,
-    input: &'q UserInput<'_>,
+    accepted: &OrderedTree<'_>,
+    input: &UserInput<'_>,
 ) -> Result<Reply, AllocError>
     requires ready { IsReady accepted.now }
     requires places { ArePlacesOf accepted.now.laid.tree.now input.now.places }
     ensures { IfOk result (IsReply options.now asked.now accepted.now.laid.tree.now input.now) }
 {
-    let laid = &accepted.laid;
-    let before = solve(alloc, laid, &accepted.order, input.user())?;
-    let Some(symbol) = asked_first(options, laid.tree) else {
+    let before = solve(alloc, &accepted.laid, &accepted.order, input.user())?;
+    let tree = accepted.laid.tree;
+    let Some(symbol) = asked_first(options, tree) else {
         return Ok(Reply::Text(Vec::new(alloc)));
     };
     let symbol_type = before.symbol_type(symbol);
     let text = asked.value.as_bytes();
     let Some(value) = wanted_value(alloc, symbol_type, text, options.prefix.is_raw())? else {
-        let line = no_value_text(alloc, laid.tree, &options.prefix, symbol, asked.value)?;
+        let line = no_value_text(alloc, tree, &options.prefix, symbol, asked.value)?;
         return Ok(Reply::Refusal(line));
     };
-    let possible = Possible::of(alloc, laid, accepted.order.nodes())?;
+    let possible = Possible::of(alloc, &accepted.laid, accepted.order.nodes())?;
+    let goal = Goal { symbol, value };
     let question = Question {
-        laid,
+        laid: &accepted.laid,
         order: &accepted.order,
         possible: &possible,
         prefix: &options.prefix,
         input,
         before: &before,
-        goal: &Goal { symbol, value },
+        goal: &goal,
         steps: asked.steps,
         is_strict: options.strict,
     };
