@@ -175,7 +175,10 @@ pub record IsEachOf (rows : List Row) (each : Each) : Type 0 where
 -- A list of dead prompts in this file. Nothing else is read or written.
 pub record IsDeadOf (rows : List Row) (file : Text) (dead : DeadList) : Type 0 where
   pub shared : AreSharedOptions rows dead.options
+  pub config : string_bytes dead.options.config ≡ unwrap_or (first_of (codes "config") rows) (codes ".config")
   pub outputs : outputs_of dead.options ≡ []
+  pub fragments : map string_bytes dead.options.fragments.items ≡ []
+  pub must_exist : dead.options.must_exist ≡ false
   pub names_config : dead.options.names_config ≡ false
   pub file_is : string_bytes dead.file ≡ file
 
