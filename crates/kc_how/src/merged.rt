@@ -1,7 +1,8 @@
 //! The user's values of two inputs, one after the other.
 
-ghost use Rattle.std.specs.Prelude.{IfOk};
+ghost use Rattle.std.specs.Prelude.{◌≡◌, IfOk};
 ghost use Rattle.kc_language.specs.ConfigFile.{ArePlacesOf};
+ghost use Rattle.kc_how.specs.Merged.{merged_places};
 
 use kc_tree::tree::Tree;
 use kc_user::user::User;
@@ -16,6 +17,7 @@ pub(crate) fn merged(
 ) -> Result<User, AllocError>
     requires first { ArePlacesOf tree.now first.now }
     requires second { ArePlacesOf tree.now second.now }
+    ensures merged { IfOk result (λ user. user ≡ merged_places first.now second.now) }
     ensures places { IfOk result (λ user. ArePlacesOf tree.now user) }
 {
     Err(AllocError)
