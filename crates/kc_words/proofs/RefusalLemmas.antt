@@ -9,10 +9,10 @@ use Rattle.clap.specs.declared.error.Error.{Error}
 use Rattle.clap.specs.declared.error.kind.ErrorKind.{ErrorKind}
 use Rattle.clap.specs.declared.error.kind.ErrorKind.TheVariants as kind
 use Rattle.kc_language.specs.Text.{longest_prefix}
-use Rattle.kc_words.specs.CommandLine.{kconf_app, depth_option, exclusion_of, prefix_option, IsRefused, form_error, goal_error, goal_in, has_value, how_exclusion, is_each, no_prefix_text, number_error, number_of, refusal_of, steps_option, value_error}
+use Rattle.kc_words.specs.CommandLine.{kconf_app, depth_option, exclusion_of, prefix_option, IsRefused, form_error, goal_error, goal_in, has_value, how_exclusion, is_each, no_number_text, no_prefix_text, number_error, number_of, refusal_of, steps_option, value_error}
 use Rattle.kc_language.specs.ConfigFile.{is_prefix}
 use Rattle.kc_words.specs.PartsOfCommandLine.{are_exclusive, dead_how_text, dead_of_many_text, exclusion_text, explains_dead, explains_dead_text, explains_how_text, explains_many, explains_many_text, how_of_many_text, is_dead_of_many, is_one_of_many, lacks_check, lacks_target, no_check_text, one_of_many_text, target_text}
-use Rattle.kc_words.specs.Refusals.{IsBadFor, IsErrorOf, IsKindOf, IsNoRequest, IsNoValue, IsTold}
+use Rattle.kc_words.specs.Refusals.{IsBadFor, IsErrorOf, IsKindOf, IsNoNumber, IsNoRequest, IsNoValue, IsTold}
 use Rattle.kc_words.specs.Inputs.{IsForm}
 use Rattle.kc_words.specs.declared.options.Form.{Form}
 use Rattle.kc_words.specs.declared.usage.UsageError.{UsageError}
@@ -49,6 +49,12 @@ pub goal-good : (text : Option Text) (goal : Option (Text × Text)) → is_some 
 goal-good None goal there is = refl
 goal-good (Some t) None there is = absurd (let e : false ≡ true = there in cc)
 goal-good (Some t) (Some goal) there is = rw (sym is) refl
+
+pub no-number : (option text : Text) (u : UsageError) → IsNoNumber option text u → IsErrorOf (number_error option text) u
+no-number option text (usage.Help t) h = absurd h
+no-number option text usage.Version h = absurd h
+no-number option text (usage.Bad t) h = rw h.0 (ap Some (sym h.1))
+no-number option text usage.Memory h = tt
 
 pub ruleset two_errors = (first-error, next-error, form-good, goal-good)
 
@@ -95,6 +101,10 @@ pub written-text : (text : Text) → codes "error: invalid value '" ++ text
     ++ codes "' for '--prefix <TEXT>': at most 64 letters, digits and _, of which the first is no digit\n\nFor more information, try '--help'.\n" ≡ no_prefix_text text
 written-text text = rw longest-written refl
 
+pub written-number : (option text : Text) → codes "error: invalid value '" ++ (text ++ (codes "' for '" ++ (option
+    ++ codes " <N>': a decimal number below 2^63\n\nFor more information, try '--help'.\n"))) ≡ no_number_text option text
+written-number option text = refl
+
 -- ---- what is told is not empty
 
 positive : (e : Text) → (length e == 0) ≡ false → 0 < length e
@@ -117,7 +127,7 @@ told_how true false false true t h = long dead_how_text t h (positive dead_how_t
 told_how true false false false t h = absurd (cc)
 
 -- an error, if there is one, has a text
-AreTold : Option Text → Type 0
+abbrev AreTold : Option Text → Type 0
 AreTold o = (t : Text) → o ≡ Some t → 0 < length t
 
 told_exclusion : (a n b d m x e : Bool) (o : Option Text) → AreTold o

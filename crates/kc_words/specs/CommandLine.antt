@@ -236,7 +236,8 @@ no_prefix_text text = codes "error: invalid value '" ++ text ++ with_hint (codes
     ++ codes " letters, digits and _, of which the first is no digit")
 
 abbrev pub no_number_text : Text → Text → Text
-no_number_text option text = codes "error: invalid value '" ++ text ++ codes "' for '" ++ option ++ with_hint (codes " <N>': a decimal number below 2^63")
+no_number_text option text =
+    codes "error: invalid value '" ++ (text ++ (codes "' for '" ++ (option ++ with_hint (codes " <N>': a decimal number below 2^63"))))
 
 abbrev pub no_goal_text : Text → Text
 no_goal_text text = codes "error: invalid value '" ++ text ++ with_hint (codes "' for '--how <NAME=VALUE>': NAME=VALUE is expected")
