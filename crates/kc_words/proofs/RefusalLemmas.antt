@@ -56,6 +56,9 @@ no-number option text usage.Version h = absurd h
 no-number option text (usage.Bad t) h = rw h.0 (ap Some (sym h.1))
 no-number option text usage.Memory h = tt
 
+pub depth-bad : (rows : List Row) (u : UsageError) → is_prefix (prefix_option rows) ≡ true → IsNoNumber (codes "--explain-depth") (depth_option rows) u → IsErrorOf (form_error rows) u
+depth-bad rows u good bad = rw good (no-number (codes "--explain-depth") (depth_option rows) u bad)
+
 pub ruleset two_errors = (first-error, next-error, form-good, goal-good)
 
 pub no_value-no_request : (rows : List Row) (u : UsageError) → exclusion_of rows ≡ None → IsNoValue rows u → IsNoRequest rows u
