@@ -1,7 +1,10 @@
 -- A run that lists the prompts that no input makes visible: what its outcome is, and how it ends.
-use Rattle.std.proofs.Common.{◌≡◌, inl, inr, ℕ, Bool, true, false, List, [], ◌∷◌, ◌++◌, refl, Option, None, Some, Result, Err}
-use Rattle.std.proofs.lemmas.List.Elements.{All-nil}
-use Rattle.std.specs.Prelude.{if◌then◌else◌}
+use Rattle.std.proofs.Common.{◌≡◌, ◌∙◌, All, ap, inl, inr, sym, ℕ, Bool, true, false, List, [], ◌∷◌, ◌++◌, refl, Option, None, Some, Result, Ok, Err}
+use Rattle.std.proofs.lemmas.List.Elements.{All-nil, All-push}
+use Rattle.std.proofs.lemmas.Grind.{flat_map-append}
+use Rattle.std.proofs.lemmas.List.{append-nil, map-append}
+use Rattle.std.specs.declared.{alloc.{AllocError.AllocError, Global.Global}, vec.Vec.Vec}
+use Rattle.std.specs.Prelude.{IfOk, if◌then◌else◌}
 use Rattle.kc_language.specs.Expansion.{Files}
 use Rattle.kc_language.specs.Symbols.{TreeFacts}
 use Rattle.kc_language.specs.declared.expressions.SymId.{SymId}
@@ -11,13 +14,13 @@ use Rattle.kc_io.specs.Delivery.{NamedText}
 use Rattle.kc_io.specs.Log.{Log}
 use Rattle.kc_load.specs.Loading.{ExpandsAlike}
 use Rattle.kc_io.proofs.LogLemmas.{leads_nothing}
-use Rattle.kc_possible.specs.Possible.{AreSomeOf, IsDead}
+use Rattle.kc_possible.specs.Possible.{AreSomeOf, IsDead, IsOff}
 use Rattle.kc_outcome.specs.Outcome.{IsAcceptedTree, Options, Outcome, lines_text, refusal_line, refused_if, refused_outcome, root_file}
 use Rattle.kc_outcome.specs.declared.outcome.Status.{Status}
 use Rattle.kc_outcome.specs.declared.outcome.Status.TheVariants.{Done}
 use Rattle.kc_conf.specs.Accepted.{IsRefusalOf}
-use Rattle.kc_conf.specs.Dead.{IsDeadOutcome, ListsDead, dead_text, finishes, listed, no_memory, refused_tree as dead_refused, texts_for}
-use Rattle.kc_conf.specs.DeadParts.{IsDeadText, LeavesList, texts_unless}
+use Rattle.kc_conf.specs.Dead.{DeadSymbol, IsDeadOutcome, ListsDead, dead_line, dead_text, finishes, listed, no_memory, refused_tree as dead_refused, texts_for}
+use Rattle.kc_conf.specs.DeadParts.{IsDeadText, IsListOf, LeavesList, texts_unless}
 use Rattle.kc_conf.specs.Endings.{Finishes, RefusesTree, line_if, status_if, texts_or}
 use Rattle.kc_conf.specs.Faults.{diagnostics_of}
 use Rattle.kc_conf.specs.LawSteps.{AnswerExists}
@@ -36,7 +39,7 @@ none-of (s ∷ all) = inl (none-of all)
 
 -- an accepted tree has one
 of-accepted : (files : Files) (options : Options) (tree : TreeFacts) → IsAcceptedTree files (root_file options) tree → (outcome : Outcome) × IsDeadOutcome files options outcome
-of-accepted files options tree accepted = (_, listed tree [] accepted (All-nil (IsDead tree)) (none-of tree.defined) refl)
+of-accepted files options tree accepted = (_, listed tree [] accepted (All-nil (IsDead tree)) (none-of tree.defined) (All-nil (λ d. All (IsOff tree) d.reasons)) refl)
 
 -- so any files have one
 of-files : AnswerExists → (files : Files) (options : Options) → (outcome : Outcome) × IsDeadOutcome files options outcome
@@ -44,6 +47,26 @@ of-files answer files options = elim (answer files (root_file options)) [
   | inl a ↦ of-accepted files options a.0 a.1
   | inr b ↦ (refused_outcome (refusal_line b.0), dead_refused b.0 b.1 refl)
 ]
+
+-- ---- the list
+
+pub list_begins : (tree : TreeFacts) → IsListOf tree [] []
+list_begins tree = record { dead = []; listed = refl; off = All-nil (λ d. All (IsOff tree) d.reasons); text_is = refl }
+
+pub list_grows : (tree : TreeFacts) (symbols : List SymId) (text : List ℕ) (d : DeadSymbol) → All (IsOff tree) d.reasons → IsListOf tree symbols text →
+    IsListOf tree (symbols ++ d.symbol ∷ []) (text ++ dead_line tree d)
+list_grows tree symbols text d off list = record {
+  dead = list.dead ++ d ∷ [];
+  listed = map-append (λ d. d.symbol) list.dead (d ∷ []) ∙ ap (λ ss. ss ++ d.symbol ∷ []) list.listed;
+  off = All-push (λ d. All (IsOff tree) d.reasons) list.dead d list.off off;
+  text_is = ap (λ t. t ++ dead_line tree d) list.text_is ∙ sym (flat_map-append (dead_line tree) list.dead (d ∷ []) ∙ ap (λ t. dead_text tree list.dead ++ t) (append-nil (dead_line tree d)));
+}
+
+-- dead prompts of the tree are listed, if there is memory
+pub dead_listed : (tree : TreeFacts) (symbols : List SymId) (result : Result (Vec ℕ Global) AllocError) → All (IsDead tree) symbols → AreSomeOf symbols tree.defined →
+    IfOk result (λ text. IsListOf tree symbols text.items) → IfOk result (λ text. IsDeadText tree text.items)
+dead_listed tree symbols (Ok text) dead in_order list = record { symbols = symbols; dead = dead; in_order = in_order; list = list }
+dead_listed tree symbols (Err e) dead in_order list = list
 
 -- ---- how it ends
 
@@ -87,10 +110,10 @@ module _ (files : Files) (options : Options) (file : List ℕ) where
   pub LeavesList-listed : (tree : TreeFacts) (text warned : List ℕ) (given : Option (List NamedText)) (result : Result Status Stop) (old new : Log) → IsAcceptedTree files (root_file options) tree →
       IsDeadText tree text → warned ≡ lines_text tree.warnings → given ≡ texts_unless options file text warned →
       Finishes options (warned ++ line_if options given) (texts_or given) (status_if given) result old new → LeavesList files options file result old new
-  LeavesList-listed tree text warned given result old new accepted (dead, are, in_order, is) warned_is given_is h = record {
+  LeavesList-listed tree text warned given result old new accepted is warned_is given_is h = record {
     outcome = _;
-    is_outcome = listed tree dead accepted are in_order refl;
-    ends = finishes (finishes-strictly (dead_text tree dead) (lines_text tree.warnings) _ result old new (rw (given_is, warned_is, is) at h));
+    is_outcome = listed tree is.list.dead accepted (rw is.list.listed is.dead) (rw is.list.listed is.in_order) is.list.off refl;
+    ends = finishes (finishes-strictly (dead_text tree is.list.dead) (lines_text tree.warnings) _ result old new (rw (given_is, warned_is, is.list.text_is) at h));
   }
 
 -- ---- a folder's files
@@ -99,7 +122,8 @@ module _ (files : Files) (options : Options) (file : List ℕ) where
 module _ (options : Options) (files others : Files) (alike : ExpandsAlike (root_file options) files others) where
   outcome_over : (outcome : Outcome) → IsDeadOutcome files options outcome → IsDeadOutcome others options outcome
   outcome_over outcome (dead_refused r is e) = dead_refused r (refused_over (root_file options) files others alike r is) e
-  outcome_over outcome (listed tree dead accepted are in_order e) = listed tree dead (accepted_over (root_file options) files others alike tree accepted) are in_order e
+  outcome_over outcome (listed tree dead accepted are in_order off e) =
+      listed tree dead (accepted_over (root_file options) files others alike tree accepted) are in_order off e
 
   -- a run over these files is one over the others
   pub lists_over : (file : List ℕ) (old new : Log) (status : Status) → ListsDead files options file old new status → ListsDead others options file old new status

@@ -3,20 +3,35 @@
 use Rattle.std.specs.{List.flat_map, Prelude.{All, Bool, Err, List, Option, Result, [], codes, map, string_bytes, ℕ, ◌++◌, ◌∷◌, ◌≡◌}}
 use Rattle.kc_language.specs.{Expansion.{Files, Refused}, Symbols.TreeFacts, Text.BeginsWith, Values.name, declared.expressions.SymId.SymId}
 use Rattle.kc_outcome.specs.{Outcome.{IsAcceptedTree, IsRefusedTree, Options, Outcome, lines_text, refusal_line, refused_outcome, root_file, strictly}, declared.outcome.Status.{Status}}
-use Rattle.kc_possible.specs.Possible.{AreSomeOf, IsDead}
+use Rattle.kc_possible.specs.Possible.{AreSomeOf, IsDead, IsOff}
 use Rattle.kc_io.specs.{Delivery.NamedText, Log.{Leads, Log, TriesToSay}}
 use Rattle.kc_load.specs.{Folder.{AreFilesOf, FolderState, IsLoadFault, Leads as FolderLeads, failed_load, files_told}, declared.fault.LoadFault.LoadFault}
 use Rattle.kc_conf.specs.{Endings.{Answers, Finishes}, Faults.{AreLines, diagnostics_of, load_line}, declared.stop.Stop.{Stop}}
 
--- A line with the name of each symbol.
-abbrev pub dead_text : TreeFacts → List SymId → List ℕ
-dead_text tree dead = flat_map (λ s. name tree s ++ codes "\n") dead
+-- A symbol, and symbols that stand in its way.
+pub record DeadSymbol : Type 0 where
+  pub symbol : SymId
+  pub reasons : List SymId
+
+abbrev pub symbols_of : List DeadSymbol → List SymId
+symbols_of dead = map (λ d. d.symbol) dead
+
+-- A line with the name of each symbol, and the names of those in its way.
+abbrev pub reasons_text : TreeFacts → List SymId → List ℕ
+reasons_text tree reasons = elim reasons [ [] ↦ [] | s ∷ more ↦ codes ": " ++ name tree s ++ flat_map (λ t. codes ", " ++ name tree t) more ]
+
+abbrev pub dead_line : TreeFacts → DeadSymbol → List ℕ
+dead_line tree d = name tree d.symbol ++ reasons_text tree d.reasons ++ codes "\n"
+
+abbrev pub dead_text : TreeFacts → List DeadSymbol → List ℕ
+dead_text tree dead = flat_map (dead_line tree) dead
 
 -- What such a run leaves: the refusal of the tree; or its warnings and the text, unless --strict-tree refuses the warnings. Each symbol listed has a
--- prompt, and no input makes its prompts visible. They stand in the order of their first definitions.
+-- prompt, and no input makes its prompts visible. They stand in the order of their first definitions. Each symbol in the way of one is n under any input.
 pub data IsDeadOutcome (files : Files) (options : Options) (outcome : Outcome) : Type 0 where
   refused_tree : (r : Refused) → IsRefusedTree files (root_file options) r → outcome ≡ refused_outcome (refusal_line r) → IsDeadOutcome files options outcome
-  listed : (tree : TreeFacts) (dead : List SymId) → IsAcceptedTree files (root_file options) tree → All (IsDead tree) dead → AreSomeOf dead tree.defined →
+  listed : (tree : TreeFacts) (dead : List DeadSymbol) → IsAcceptedTree files (root_file options) tree → All (IsDead tree) (symbols_of dead) →
+      AreSomeOf (symbols_of dead) tree.defined → All (λ d. All (IsOff tree) d.reasons) dead →
       outcome ≡ strictly options (record { texts = dead_text tree dead ∷ []; warned = lines_text tree.warnings; refusal = []; status = Status.Done }) →
       IsDeadOutcome files options outcome
 

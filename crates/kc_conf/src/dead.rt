@@ -1,13 +1,15 @@
-//! A run that lists the prompts that no input makes visible. It reads the tree and no input file.
+//! A run that lists the prompts that no input makes visible, and why. It reads the tree and no input file.
 ghost use Rattle.kc_read.specs.Files.{files_in};
-ghost use Rattle.std.specs.Prelude.{◌≡◌, IfOk, map, option_map};
+ghost use Rattle.std.specs.Prelude.{◌≡◌, ◌++◌, IfOk, OnOk, map, option_map};
 ghost use Rattle.kc_language.specs.Expansion.{Files};
 ghost use Rattle.kc_io.specs.Delivered.{text_view};
 ghost use Rattle.kc_outcome.specs.Outcome.{IsAcceptedTree, root_file};
-ghost use Rattle.kc_conf.specs.Dead.{FolderListsDead, ListsDead, dead_text};
-ghost use Rattle.kc_conf.specs.DeadParts.{IsDeadText, LeavesList, texts_unless};
+ghost use Rattle.kc_conf.specs.Dead.{FolderListsDead, ListsDead, dead_line, reasons_text};
+ghost use Rattle.kc_conf.specs.DeadParts.{IsDeadText, IsListOf, LeavesList, texts_unless};
+ghost use Rattle.kc_possible.specs.Possible.{IsSound};
 
 use crate::accepted::{AcceptedTree, OrderedTree, read_tree};
+use crate::causes::add_more_names;
 use crate::diagnostics::add_lines;
 use crate::folder_run::say_load_fault;
 use crate::laws::outcome_exists;
@@ -19,19 +21,46 @@ use kc_load::{Folder, load};
 use kc_options::{Options, Status};
 use kc_possible::dead::dead_prompts;
 use kc_possible::possible::Possible;
+use kc_possible::reason::reasons;
 use kc_read::file_map::FileMap;
 use kc_tree::tree::Tree;
 use kc_values::table::name;
 use std::alloc::{AllocError, Global};
 
-// A line with the name of each symbol.
-fn list_of(alloc: Global, tree: &Tree, dead: &[SymId]) -> Result<Vec<u8>, AllocError>
-    ensures { IfOk result (λ text. text.items ≡ dead_text tree.now dead.now) }
+// Adds the names of the symbols that stand in the way, if there are any.
+fn add_reasons(tree: &Tree, reasons: &[SymId], text: &mut Vec<u8>) -> Result<(), AllocError>
+    ensures { OnOk result (text.new.items ≡ text.old.items ++ reasons_text tree.now reasons.now) }
+{
+    match reasons {
+        [] => Ok(()),
+        [first, more @ ..] => {
+            text.extend_from_slice(b": ")?;
+            text.extend_from_slice(name(tree, *first))?;
+            add_more_names(tree, more, text)
+        }
+    }
+}
+
+// Adds the line of a symbol.
+fn add_line(tree: &Tree, id: SymId, reasons: &[SymId], text: &mut Vec<u8>) -> Result<(), AllocError>
+    ensures { OnOk result (text.new.items ≡ text.old.items ++ dead_line tree.now (record { symbol = id; reasons = reasons.now })) }
+{
+    text.extend_from_slice(name(tree, id))?;
+    add_reasons(tree, reasons, text)?;
+    text.push(b'\n')?;
+    Ok(())
+}
+
+// The lines of these symbols, each with the symbols that stand in its way.
+#[tactic(auto, using(crate::proofs::DeadLemmas::list_begins))]
+fn list_of(alloc: Global, p: &Possible<'_>, dead: &[SymId]) -> Result<Vec<u8>, AllocError>
+    requires { IsSound p.now }
+    ensures { IfOk result (λ text. IsListOf p.now.laid.tree.now dead.now text.items) }
 {
     let mut text = Vec::new(alloc);
     for id in dead {
-        text.extend_from_slice(name(tree, *id))?;
-        text.push(b'\n')?;
+        let reasons = reasons(alloc, p, *id)?;
+        add_line(p.laid.tree, *id, &reasons, &mut text)?;
     }
     Ok(text)
 }
@@ -42,7 +71,7 @@ fn dead_list(alloc: Global, accepted: &OrderedTree<'_>) -> Result<Vec<u8>, Alloc
 {
     let possible = Possible::of(alloc, &accepted.laid, accepted.order.nodes())?;
     let dead = dead_prompts(alloc, &possible)?;
-    list_of(alloc, accepted.laid.tree, &dead)
+    list_of(alloc, &possible, &dead)
 }
 
 // The text for its file; none if --strict-tree refuses these warnings.
@@ -111,7 +140,7 @@ fn list_over<'o, D: Device>(
 
 /// Lists the symbols whose prompts no input can make visible, as far as the bounds of kc_possible show it, and writes, replaces
 /// or compares the file of this name (our own). The list has a line with the name of each, in the order of their first
-/// definitions. No input file is read, and the outputs of the options are not written.
+/// definitions. After the name stand those of symbols that stand in the way and that are n whatever the user gives. No input file is read, and the outputs of the options are not written.
 ///
 /// A refused tree (E1 to E16), and a warning about the tree under `strict_tree` (E21), are reported; no file is opened then, and
 /// the status is `Refused`. So is a file that is not up to date (E22), where files are compared. If the file cannot be written
