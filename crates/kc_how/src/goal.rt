@@ -1,11 +1,14 @@
 //! A symbol and the value that it shall have.
 
 ghost use Rattle.std.specs.Prelude.{◌≡◌, IfOk, option_map};
+ghost use Rattle.std.specs.List.{list_any};
+ghost use Rattle.kc_language.specs.Lines.{is_line_feed};
 ghost use Rattle.kc_user.specs.ValueView.{given_of_value};
 ghost use Rattle.kc_how.specs.How as spec;
 
 use kc_expr::expression::{SymId, SymbolType};
-use kc_user::value::UserValue;
+use kc_input::value::line_value;
+use kc_user::value::{UserValue, is_short_quoted};
 use std::alloc::{AllocError, Global};
 
 /// A symbol and the value that it shall have (our own).
@@ -17,6 +20,13 @@ pub struct Goal {
     pub value: UserValue,
 }
 
+// Whether the text has a line feed.
+fn has_line_feed(text: &[u8]) -> bool
+    ensures { result ≡ list_any is_line_feed text.now }
+{
+    text.iter().any(|b| *b == b'\n')
+}
+
 // A string without quotes.
 fn unquoted(
     alloc: Global,
@@ -25,7 +35,12 @@ fn unquoted(
 ) -> Result<Option<UserValue>, AllocError>
     ensures { IfOk result (λ value. option_map given_of_value value ≡ spec.unquoted symbol_type text.now) }
 {
-    Err(AllocError)
+    match symbol_type {
+        SymbolType::Str if is_short_quoted(text) && !has_line_feed(text) => {
+            Ok(Some(UserValue::Text(Vec::from_slice(alloc, text)?)))
+        }
+        _ => Ok(None),
+    }
 }
 
 /// The value that a text asks for, for a symbol of this type (our own). It is what the text gives right of the `=` of a `.config`
@@ -38,5 +53,8 @@ pub fn wanted_value(
 ) -> Result<Option<UserValue>, AllocError>
     ensures { IfOk result (λ value. option_map given_of_value value ≡ spec.wanted_value is_raw symbol_type text.now) }
 {
-    Err(AllocError)
+    match line_value(alloc, symbol_type, text, is_raw)? {
+        Some(value) => Ok(Some(value)),
+        None => unquoted(alloc, symbol_type, text),
+    }
 }
