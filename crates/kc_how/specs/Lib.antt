@@ -1,3 +1,4 @@
 pub mod How
 pub mod FixTexts
 pub mod Questions
+pub mod Merged
