@@ -2,3 +2,4 @@ pub mod How
 pub mod FixTexts
 pub mod Questions
 pub mod Merged
+pub mod Fragments

@@ -52,6 +52,18 @@ fn put_choices(layout: &Layout, over: &User, user: &mut User)
     }
 }
 
+// Puts all values over those of `user`.
+fn put(alloc: Global, layout: &Layout, over: &User, user: &mut User) -> Result<(), AllocError>
+    requires symbols { length user.old.symbols ≡ length over.now.symbols }
+    requires over { length over.now.choices ≡ length layout.now.choices.items }
+    requires user { length user.old.choices ≡ length layout.now.choices.items }
+    ensures { OnOk result (user.new ≡ merged_places user.old over.now) }
+{
+    put_symbols(alloc, over, user)?;
+    put_choices(layout, over, user);
+    Ok(())
+}
+
 /// The values of `first`, and over them those of `second`.
 pub(crate) fn merged(
     alloc: Global,
@@ -66,9 +78,7 @@ pub(crate) fn merged(
 {
     let layout = tree.layout();
     let mut user = User::new(alloc, tree)?;
-    put_symbols(alloc, first, &mut user)?;
-    put_choices(layout, first, &mut user);
-    put_symbols(alloc, second, &mut user)?;
-    put_choices(layout, second, &mut user);
+    put(alloc, layout, first, &mut user)?;
+    put(alloc, layout, second, &mut user)?;
     Ok(user)
 }

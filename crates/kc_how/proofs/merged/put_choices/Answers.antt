@@ -12,7 +12,7 @@ loop-number-init c = ap (λ xs. record c.args.user.now { choices = xs }) (sym (o
 pub select-requires : goal.select-requires
 select-requires c =
     let count : length c.loop-number.user.choices ≡ length c.args.user.now.choices =
-        ap (λ (u : Places). length u.choices) c.loop-number.invariant ∙ length-over c.args.user.now.choices (take c.loop-number.number c.args.over.now.choices) in
+    ap (λ (u : Places). length u.choices) c.loop-number.invariant ∙ length-over c.args.user.now.choices (take c.loop-number.number c.args.over.now.choices) in
     let all : c.choices-number-end.result.now ≡ c.args.layout.now.choices.items = c.choices-number-end.ensures in
     omega (arith, count, ap length all, c.loop-number-test.true, c.requires.user)
 
