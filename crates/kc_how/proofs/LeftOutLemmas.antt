@@ -30,7 +30,7 @@ one-more-needed q lines n before here j lt = elim (cases_eq j n) [
   | inl same ↦
       let of_line : Vec ℕ Global → List ℕ = λ line. line.items in
       let e : lines_in (take n lines) ++ lines_in (drop (n + 1) lines) ≡ take n (lines_in lines) ++ drop (n + 1) (lines_in lines) =
-          rw (sym (take-map of_line n lines), sym (drop-map of_line (n + 1) lines)) refl in
+      rw (sym (take-map of_line n lines), sym (drop-map of_line (n + 1) lines)) refl in
       subst (λ k. EndsIn q false (take k (lines_in lines) ++ drop (k + 1) (lines_in lines))) (sym same) (subst (λ ls. EndsIn q false ls) e here)
   | inr other ↦ before j (omega (arith, lt, other))
 ]

@@ -135,7 +135,8 @@ pub fn with_fragment(
     lines: &[Vec<u8>],
 ) -> Result<User, AllocError>
     requires { IsQuestion question.now }
-    ensures { IfOk result (λ user. user ≡ (spec.with_fragment question.now.laid.now.tree.now question.now.prefix.now question.now.input.now (map (λ line. line.items) lines.now)).places) }
+    ensures user { IfOk result (λ user. user ≡ (spec.with_fragment question.now.laid.now.tree.now question.now.prefix.now question.now.input.now (map (λ line. line.items) lines.now)).places) }
+    ensures places { IfOk result (λ user. ArePlacesOf question.now.laid.now.tree.now user) }
 {
     let text = text_of(alloc, lines, &[])?;
     let alone = read(alloc, question.laid.tree, question.prefix, &text)?;
@@ -181,12 +182,19 @@ fn is_in_conflict(solved: &Solved<'_>, id: SymId) -> bool
     }
 }
 
+// Whether a symbol is in conflict only if it was so before.
+fn is_no_new_conflict(before: &Solved<'_>, solved: &Solved<'_>, id: SymId) -> bool
+    ensures { result ≡ (spec.is_in_conflict before.now id || not (spec.is_in_conflict solved.now id)) }
+{
+    is_in_conflict(before, id) || !is_in_conflict(solved, id)
+}
+
 // Whether each symbol that is in conflict was so before.
 fn adds_no_conflict(before: &Solved<'_>, solved: &Solved<'_>) -> bool
     ensures { result ≡ list_all (λ s. spec.is_in_conflict before.now s || not (spec.is_in_conflict solved.now s)) solved.now.tree.defined }
 {
     for id in solved.table().layout.defined() {
-        if is_in_conflict(solved, *id) && !is_in_conflict(before, *id) {
+        if !is_no_new_conflict(before, solved, *id) {
             return false;
         }
     }
