@@ -3,3 +3,4 @@ pub mod FixTexts
 pub mod Questions
 pub mod FixCosts
 pub mod Merged
+pub mod Fragments
