@@ -16,10 +16,10 @@ abbrev pub many_changes : ℕ
 many_changes = 100
 
 abbrev pub many_text : ℕ → List ℕ
-many_text n = if nat_le many_changes n then codes ": it may be meant for another board or architecture" else []
+many_text n = if nat_le many_changes n then codes " (it may be meant for another board or architecture)" else []
 
 abbrev pub changes_line : ℕ → List ℕ
-changes_line n = codes "# changes " ++ decimal n ++ codes " other values" ++ many_text n ++ codes "\n"
+changes_line n = codes "# other values that change: " ++ decimal n ++ many_text n ++ codes "\n"
 
 -- The solutions before and after a fragment of these lines.
 module _ (tree : TreeFacts) (notation : Notation) (input : UserInput) (before after : Solution) (lines : List (List ℕ)) where

@@ -191,7 +191,7 @@ fn many_text(count: usize) -> &'static [u8]
     ensures { result.now ≡ many_text count }
 {
     if count >= MANY_CHANGES {
-        b": it may be meant for another board or architecture"
+        b" (it may be meant for another board or architecture)"
     } else {
         b""
     }
@@ -205,9 +205,8 @@ fn add_changes(count: usize, text: &mut Vec<u8>) -> Result<(), AllocError>
     let number = buffer.format(count).as_bytes();
     add_parts(
         &[
-            b"# changes ",
+            b"# other values that change: ",
             number,
-            b" other values",
             many_text(count),
             b"\n",
         ],
