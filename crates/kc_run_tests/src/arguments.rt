@@ -474,7 +474,7 @@ const QUESTIONS: &[(&str, WantHow)] = &[
         "--how|A=y|Kconfig",
         WantHow {
             value: "y",
-            steps: 60,
+            steps: 200,
             options: HOW,
         },
     ),
@@ -501,7 +501,7 @@ const QUESTIONS: &[(&str, WantHow)] = &[
         "--how|A=-1|Kconfig|--out=b|--header=h|--savedefconfig|m|--list-new=n|--list-gone=o|--depfile=d|--replace",
         WantHow {
             value: "-1",
-            steps: 60,
+            steps: 200,
             options: HOW,
         },
     ),
@@ -509,7 +509,7 @@ const QUESTIONS: &[(&str, WantHow)] = &[
         "--root=d|--config=a|--how|A=y|Kconfig|b|--fragment|c|--must-exist|--strict|--strict-tree|--flat|--include=i|--prefix=|--raw-strings|--quiet-tree|--hints|--warn-lost|--explain-depth|1|--check|--diff",
         WantHow {
             value: "y",
-            steps: 60,
+            steps: 200,
             options: Want {
                 root: "d",
                 config: "a",

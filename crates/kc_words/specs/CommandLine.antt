@@ -79,7 +79,7 @@ abbrev pub depth_option : List Row → Text
 depth_option rows = unwrap_or (first_of (codes "explain-depth") rows) (codes "3")
 
 abbrev pub steps_option : List Row → Text
-steps_option rows = unwrap_or (first_of (codes "how-steps") rows) (codes "60")
+steps_option rows = unwrap_or (first_of (codes "how-steps") rows) (codes "200")
 
 abbrev pub number_of : Text → Option ℕ
 number_of = natural_of 10 (2 ^ 63)

@@ -131,7 +131,7 @@ const HOW: OptionTexts = OptionTexts {
 
 const HOW_STEPS: OptionTexts = OptionTexts {
     value: "N",
-    help: "The most fragments to try for --how [default: 60]",
+    help: "The most fragments to try for --how [default: 200]",
 };
 
 const REPLACE: &str = "Write files atomically, and leave unchanged files untouched";

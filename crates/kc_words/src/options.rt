@@ -402,7 +402,7 @@ fn read_asked(alloc: Global, matches: &ArgMatches<'_>) -> Result<Asked, UsageErr
 {
     match read_goal(alloc, matches) {
         Ok(goal) => {
-            let steps = text_or(alloc, matches, "how-steps", "60")?;
+            let steps = text_or(alloc, matches, "how-steps", "200")?;
             match checked_number(alloc, "--how-steps", steps.as_str()) {
                 Ok(steps) => Ok(Asked { goal, steps }),
                 Err(usage) => Err(usage),
@@ -653,7 +653,7 @@ fn usage_of(alloc: Global, error: &Error) -> UsageError
 /// `--version` or `-V` (our own; Rust's `clap` reads the arguments, and its documentation has the rules).
 ///
 /// Each field is what the arguments hold, or for an absent option: root `.`, config `.config`, the full `.config` to the file of
-/// `--config`, prefix `CONFIG_`, include and each other output none, explain depth 3, 60 tries, each flag false; the texts are written, or
+/// `--config`, prefix `CONFIG_`, include and each other output none, explain depth 3, 200 tries, each flag false; the texts are written, or
 /// with `--replace` replaced, or with `--check` compared. The files of `--fragment` follow the others.
 ///
 /// With `--explain` the explanation is the only output, to `/dev/stdout`, whatever else is given. Nothing is strict, the texts are
