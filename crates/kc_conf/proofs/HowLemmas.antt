@@ -187,9 +187,9 @@ module _ (law : OneAnswer) (outcomes : ExactlyOneOutcome) (files : Files) (optio
           subst (λ (t : List NamedText). Finishes options (waits ++ []) t Done result mid new) (named-map (λ (kind : Output). text) options.outputs.items) ends
 
       -- only under --strict-tree it matters what waits
-      strict-waits : {waiting : Waiting} (warned : List ℕ) → waiting.holds ≡ holds_warnings options → waiting.text.items ≡ (if waiting.holds then warned else []) →
+      strict-waits : (waiting : Waiting) (warned : List ℕ) → waiting.holds ≡ holds_warnings options → waiting.text.items ≡ (if waiting.holds then warned else []) →
           (options.strict_tree && (is_not_empty (lines_text tree.warnings) || is_not_empty (warned ++ []))) ≡ (options.strict_tree && (is_not_empty (lines_text tree.warnings) || is_not_empty waiting.text.items))
-      strict-waits {waiting = waiting} warned holds waits = by options.strict_tree refl
+      strict-waits waiting warned holds waits = by options.strict_tree refl
         where
           by : (strict : Bool) → options.strict_tree ≡ strict → (strict && (is_not_empty (lines_text tree.warnings) || is_not_empty (warned ++ [])))
               ≡ (strict && (is_not_empty (lines_text tree.warnings) || is_not_empty waiting.text.items))
@@ -203,7 +203,7 @@ module _ (law : OneAnswer) (outcomes : ExactlyOneOutcome) (files : Files) (optio
       Leaves-how-told {waiting = waiting} {mid = mid} text given result new r holds solution solves is given_is ends =
           let rest : Outcome = reported r.warned (told options text) in
           let refuses = options.strict_tree && (is_not_empty (lines_text tree.warnings) || is_not_empty waiting.text.items) in
-          let same : part_by options tree rest ≡ answer-if refuses r.warned text = ap (λ b. refused_if options b rest) (strict-waits {waiting = waiting} r.warned holds r.waits) in
+          let same : part_by options tree rest ≡ answer-if refuses r.warned text = ap (λ b. refused_if options b rest) (strict-waits waiting r.warned holds r.waits) in
           Leaves-ended how-goes fresh h waiting.text.items (part_by options tree rest) result r (told-of (bytes_of r.inputs) rest (replied r (told options text) solution solves is))
           (ap (λ l. (if waiting.holds then [] else r.warned) ++ l) (r.waits ∙ sym (append-nil (if waiting.holds then r.warned else []))) ∙ split-said waiting.holds r.warned []
           ∙ sym (strictly_after-warned options (is_not_empty (lines_text tree.warnings)) rest))
@@ -222,14 +222,14 @@ HowRuns-answered files options asked result status is_over old mid new run answe
 
 -- from these files to others that expand alike
 module _ (options : Options) (files others : Files) (alike : ExpandsAlike (root_file options) files others) (asked : Asked) where
-  lenient_over : (opened all : List (List ℕ)) (outcome : Outcome) → IsLenientHow files options asked opened all outcome → IsLenientHow others options asked opened all outcome
-  lenient_over opened all outcome (refused_tree r x e) = refused_tree r (refused_over (root_file options) files others alike r x) e
-  lenient_over opened all outcome (refused_name tree name x unread e) = refused_name tree name (accepted_over (root_file options) files others alike tree x) unread e
-  lenient_over opened all outcome (unknown_symbol tree name x read unknown e) = unknown_symbol tree name (accepted_over (root_file options) files others alike tree x) read unknown e
-  lenient_over opened all outcome (accepted_tree tree x read known y) = accepted_tree tree (accepted_over (root_file options) files others alike tree x) read known y
+  lenient_over : (names all : List (List ℕ)) (outcome : Outcome) → IsLenientHow files options asked names all outcome → IsLenientHow others options asked names all outcome
+  lenient_over names all outcome (refused_tree r x e) = refused_tree r (refused_over (root_file options) files others alike r x) e
+  lenient_over names all outcome (refused_name tree name x unread e) = refused_name tree name (accepted_over (root_file options) files others alike tree x) unread e
+  lenient_over names all outcome (unknown_symbol tree name x read unknown e) = unknown_symbol tree name (accepted_over (root_file options) files others alike tree x) read unknown e
+  lenient_over names all outcome (accepted_tree tree x read known y) = accepted_tree tree (accepted_over (root_file options) files others alike tree x) read known y
 
   outcome_over : (all : List (List ℕ)) (outcome : Outcome) → IsHowOutcome files options asked all outcome → IsHowOutcome others options asked all outcome
-  outcome_over all outcome (lenient, opened, is, are, same) = (lenient, opened, lenient_over opened all lenient is, opened_over (root_file options) files others alike opened are, same)
+  outcome_over all outcome (lenient, names, is, are, same) = (lenient, names, lenient_over names all lenient is, opened_over (root_file options) files others alike names are, same)
 
   -- a run over these files is one over the others
   pub how_over : (old new : Log) (status : Status) → HowRuns files options asked old new status → HowRuns others options asked old new status

@@ -5,7 +5,7 @@ use Rattle.kc_language.specs.Expansion.{Files}
 use Rattle.kc_language.specs.Symbols.{TreeFacts}
 use Rattle.kc_language.specs.ConfigFile.{ReadResult, StreamLocation, UserInput, lines_of, reading}
 use Rattle.kc_language.specs.Text.{BeginsWith}
-use Rattle.kc_outcome.specs.Outcome.{Options, Outcome, fresh_input, input_names, reported, read_of, refused_outcome, streams}
+use Rattle.kc_outcome.specs.Outcome.{IsAcceptedTree, Options, Outcome, fresh_input, input_names, reported, read_of, refused_outcome, root_file, streams}
 use Rattle.kc_io.specs.Delivery.{NamedText, texts_of}
 use Rattle.kc_io.specs.Inputs.{AreInputs, InputFile, ReadsTo, bytes_of, reads, still_told}
 use Rattle.kc_io.specs.Log.{Event, Log, Leads}
@@ -19,7 +19,6 @@ use Rattle.kc_conf.specs.Reads.{BreaksInputs, ReadsInputs, StopsInputs, ended_wi
 use Rattle.kc_conf.specs.declared.reading.Waiting.{Waiting}
 use Rattle.kc_conf.specs.declared.stop.Stop.{Stop}
 use Rattle.kc_conf.specs.declared.stop.Stop.TheVariants.{OutOfMemory, Failed}
-use Rattle.kc_language.specs.declared.diagnostics.RunError.TheVariants as error
 use Rattle.kc_outcome.specs.declared.outcome.Status.{Status}
 use Rattle.kc_outcome.specs.declared.outcome.Status.TheVariants.{Refused}
 use Rattle.kc_conf.proofs.EndingLemmas.{Finishes-log, beyond-nothing, report-log}

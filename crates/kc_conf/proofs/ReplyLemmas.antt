@@ -1,30 +1,26 @@
 -- What a reply leaves.
-use Rattle.std.proofs.Common.{◌≡◌, ◌∙◌, ℕ, Bool, false, not, List, [], ◌∷◌, ◌++◌, refl, sym, ap, subst, append_assoc, append-nil, length, String, string_bytes, true, Option, None, Some, Vec, Global}
-use Rattle.std.proofs.lemmas.List.Quantifiers.{position-Some}
-use Rattle.std.specs.List.{flat_map, position}
-use Rattle.std.specs.Option.{option_or}
-use Rattle.std.specs.Prelude.{All, ◌<◌, ◌||◌, codes, option_and_then, option_map}
-use Rattle.kc_entries.specs.WellFormed.{IsWellFormed}
-use Rattle.kc_language.specs.ConfigFile.{Notation, UserInput, symbol_named, without_prefix}
-use Rattle.kc_language.specs.Expressions.{same_name, symbol}
+use Rattle.std.proofs.Common.{◌≡◌, ◌∙◌, ℕ, Bool, decimal, false, not, List, [], ◌∷◌, ◌++◌, refl, sym, ap, subst, append_assoc, append-nil, true, Option, None, Some, Vec, Global}
+use Rattle.std.specs.List.{flat_map}
+use Rattle.std.specs.Prelude.{All, ◌||◌, codes}
+use Rattle.kc_language.specs.ConfigFile.{Notation, UserInput}
 use Rattle.kc_language.specs.Statements.{error_line}
 use Rattle.kc_language.specs.Symbols.{TreeFacts}
 use Rattle.kc_language.specs.Texts.{IsSolutionFor, Solution}
-use Rattle.kc_language.specs.Values.{facts, name, name_count, type_in}
+use Rattle.kc_language.specs.Values.{GivenValue, facts, name, type_in}
 use Rattle.kc_language.specs.declared.expressions.SymId.{SymId}
 use Rattle.kc_language.specs.declared.expressions.SymbolType.{SymbolType}
 use Rattle.kc_language.specs.declared.expressions.SymbolType.TheVariants.{Undefined}
-use Rattle.kc_outcome.specs.Explanations.{asked_symbol}
 use Rattle.kc_outcome.specs.Outcome.{Options, refused_outcome}
 use Rattle.kc_possible.specs.Possible.{IsOff}
-use Rattle.kc_how.specs.FixTexts.{fix_text, impossible_text, loses_nothing, no_value_text, not_found_text, reason_line}
+use Rattle.kc_how.specs.FixTexts.{fix_text, impossible_text, loses_nothing, no_value_text, not_found_text, reason_line, setting, type_word}
 use Rattle.kc_how.specs.How.{Goal, IsFix, IsOutOfReach, wanted_value, with_fragment}
 use Rattle.kc_how.specs.Questions.{goal_of}
 use Rattle.kc_how.specs.declared.question.Question.{Question}
 use Rattle.kc_conf.specs.How.{asked_first, fixed, impossible, no_value, not_found, nothing_asked, told}
-use Rattle.kc_conf.specs.HowParts.{IsReply, Replies}
+use Rattle.kc_conf.specs.HowParts.{IsAsked, IsReply, Replies}
 use Rattle.kc_conf.specs.Reads.{IsWholeEnd}
 use Rattle.kc_conf.specs.declared.reply.Asked.{Asked}
+use Rattle.kc_conf.specs.declared.reply.Reply.{Reply}
 use Rattle.kc_conf.specs.declared.reply.Reply.TheVariants.{Refusal, Text}
 use Rattle.kc_conf.proofs.SayLemmas.{ends-behind}
 
@@ -64,13 +60,13 @@ module _ (q : Question) where
   Replies-not_found text e = record {
     told = λ options asked is. not_found goal is.goal
         (ap refused_outcome (e ∙ ap (λ (p : Notation). not_found_text tree p goal q.steps) is.prefix ∙ ap (λ (n : ℕ). not_found_text tree options.prefix goal n) is.steps));
-    ends = subst IsWholeEnd (sym e) (ends-error _);
+    ends = subst IsWholeEnd (sym e) (ends-error (codes "E26: no way to " ++ setting tree q.prefix.now goal.symbol goal.value ++ codes " was found in " ++ decimal q.steps ++ codes " tries; --how-steps allows more"));
   }
 
   pub Replies-impossible : (reasons : List SymId) (text : Vec ℕ Global) → IsOutOfReach tree goal → All (IsOff tree) reasons → text.items ≡ impossible_text tree q.prefix.now goal reasons → Replies q (Refusal text)
   Replies-impossible reasons text out off e = record {
     told = λ options asked is. impossible goal reasons is.goal out off (ap refused_outcome (e ∙ ap (λ (p : Notation). impossible_text tree p goal reasons) is.prefix));
-    ends = subst IsWholeEnd (sym e) (ends-reasons tree reasons _ (ends-error _));
+    ends = subst IsWholeEnd (sym e) (ends-reasons tree reasons _ (ends-error (codes "E25: no input gives " ++ setting tree q.prefix.now goal.symbol goal.value)));
   }
 
   pub Replies-fixed : (lines : List (List ℕ)) (after : Solution) (text : Vec ℕ Global) → IsFix tree q.prefix.now q.input.now q.before.now goal lines →
@@ -93,29 +89,22 @@ module _ (options : Options) (asked : Asked) (tree : TreeFacts) (input : UserInp
 
   pub IsReply-no_value : (s : SymId) (text : Vec ℕ Global) → asked_first options tree ≡ Some s → wanted_value options.prefix.is_raw (type_in (facts tree s)) asked.value.now ≡ None →
       text.items ≡ no_value_text tree options.prefix s asked.value.now → IsReply options asked tree input (Refusal text)
-  IsReply-no_value s text is none e = record { solution = before; solution_is = solves; told = no_value s is none (ap refused_outcome e); ends = subst IsWholeEnd (sym e) (ends-error _) }
+  IsReply-no_value s text is none e = record {
+    solution = before;
+    solution_is = solves;
+    told = no_value s is none (ap refused_outcome e);
+    ends = subst IsWholeEnd (sym e)
+        (ends-error (codes "E25: " ++ options.prefix.prefix ++ name tree s ++ codes " has the type " ++ type_word (type_in (facts tree s)) ++ codes ": not " ++ asked.value.now));
+  }
 
--- ---- the symbol that is asked about
+-- the reply to the question that is asked
+pub IsReply-asked : {options : Options} {asked : Asked} (q : Question) (reply : Reply) → IsSolutionFor q.laid.now.tree.now q.input.now.places q.before.now → IsAsked options asked q → Replies q reply →
+    IsReply options asked q.laid.now.tree.now q.input.now reply
+IsReply-asked {options = options} {asked = asked} q reply solves is replies = record { solution = q.before.now; solution_is = solves; told = replies.told options asked is; ends = replies.ends }
 
-named-within : (tree : TreeFacts) (called : List ℕ) (s : SymId) → IsWellFormed tree → symbol_named tree called ≡ Some s → s.0 < name_count tree
-named-within tree called s formed is = by (position (same_name called) tree.names) refl is
-  where
-    by : (at : Option ℕ) → position (same_name called) tree.names ≡ at → option_map symbol at ≡ Some s → s.0 < name_count tree
-    by None e is = absurd (let clash : None ≡ Some s = is in cc)
-    by (Some i) e is =
-        let same : i ≡ s.0 = (let both : symbol i ≡ s = (let some : Some (symbol i) ≡ Some s = is in cc) in ap (λ (t : SymId). t.0) both) in
-        let within = (position-Some (same_name called) tree.names i [] e).0 in
-        subst (λ (n : ℕ). s.0 < n) (sym formed.symbols_named) (subst (λ (j : ℕ). j < length tree.names) same within)
-
-pub asked-within : (options : Options) (tree : TreeFacts) (s : SymId) → IsWellFormed tree → asked_first options tree ≡ Some s → s.0 < name_count tree
-asked-within options tree s formed is = first options.explain.items is
-  where
-    behind : (asked : List ℕ) (own : Option SymId) → ((t : SymId) → own ≡ Some t → t.0 < name_count tree) → (rest : Option (List ℕ)) → option_or own (option_and_then (symbol_named tree) rest) ≡ Some s → s.0 < name_count tree
-    behind asked (Some t) own rest is = own s is
-    behind asked None own (Some name) is = named-within tree name s formed is
-    behind asked None own None is = absurd (let clash : None ≡ Some s = is in cc)
-
-    first : (names : List (String Global)) → elim names [ [] ↦ None | name ∷ _ ↦ asked_symbol tree options.prefix.prefix (string_bytes name) ] ≡ Some s → s.0 < name_count tree
-    first [] is = absurd (let clash : None ≡ Some s = is in cc)
-    first (name ∷ names) is =
-        behind (string_bytes name) (symbol_named tree (string_bytes name)) (λ t e. named-within tree (string_bytes name) t formed e) (without_prefix options.prefix.prefix (string_bytes name)) is
+-- the value that is asked for
+pub wanted-is : {given : Option GivenValue} {is_raw : Bool} {kind : SymbolType} {text : List ℕ} (options : Options) (asked : Asked) (tree : TreeFacts) (s : SymId) → given ≡ wanted_value is_raw kind text →
+    is_raw ≡ options.prefix.is_raw → kind ≡ type_in (facts tree s) → text ≡ asked.value.now → wanted_value options.prefix.is_raw (type_in (facts tree s)) asked.value.now ≡ given
+wanted-is {is_raw = is_raw} {kind = kind} {text = text} options asked tree s is raw_is kind_is text_is =
+    sym (is ∙ ap (λ (b : Bool). wanted_value b kind text) raw_is ∙ ap (λ (k : SymbolType). wanted_value options.prefix.is_raw k text) kind_is
+    ∙ ap (λ (t : List ℕ). wanted_value options.prefix.is_raw (type_in (facts tree s)) t) text_is)

@@ -71,9 +71,10 @@ fn texts_by<'o>(
 {
     let mut texts = Vec::new(alloc);
     for wanted in &options.outputs {
+        let bytes = Vec::from_slice(alloc, text)?;
         texts.push(Text {
             name: wanted.file.as_str(),
-            bytes: Vec::from_slice(alloc, text)?,
+            bytes,
         })?;
     }
     Ok(texts)

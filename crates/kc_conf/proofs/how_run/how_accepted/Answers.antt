@@ -1,5 +1,5 @@
 -- A name is refused; or the tree's warnings are said, and the input files follow.
-use Rattle.std.proofs.Common.{◌∙◌, ap, refl, sym, option_map}
+use Rattle.std.proofs.Common.{◌∙◌, ap, sym, option_map}
 use Rattle.std.proofs.lemmas.Result.{err_from_is_err_and}
 use Rattle.kc_io.proofs.LogLemmas.{leads_nothing}
 use Rattle.kc_outcome.specs.Outcome.{lines_text}

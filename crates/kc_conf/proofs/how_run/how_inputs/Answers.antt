@@ -36,9 +36,9 @@ returns-in_err-reply g c =
     rw (p.1, p.2) (λ files start of h.
     Leaves-uncomputed (how-goes c.one_answer.ensures c.exactly_one_outcome.ensures files c.args.options.now c.args.asked.now c.args.accepted.now of c.requires.taken) c.in_ok-user.ensures h (rw c.in_default.is at c.in-Ok.ensures.ok))
 
-pub returns-in-Text-in_err-texts : goal.returns-in-Text-in_err-texts
-returns-in-Text-in_err-texts g c =
-    let p = err_from_is_err_and c.from_residual-in_err-texts.result c.from_residual-in_err-texts.ensures.1 in
+pub returns-in_err-texts-in-Text : goal.returns-in_err-texts-in-Text
+returns-in_err-texts-in-Text g c =
+    let p = err_from_is_err_and c.from_residual-in_err-texts-in-Text.result c.from_residual-in_err-texts-in-Text.ensures.1 in
     rw (p.1, p.2) (λ files start of h.
     Leaves-uncomputed (how-goes c.one_answer.ensures c.exactly_one_outcome.ensures files c.args.options.now c.args.asked.now c.args.accepted.now of c.requires.taken) c.in_ok-user.ensures h (rw c.in_default.is at c.in-Ok.ensures.ok))
 
@@ -49,8 +49,8 @@ pub returns-in-Text : goal.returns-in-Text
 returns-in-Text g c = λ files start of h.
     let reply = rw c.in-Text.is at c.in_ok-reply.ensures in
     Leaves-how-told c.one_answer.ensures c.exactly_one_outcome.ensures files c.args.options.now c.args.asked.now c.args.accepted.now of c.requires.taken c.in_ok-user.ensures h c.in-Text.text.items
-    (option_map (λ t. map text_view t.items) c.in_ok-texts.texts) c.finish.result _ (rw c.in_default.is at c.in-Ok.ensures.ok) (c.in-Ok.ensures.kept.0 ∙ c.holds_warnings.ensures) reply.solution reply.solution_is reply.told
-    (rw (c.deref-in-Text.ensures.value, c.deref-in-Text-2.ensures.value) at c.in_ok-texts.ensures) (rw c.deref-in-Text-3.ensures.value at c.finish.ensures)
+    (option_map (λ t. map text_view t.items) c.in_ok-texts-in-Text.texts) c.finish.result _ (rw c.in_default.is at c.in-Ok.ensures.ok) (c.in-Ok.ensures.kept.0 ∙ c.holds_warnings.ensures) reply.solution reply.solution_is reply.told
+    (rw (c.deref-in-Text.ensures.value, c.deref-in-Text-2.ensures.value) at c.in_ok-texts-in-Text.ensures) (rw c.deref-in-Text-3.ensures.value at c.finish.ensures)
 
 pub finish_refused-requires-clause-waiting : goal.finish_refused-requires-clause-waiting
 finish_refused-requires-clause-waiting g c = subst AreLines (sym c.deref-in-Refusal.ensures.value) (AreLines-waiting c.in_ok-user.ensures c.in-Ok.ensures.ok)
@@ -58,8 +58,8 @@ finish_refused-requires-clause-waiting g c = subst AreLines (sym c.deref-in-Refu
 pub finish_refused-requires-clause-lines : goal.finish_refused-requires-clause-lines
 finish_refused-requires-clause-lines g c = let reply = rw c.in-Refusal.is at c.in_ok-reply.ensures in subst IsWholeEnd (sym c.deref-in-Refusal-2.ensures.value) reply.ends
 
-pub returns-in-Refusal : goal.returns-in-Refusal
-returns-in-Refusal g c = λ files start of h.
+pub returns : goal.returns
+returns g c = λ files start of h.
     let reply = rw c.in-Refusal.is at c.in_ok-reply.ensures in
     Leaves-how-refused c.one_answer.ensures c.exactly_one_outcome.ensures files c.args.options.now c.args.asked.now c.args.accepted.now of c.requires.taken c.in_ok-user.ensures h c.in-Refusal.lines.items c.finish_refused.result _
     (rw c.in_default.is at c.in-Ok.ensures.ok) reply.solution reply.solution_is reply.told

@@ -1,8 +1,7 @@
 -- A name is refused; or warnings of the tree are said, and the input files follow.
-use Rattle.std.proofs.Common.{◌∙◌, ap, sym, subst, option_map}
+use Rattle.std.proofs.Common.{◌∙◌, ap, sym, option_map}
 use Rattle.std.proofs.lemmas.Result.{err_from_is_err_and}
 use Rattle.kc_io.proofs.LogLemmas.{leads_nothing}
-use Rattle.kc_io.specs.Log.{Leads}
 use Rattle.kc_conf.specs.RefusedNames.{refused_line}
 use Rattle.kc_conf.proofs.InputParts.{Leaves-name, Leaves-unread, left-goes}
 use Rattle.kc_conf.proofs.ReadParts.{Leaves-unsaid}
