@@ -175,7 +175,7 @@ impl<'a> Costs<'a> {
         let ways = ways_of(alloc, &self.prices.outcome, fact)?;
         let (cost, number) = self.cheapest_way(fact, &ways)?;
         if self.memo.open.len() == before {
-            self.memo.note(fact, cost, number as u32);
+            self.memo.note(fact, cost, number);
         }
         Ok(())
     }

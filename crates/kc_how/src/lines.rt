@@ -6,9 +6,10 @@ ghost use Rattle.std.specs.Prelude.{IfOk};
 ghost use Rattle.kc_language.specs.ConfigFile.{ArePlacesOf};
 ghost use Rattle.kc_how.specs.Questions.{IsQuestion};
 
-use crate::merged::merged;
+use crate::merged::{copied_value, merged};
 use crate::question::Question;
-use kc_expr::expression::{SymId, SymbolType, Tri};
+use crate::shown::type_of;
+use kc_expr::expression::{SymId, Tri};
 use kc_input::shown::{add_value, is_same, shown_given};
 use kc_input::text::add_parts;
 use kc_tree::rows::ChoiceId;
@@ -26,17 +27,6 @@ pub(crate) struct Line {
 }
 
 // ---- copies
-
-// A copy of a value.
-fn copied_value(alloc: Global, value: &UserValue) -> Result<UserValue, AllocError> {
-    match value {
-        UserValue::Tri(tri) => Ok(UserValue::Tri(*tri)),
-        UserValue::Text(text) => {
-            let text = Vec::from_slice(alloc, text)?;
-            Ok(UserValue::Text(text))
-        }
-    }
-}
 
 /// A copy of a line.
 pub(crate) fn copied_line(alloc: Global, line: &Line) -> Result<Line, AllocError> {
@@ -157,14 +147,6 @@ pub(crate) fn put(tree: &Tree, lines: &mut Vec<Line>, line: Line) -> Result<(), 
 }
 
 // ---- the text of a line
-
-// The type of a symbol.
-fn type_of(tree: &Tree, symbol: SymId) -> SymbolType {
-    match tree.facts(symbol) {
-        Some(row) => row.symbol_type,
-        None => SymbolType::Undefined,
-    }
-}
 
 // Adds the text of a line that gives the symbol of this name n.
 fn add_unset<'a>(prefix: &'a [u8], name: &'a [u8], text: &mut Vec<u8>) -> Result<(), AllocError> {

@@ -13,7 +13,7 @@ const UNKNOWN: u32 = u32::MAX;
 const ASKED: u32 = u32::MAX - 1;
 
 // The number of the way to a fact that needs none: it holds, or there is no way.
-const NO_WAY: u32 = u32::MAX;
+const NO_WAY: usize = usize::MAX;
 
 /// The sum of two costs.
 pub(crate) fn plus(a: u32, b: u32) -> u32 {
@@ -24,7 +24,7 @@ pub(crate) fn plus(a: u32, b: u32) -> u32 {
 #[derive(Clone, Copy)]
 struct Best {
     cost: u32,
-    way: u32,
+    way: usize,
     is_planned: bool,
 }
 
@@ -115,7 +115,7 @@ impl Memo {
     }
 
     /// Notes the cost of a fact and the number of the cheapest way to it.
-    pub(crate) fn note(&mut self, fact: Fact, cost: u32, way: u32) {
+    pub(crate) fn note(&mut self, fact: Fact, cost: u32, way: usize) {
         let place = self.place(fact);
         if let Some(best) = self.best.get_mut(place) {
             best.cost = cost;
@@ -162,6 +162,6 @@ impl Memo {
             return None;
         }
         best.is_planned = true;
-        Some(best.way as usize)
+        Some(best.way)
     }
 }

@@ -13,8 +13,8 @@ use kc_user::user::User;
 use kc_user::value::UserValue;
 use std::alloc::{AllocError, Global};
 
-// A copy of a value.
-fn copied(alloc: Global, value: &UserValue) -> Result<UserValue, AllocError>
+/// A copy of a value.
+pub(crate) fn copied_value(alloc: Global, value: &UserValue) -> Result<UserValue, AllocError>
     ensures { IfOk result (λ copy. given_of_value copy ≡ given_of_value value.now) }
 {
     match value {
@@ -31,7 +31,7 @@ fn put_symbols(alloc: Global, over: &User, user: &mut User) -> Result<(), AllocE
     for number in 0..over.symbols().len() {
         let id = SymId(number);
         if let Some(value) = over.get(id) {
-            let copy = copied(alloc, value)?;
+            let copy = copied_value(alloc, value)?;
             user.set(id, copy)?;
         }
     }

@@ -71,7 +71,7 @@ pub(crate) struct Ways<'a> {
     pub needs: Vec<Need<'a>>,
 }
 
-// Y, as a part.
+// The value y, as a part: the top entry asks for nothing.
 fn always(aim: Aim) -> Part<'static> {
     Part::Fact(Fact::Context(EntryId(0), aim))
 }

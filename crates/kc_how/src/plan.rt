@@ -35,7 +35,7 @@ struct Draft<'a> {
     plan: Plan,
     costs: Costs<'a>,
     // The number of the line of each symbol plus 1, or 0.
-    given: Vec<u32>,
+    given: Vec<usize>,
     // The facts that are still to be had.
     todo: Vec<Fact>,
 }
@@ -102,13 +102,11 @@ fn is_value(fact: Fact) -> bool {
 impl<'a> Draft<'a> {
     // The line of a symbol, if it has one.
     fn line_of(&mut self, id: SymId) -> Option<&mut Line> {
-        match self.given.get(id.0) {
-            Some(number) if *number > 0 => {
-                let place = *number as usize - 1;
-                self.plan.lines.get_mut(place)
-            }
-            _ => None,
+        let number = *self.given.get(id.0)?;
+        if number == 0 {
+            return None;
         }
+        self.plan.lines.get_mut(number - 1)
     }
 
     // Adds the first line of a symbol.
@@ -116,7 +114,7 @@ impl<'a> Draft<'a> {
         self.plan.lines.push(Line { symbol, value })?;
         let count = self.plan.lines.len();
         if let Some(number) = self.given.get_mut(symbol.0) {
-            *number = count as u32;
+            *number = count;
         }
         Ok(())
     }

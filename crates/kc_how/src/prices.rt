@@ -4,6 +4,7 @@ use crate::facts::{Aim, Fact, Outcome};
 use crate::lines::Line;
 use crate::memo::Memo;
 use crate::needs::Give;
+use crate::rank::LINE;
 use kc_expr::expression::{SymId, Tri};
 use kc_expr::values::truth_of;
 use kc_tree::rows::ChoiceId;
@@ -40,22 +41,26 @@ pub(crate) struct Prices<'a> {
     pub penalties: &'a [Penalty],
 }
 
-// The cost of a line, of one that contradicts an earlier one, and of one that gives a text.
-const LINE: u32 = 100;
-
+// The cost of a line that contradicts an earlier one, and of one that gives a text: the first or another one.
 const CONTRADICTION: u32 = 3000;
 
 const TEXT_LINE: u32 = 110;
 
 const OTHER_TEXT: u32 = 150;
 
-// Whether a value is less than another one.
-fn is_less(a: Tri, b: Tri) -> bool {
-    match (a, b) {
-        (Tri::N, Tri::M) | (Tri::N, Tri::Y) | (Tri::M, Tri::Y) => true,
-        _ => false,
-    }
-}
+// What a line costs more: if it chooses another member than was on, or than the user chose, and if it raises a value of the user.
+const OTHER_MEMBER: u32 = 200;
+
+const OTHER_CHOSEN: u32 = 80;
+
+const RAISED: u32 = 10;
+
+// What is lost: the modules symbol, a value of the user, and any other value.
+const LOST_MODULES: u32 = 5000;
+
+const LOST_OWN: u32 = 150;
+
+const LOST: u32 = 40;
 
 impl<'a> Prices<'a> {
     /// How much more something costs, since it is to be avoided.
@@ -69,8 +74,8 @@ impl<'a> Prices<'a> {
         sum
     }
 
-    // Whether one of the lines so far gives a symbol this value; none if no line is about it.
-    fn has_line(&self, id: SymId, value: Tri) -> Option<bool> {
+    // Whether the line so far for a symbol gives it this value; none if there is no such line.
+    fn agrees_with_line(&self, id: SymId, value: Tri) -> Option<bool> {
         for line in self.lines {
             if line.symbol.0 == id.0 {
                 return Some(match &line.value {
@@ -103,10 +108,10 @@ impl<'a> Prices<'a> {
         let before = self.outcome.before;
         let mut cost = 0u32;
         if self.before(id) == Tri::N && mode_of(before.table(), choice) != Tri::N {
-            cost = 200;
+            cost = OTHER_MEMBER;
         }
         match before.user().choices().get(choice.0 as usize) {
-            Some(Some(chosen)) if chosen.0 != id.0 => cost.saturating_add(80),
+            Some(Some(chosen)) if chosen.0 != id.0 => cost.saturating_add(OTHER_CHOSEN),
             _ => cost,
         }
     }
@@ -119,8 +124,8 @@ impl<'a> Prices<'a> {
             }
         }
         let is_given = self.outcome.before.user().symbols().get(id.0).is_some();
-        if is_given && is_less(self.before(id), value) {
-            10
+        if is_given && self.before(id) < value {
+            RAISED
         } else {
             0
         }
@@ -128,7 +133,7 @@ impl<'a> Prices<'a> {
 
     // The cost of a line that gives a symbol a truth value.
     fn truth_line(&self, id: SymId, value: Tri) -> u32 {
-        match self.has_line(id, value) {
+        match self.agrees_with_line(id, value) {
             Some(true) => 0,
             Some(false) => CONTRADICTION,
             None if id.0 == self.outcome.goal.symbol.0 => LINE,
@@ -163,9 +168,9 @@ impl<'a> Prices<'a> {
             return 0;
         }
         match self.outcome.layout.modules {
-            Some(modules) if modules.0 == id.0 => 5000,
-            _ if aim == Aim::AtMostN && self.is_held(id) => 150,
-            _ => 40,
+            Some(modules) if modules.0 == id.0 => LOST_MODULES,
+            _ if aim == Aim::AtMostN && self.is_held(id) => LOST_OWN,
+            _ => LOST,
         }
     }
 

@@ -6,6 +6,7 @@ use crate::prices::Costs;
 use kc_expr::expression::{Operand, Operands, SymId, SymbolType, Tri};
 use kc_expr::values::{text, tristate_constant};
 use kc_text::{Op, has_hex_prefix, read_hex, read_int};
+use kc_values::numbers::number_text;
 use std::alloc::{AllocError, Global};
 
 /// A side of a relation.
@@ -48,18 +49,8 @@ fn side_of(outcome: &Outcome<'_>, operand: &Operand) -> Side {
     }
 }
 
-// A truth value as a number.
-fn number(value: Tri) -> u8 {
-    match value {
-        Tri::N => 0,
-        Tri::M => 1,
-        Tri::Y => 2,
-    }
-}
-
 // Whether a relation holds between two truth values.
 fn relates(op: Op, a: Tri, b: Tri) -> bool {
-    let (a, b) = (number(a), number(b));
     match op {
         Op::Eq => a == b,
         Op::Ne => a != b,
@@ -196,6 +187,9 @@ impl<'a> Costs<'a> {
 
 // ---- texts
 
+// The greatest number of a symbol, without its sign.
+const MOST: u128 = 0xffff_ffff_ffff_ffff;
+
 // A number in this relation to another one.
 fn beside(op: Op, number: i128) -> i128 {
     match op {
@@ -212,22 +206,6 @@ fn number_of(text: &[u8]) -> Option<i128> {
     } else {
         read_int(text)
     }
-}
-
-// The text of a number.
-fn number_text(
-    alloc: Global,
-    symbol_type: SymbolType,
-    number: i128,
-) -> Result<Vec<u8>, AllocError> {
-    let text = match symbol_type {
-        SymbolType::Hex => {
-            let magnitude = number.unsigned_abs() as u64;
-            format!(in alloc; "0x{magnitude:x}")?
-        }
-        _ => format!(in alloc; "{number}")?,
-    };
-    Ok(text.into_bytes())
 }
 
 // A text in this relation to another one.
@@ -251,10 +229,12 @@ pub(crate) fn picked(
     op: Op,
     other: &[u8],
 ) -> Result<Vec<u8>, AllocError> {
-    match (symbol_type, number_of(other)) {
-        (SymbolType::Int | SymbolType::Hex, Some(number)) => {
-            number_text(alloc, symbol_type, beside(op, number))
-        }
-        _ => other_text(alloc, op, other),
+    let number = match (symbol_type, number_of(other)) {
+        (SymbolType::Int | SymbolType::Hex, Some(number)) => beside(op, number),
+        _ => return other_text(alloc, op, other),
+    };
+    if number.unsigned_abs() > MOST {
+        return other_text(alloc, op, other);
     }
+    number_text(alloc, symbol_type, number)
 }

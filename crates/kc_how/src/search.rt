@@ -25,10 +25,10 @@ const ENOUGH: usize = 4;
 // The greatest sum of penalties with which a plan is made.
 const MOST_PENALTIES: u32 = 20000;
 
-// What a plan costs more with each round, and how much worse than the best candidate its lines may be.
-const LATER: u32 = 30;
+// What a plan costs more with each round, and by how much its lines may cost more than the best candidate.
+const ROUND_COST: u32 = 30;
 
-const MUCH: u32 = 150;
+const MOST_ABOVE_BEST: u32 = 150;
 
 // What costs more after a plan that gave lines that were tried already.
 const REPEATED: Rise = Rise {
@@ -86,7 +86,7 @@ struct Search {
     found: usize,
     rounds_left: usize,
     // What a plan costs more in this round.
-    late: u32,
+    surcharge: u32,
     budget: Budget,
 }
 
@@ -123,7 +123,7 @@ impl Search {
             best: None,
             found: 0,
             rounds_left: steps,
-            late: 0,
+            surcharge: 0,
             budget: Budget { left: steps },
         })
     }
@@ -159,7 +159,7 @@ impl Search {
             return None;
         }
         self.rounds_left = self.rounds_left.saturating_sub(1);
-        self.late = self.late.saturating_add(LATER);
+        self.surcharge = self.surcharge.saturating_add(ROUND_COST);
         Some(self.queue.remove(place))
     }
 
@@ -176,7 +176,7 @@ impl Search {
     // Whether lines cost so much that they are worse than the best candidate.
     fn is_too_much(&self, lines: &[Line]) -> bool {
         match &self.best {
-            Some(best) => lines_cost(lines) >= best.score.saturating_add(MUCH),
+            Some(best) => lines_cost(lines) >= best.score.saturating_add(MOST_ABOVE_BEST),
             None => false,
         }
     }
@@ -228,7 +228,7 @@ impl Search {
         self.queue.push(State {
             lines,
             penalties: Vec::from_slice(alloc, penalties)?,
-            cost: plan.cost.saturating_add(self.late),
+            cost: plan.cost.saturating_add(self.surcharge),
         })?;
         Ok(())
     }
@@ -244,7 +244,7 @@ impl Search {
         if total(&penalties) < MOST_PENALTIES {
             let cost = plan
                 .cost
-                .saturating_add(self.late)
+                .saturating_add(self.surcharge)
                 .saturating_add(rise.start);
             self.queue.push(State {
                 lines,

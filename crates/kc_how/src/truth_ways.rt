@@ -34,6 +34,27 @@ const HIDDEN: usize = 1;
 
 const FIRST_MEMBER: usize = 2;
 
+// What a way costs besides what it needs: by a line that selects, also against what the symbol depends on, by one that implies,
+// by a default, and if the modules symbol is turned off for it.
+const BY_SELECT: u32 = 40;
+
+const AGAINST_DEPENDENCY: u32 = 1500;
+
+const BY_IMPLY: u32 = 60;
+
+const BY_DEFAULT: u32 = 30;
+
+const BY_TEXT_DEFAULT: u32 = 20;
+
+const WITHOUT_MODULES: u32 = 500;
+
+// The same for ways down: without the user's value, by prompts that allow at most m, and by a hidden member.
+const UNASKED: u32 = 60;
+
+const BY_CAP: u32 = 50;
+
+const BY_HIDING: u32 = 50;
+
 // How many defaults that are met now may be turned off, and how many other members are looked at.
 const MOST_DEFAULTS: usize = 16;
 
@@ -186,7 +207,7 @@ impl<'a> Ways<'a> {
         if !subject.row.last_select.is_some() {
             return Ok(());
         }
-        let more = reach.more.saturating_add(subject.if_prompt(40));
+        let more = reach.more.saturating_add(subject.if_prompt(BY_SELECT));
         let selected = fact(Fact::Selected(subject.id, reach.aim));
         self.need(selected)?;
         self.need_fact(Fact::Direct(subject.id, reach.aim))?;
@@ -194,7 +215,7 @@ impl<'a> Ways<'a> {
         self.end(numbered(SELECTED, reach), more, Give::Nothing)?;
         self.need(selected)?;
         self.need_lift(reach)?;
-        let against = more.saturating_add(1500);
+        let against = more.saturating_add(AGAINST_DEPENDENCY);
         self.end(numbered(SELECTED_AGAINST, reach), against, Give::Nothing)
     }
 
@@ -207,13 +228,13 @@ impl<'a> Ways<'a> {
         self.need_fact(Fact::Direct(subject.id, reach.aim))?;
         self.need_lift(reach)?;
         self.need_hidden(subject)?;
-        let more = reach.more.saturating_add(60);
+        let more = reach.more.saturating_add(BY_IMPLY);
         self.end(numbered(IMPLIED, reach), more, Give::Nothing)
     }
 
     // Adds the ways by a default: those before it are off.
     fn defaults_up(&mut self, subject: &Subject<'a>, reach: Reach) -> Result<(), AllocError> {
-        let more = reach.more.saturating_add(subject.if_prompt(30));
+        let more = reach.more.saturating_add(subject.if_prompt(BY_DEFAULT));
         let mut earlier = Vec::new(self.alloc);
         let mut number = numbered(FIRST_DEFAULT, reach);
         for default in subject.defaults.iter() {
@@ -270,7 +291,7 @@ impl<'a> Ways<'a> {
         let lifted = Reach {
             aim: Aim::AtLeastM,
             is_lifted: true,
-            more: 500,
+            more: WITHOUT_MODULES,
         };
         self.ways_up_by(subject, lifted)
     }
@@ -308,7 +329,7 @@ impl<'a> Ways<'a> {
         self.end(USER, 0, give)?;
         if subject.aim == Aim::AtMostM {
             self.need_fact(Fact::Prompts(subject.id, subject.aim))?;
-            self.end(CAPPED, 50, Give::Nothing)?;
+            self.end(CAPPED, BY_CAP, Give::Nothing)?;
         }
         Ok(())
     }
@@ -324,7 +345,7 @@ impl<'a> Ways<'a> {
 
     // Adds the ways by a default that is low, or by none.
     fn defaults_down(&mut self, subject: &Subject<'a>) -> Result<(), AllocError> {
-        let more = subject.if_prompt(60);
+        let more = subject.if_prompt(UNASKED);
         let mut earlier = Vec::new(self.alloc);
         let mut number = FIRST_DEFAULT;
         for default in subject.defaults.iter() {
@@ -349,7 +370,7 @@ impl<'a> Ways<'a> {
         self.user_down(subject)?;
         self.defaults_down(subject)?;
         self.need_fact(Fact::Direct(subject.id, subject.aim))?;
-        self.end(NO_DEPENDENCY, subject.if_prompt(60), Give::Nothing)
+        self.end(NO_DEPENDENCY, subject.if_prompt(UNASKED), Give::Nothing)
     }
 
     // ---- members
@@ -378,7 +399,7 @@ impl<'a> Ways<'a> {
         self.need_fact(Fact::Mode(choice, Aim::AtMostN))?;
         self.end(MODE_OFF, 0, Give::Nothing)?;
         self.need_fact(Fact::Prompts(id, Aim::AtMostN))?;
-        self.end(HIDDEN, 50, Give::Nothing)?;
+        self.end(HIDDEN, BY_HIDING, Give::Nothing)?;
         let Some(row) = self.outcome.layout.choice(choice) else {
             return Ok(());
         };
@@ -431,7 +452,7 @@ impl<'a> Ways<'a> {
                 self.need_all(&earlier)?;
                 self.need(Need::Guard(condition_of(default), Aim::AtLeastM))?;
                 self.need_hidden(subject)?;
-                self.end(number, 20, Give::Nothing)?;
+                self.end(number, BY_TEXT_DEFAULT, Give::Nothing)?;
             }
             number = number.saturating_add(1);
             if !self.add_earlier(default, &mut earlier)? {
@@ -441,7 +462,7 @@ impl<'a> Ways<'a> {
         if text.is_empty() {
             self.need_all(&earlier)?;
             self.need_hidden(subject)?;
-            self.end(NO_DEFAULT, 20, Give::Nothing)?;
+            self.end(NO_DEFAULT, BY_TEXT_DEFAULT, Give::Nothing)?;
         }
         Ok(())
     }
