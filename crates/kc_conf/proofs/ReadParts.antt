@@ -61,7 +61,7 @@ module _ {options : Options} {tree : TreeFacts} {stopped : Option StreamLocation
   pub read-is : read_of options tree (bytes_of r.inputs) ≡ ended_with after r.warned stopped
   read-is = ap (λ (b : UserInput). reading tree options.prefix b (lines_of (streams (input_names options) (bytes_of r.inputs)))) (sym fresh) ∙ r.reading_is
 
-  pub AreLines-warned : AreLines r.warned
+  AreLines-warned : AreLines r.warned
   AreLines-warned = subst AreLines (ap (λ (x : ReadResult). x.warned) read-is) (AreLines-reading tree options.prefix (lines_of (streams (input_names options) (bytes_of r.inputs))) (fresh_input options tree))
 
   -- what waits behind the reading is whole lines

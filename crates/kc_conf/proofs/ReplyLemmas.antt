@@ -16,7 +16,7 @@ use Rattle.kc_how.specs.FixTexts.{fix_text, impossible_text, loses_nothing, no_v
 use Rattle.kc_how.specs.How.{Goal, IsFix, IsOutOfReach, wanted_value, with_fragment}
 use Rattle.kc_how.specs.Questions.{goal_of}
 use Rattle.kc_how.specs.declared.question.Question.{Question}
-use Rattle.kc_conf.specs.How.{asked_first, fixed, impossible, no_value, not_found, nothing_asked, told}
+use Rattle.kc_conf.specs.How.{asked_first, fixed, impossible, no_value, not_found, told}
 use Rattle.kc_conf.specs.HowParts.{IsAsked, IsReply, Replies}
 use Rattle.kc_conf.specs.Reads.{IsWholeEnd}
 use Rattle.kc_conf.specs.declared.reply.Asked.{Asked}
@@ -84,9 +84,6 @@ module _ (q : Question) where
 -- ---- replies about an input
 
 module _ (options : Options) (asked : Asked) (tree : TreeFacts) (input : UserInput) (before : Solution) (solves : IsSolutionFor tree input.places before) where
-  pub IsReply-nothing : (text : Vec ℕ Global) → asked_first options tree ≡ None → text.items ≡ [] → IsReply options asked tree input (Text text)
-  IsReply-nothing text none e = record { solution = before; solution_is = solves; told = nothing_asked none (ap (told options) e); ends = tt }
-
   pub IsReply-no_value : (s : SymId) (text : Vec ℕ Global) → asked_first options tree ≡ Some s → wanted_value options.prefix.is_raw (type_in (facts tree s)) asked.value.now ≡ None →
       text.items ≡ no_value_text tree options.prefix s asked.value.now → IsReply options asked tree input (Refusal text)
   IsReply-no_value s text is none e = record {
