@@ -7,9 +7,12 @@
 //! - [`answer`]: the answer, with what is proved of it. [`text`]: how it is told.
 //! - [`shown`]: values of symbols. [`changes`]: what a fix changes.
 //! - [`lines`]: the lines of a fragment. [`merged`]: the user's values of two inputs. [`fix`]: the check of a fragment.
-//! - [`facts`] and [`plan`]: what a goal needs, and the cheapest lines that give it. [`search`]: the fragments that are tried.
-//! - [`tries`] and [`reached`]: what comes of lines. [`minimal`]: those that are needed. [`rank`]: what they cost the user. [`penalties`]: what
-//!   the search avoids.
+//! - [`facts`]: what a goal needs. [`needs`] and [`ways`]: the ways to a fact, for values ([`truth_ways`]) and conditions
+//!   ([`condition_ways`]).
+//! - [`costs`]: the cheapest way to a fact. [`memo`]: what is known of facts. [`prices`] and [`relations`]: what lines and relations cost.
+//! - [`plan`]: the cheapest lines that give a goal. [`search`]: the fragments that are tried.
+//! - [`tries`] and [`reached`]: what comes of lines. [`minimal`]: those that are needed. [`rank`]: what they cost the user.
+//!   [`penalties`]: what the search avoids.
 
 pub mod answer;
 mod changes;
