@@ -1,10 +1,10 @@
 -- What the text of a fragment gives, alone and after the input files.
-use Rattle.std.proofs.{Common.{Bool, List, None, Option, Some, [], ap, arith, false, length, refl, replicate, subst, suc, sym, true, zero, ℕ, ◌++◌, ◌+◌, ◌∙◌, ◌∷◌, ◌≡◌}, lemmas.List.{append-nil}}
-use Rattle.std.specs.{List.{filter_map, last_or}, Option.option_or, Prelude.{drop, is_some, not, take, take_while}}
+use Rattle.std.proofs.{Common.{Bool, Err, List, None, Ok, Option, Result, Some, [], ap, arith, false, length, refl, replicate, subst, suc, sym, true, zero, ℕ, ◌++◌, ◌+◌, ◌∙◌, ◌∷◌, ◌≡◌}, lemmas.List.{append-nil}}
+use Rattle.std.specs.{List.{filter_map, last_or}, Option.option_or, Prelude.{drop, is_some, not, take, take_while}, declared.{alloc.Global.Global, vec.Vec.Vec}}
 use Rattle.kc_language.specs.{ConfigFile.{ArePlacesOf, Assignment, Notation, Places, ReadResult, Stream, StreamLocation, UserInput, each_from, is_within, lines_from, lines_of, no_input, place_at, places_given, reading, reading_of}, Symbols.TreeFacts, Texts.{IsSolutionFor, Solution, read_alone}, Values.SymbolPlace}
 use Rattle.kc_user.specs.PartsOfConfigFile.{no_places}
 use Rattle.kc_user.proofs.PlacesLemmas.{empty_are}
-use Rattle.kc_input.specs.{Feeding.{EndsStream, ReadsPiece, Refuses, StreamPosition, stream_start}, PartsOfConfigFile.{assignments, chosen_in, given_to}, Reading.with_warnings, declared.fault.InputFault.{TheVariants.{InputLineTooLong}}}
+use Rattle.kc_input.specs.{Feeding.{EndsStream, ReadsPiece, Refuses, StreamPosition, ended, fed, stream_start}, PartsOfConfigFile.{assignments, chosen_in, given_to}, ReaderCalls.{AnswersEnd, AnswersFeed}, ReaderState.ReaderState, Reading.with_warnings, declared.fault.InputFault.{InputFault, TheVariants.{InputLineTooLong}}}
 use Rattle.kc_input.proofs.{PlaceLemmas.{ArePlacesOf-given}, ReadingLemmas.{reading-nothing}}
 use Rattle.kc_how.specs.{Fragments.{HasValues, IsRead, NeedsEach, with_text}, How.{IsFix, fragment_text, reaches}, Merged.{laid_over, merged_places}, Questions.goal_of, declared.{fix.Alone.Alone, question.Question.Question}}
 
@@ -91,6 +91,41 @@ is-read read alone stopped is whole = record {
   warned = sym (ap (λ (r : ReadResult). r.warned) is);
   whole = whole ∙ sym (ap (λ (r : ReadResult). not (is_some r.stopped)) is);
 }
+
+-- A reader at the start of a text that is read alone.
+module _ (tree : TreeFacts) (notation : Notation) (text : List ℕ) where
+  abbrev begin : ReaderState
+  begin = record { tree = tree; prefix = notation; name = []; position = stream_start; refusal = None }
+
+  abbrev behind : ReaderState
+  behind = record { tree = tree; prefix = notation; name = []; position = fed text stream_start; refusal = None }
+
+  -- it met a line that is too long
+  pub part-read : (n : ℕ) (result : Result (Unit {0}) InputFault) (start next : ReaderState) (before after : UserInput) (told : List ℕ) (told_after : Vec ℕ Global) →
+      AnswersFeed text result start next before after told told_after.items →
+      result ≡ Err (InputLineTooLong n) → start ≡ begin → before ≡ no_input false tree → told ≡ [] →
+      IsRead (read_alone tree notation [] text) (record { input = after; warned = told_after; is_whole = false })
+  part-read n result start next before after told told_after answers is_result is_start is_before is_told =
+      let fails : AnswersFeed text (Err (InputLineTooLong n)) begin next (no_input false tree) after [] told_after.items = rw (is_result, is_start, is_before, is_told) at answers in
+      let (warned, tells, is) = read-part tree notation text n (no_input false tree) after next.position [] told_after.items (fails.refused refl) in
+      let stopped : Option StreamLocation = Some (record { stream = []; number = next.position.number }) in
+      is-read (read_alone tree notation [] text) (record { input = after; warned = told_after; is_whole = false }) stopped
+      (is ∙ ap (λ w. let r : ReadResult = record { input = after; warned = w; stopped = stopped } in r) (sym tells)) refl
+
+  -- it read all of it
+  pub all-read : (start mid next : ReaderState) (before between after : UserInput) (told : List ℕ) (told_between told_after : Vec ℕ Global) →
+      AnswersFeed text (Ok tt) start mid before between told told_between.items →
+      AnswersEnd (record mid { position = ended mid.position }) (Ok tt) mid next between after told_between.items told_after.items →
+      start ≡ begin → before ≡ no_input false tree → told ≡ [] →
+      IsRead (read_alone tree notation [] text) (record { input = after; warned = told_after; is_whole = true })
+  all-read start mid next before between after told told_between told_after answers_feed answers_end is_start is_before is_told =
+      let feeds : AnswersFeed text (Ok tt) begin mid (no_input false tree) between [] told_between.items = rw (is_start, is_before, is_told) at answers_feed in
+      let ends : AnswersEnd (record behind { position = ended behind.position }) (Ok tt) behind next between after told_between.items told_after.items = rw feeds.stands.1 at answers_end in
+      let (first, tells_first, piece) = (rw feeds.stands.1 at feeds).ok in
+      let (last, tells_last, finishes) = ends.ok in
+      is-read (read_alone tree notation [] text) (record { input = after; warned = told_after; is_whole = true }) None
+      (read-whole tree notation text (no_input false tree) between after behind.position first last piece finishes
+      ∙ ap (λ w. let r : ReadResult = record { input = after; warned = w; stopped = None } in r) (sym (tells_last ∙ ap (λ w. w ++ last) tells_first))) refl
 
 not-stopped : (o : Option StreamLocation) → true ≡ not (is_some o) → o ≡ None
 not-stopped None e = refl

@@ -5,16 +5,16 @@ use Rattle.kc_possible.specs.Possible.{IsImpossible}
 use Rattle.kc_how.specs.How.{IsOutOfReach}
 
 unlike : (t : Tri) (v : SymbolValue) → (v ≡ Truth t → ⊥) → same_given (GivenTruth t) (given_of v) ≡ false
-unlike t (TextValue kind text) no = refl
-unlike N (Truth N) no = absurd (no refl)
-unlike N (Truth M) no = refl
-unlike N (Truth Y) no = refl
-unlike M (Truth N) no = refl
-unlike M (Truth M) no = absurd (no refl)
-unlike M (Truth Y) no = refl
-unlike Y (Truth N) no = refl
-unlike Y (Truth M) no = refl
-unlike Y (Truth Y) no = absurd (no refl)
+unlike t (TextValue kind text) other = refl
+unlike N (Truth N) other = absurd (other refl)
+unlike N (Truth M) other = refl
+unlike N (Truth Y) other = refl
+unlike M (Truth N) other = refl
+unlike M (Truth M) other = absurd (other refl)
+unlike M (Truth Y) other = refl
+unlike Y (Truth N) other = refl
+unlike Y (Truth M) other = refl
+unlike Y (Truth Y) other = absurd (other refl)
 
 pub out_of_reach : (tree : TreeFacts) (s : SymId) (t : Tri) → IsImpossible tree s t → IsOutOfReach tree (record { symbol = s; value = GivenTruth t })
 out_of_reach tree s t never user V under = unlike t (known_from tree V s) (never user V under)
