@@ -84,11 +84,11 @@ module _ (tree : TreeFacts) (notation : Notation) (text : List ℕ) where
         ∙ ap (λ w. Read after w (Some (record { stream = []; number = position.number }))) (append-nil refuses.warned),
   )
 
-pub is-read : (read : ReadResult) (alone : Alone) (stopped : Option StreamLocation) →
-    read ≡ record { input = alone.input; warned = alone.warned.items; stopped = stopped } → alone.is_whole ≡ not (is_some stopped) → IsRead read alone
-is-read read alone stopped is whole = record {
+pub is-read : (read : ReadResult) (alone : Alone) (warned : List ℕ) (stopped : Option StreamLocation) →
+    read ≡ record { input = alone.input; warned = warned; stopped = stopped } → alone.warned.items ≡ warned → alone.is_whole ≡ not (is_some stopped) → IsRead read alone
+is-read read alone warned stopped is tells whole = record {
   input = sym (ap (λ (r : ReadResult). r.input) is);
-  warned = sym (ap (λ (r : ReadResult). r.warned) is);
+  warned = tells ∙ sym (ap (λ (r : ReadResult). r.warned) is);
   whole = whole ∙ sym (ap (λ (r : ReadResult). not (is_some r.stopped)) is);
 }
 
@@ -108,9 +108,7 @@ module _ (tree : TreeFacts) (notation : Notation) (text : List ℕ) where
   part-read n result start next before after told told_after answers is_result is_start is_before is_told =
       let fails : AnswersFeed text (Err (InputLineTooLong n)) begin next (no_input false tree) after [] told_after.items = rw (is_result, is_start, is_before, is_told) at answers in
       let (warned, tells, is) = read-part tree notation text n (no_input false tree) after next.position [] told_after.items (fails.refused refl) in
-      let stopped : Option StreamLocation = Some (record { stream = []; number = next.position.number }) in
-      is-read (read_alone tree notation [] text) (record { input = after; warned = told_after; is_whole = false }) stopped
-      (is ∙ ap (λ w. let r : ReadResult = record { input = after; warned = w; stopped = stopped } in r) (sym tells)) refl
+      is-read (read_alone tree notation [] text) (record { input = after; warned = told_after; is_whole = false }) warned (Some (record { stream = []; number = next.position.number })) is tells refl
 
   -- it read all of it
   pub all-read : (start mid next : ReaderState) (before between after : UserInput) (told : List ℕ) (told_between told_after : Vec ℕ Global) →
@@ -123,9 +121,8 @@ module _ (tree : TreeFacts) (notation : Notation) (text : List ℕ) where
       let ends : AnswersEnd (record behind { position = ended behind.position }) (Ok tt) behind next between after told_between.items told_after.items = rw feeds.stands.1 at answers_end in
       let (first, tells_first, piece) = (rw feeds.stands.1 at feeds).ok in
       let (last, tells_last, finishes) = ends.ok in
-      is-read (read_alone tree notation [] text) (record { input = after; warned = told_after; is_whole = true }) None
-      (read-whole tree notation text (no_input false tree) between after behind.position first last piece finishes
-      ∙ ap (λ w. let r : ReadResult = record { input = after; warned = w; stopped = None } in r) (sym (tells_last ∙ ap (λ w. w ++ last) tells_first))) refl
+      is-read (read_alone tree notation [] text) (record { input = after; warned = told_after; is_whole = true }) (first ++ last) None
+      (read-whole tree notation text (no_input false tree) between after behind.position first last piece finishes) (tells_last ∙ ap (λ w. w ++ last) tells_first) refl
 
 not-stopped : (o : Option StreamLocation) → true ≡ not (is_some o) → o ≡ None
 not-stopped None e = refl

@@ -6,7 +6,7 @@ use Rattle.kc_how.proofs.fix.read.Goals as goal
 pub returns-in-Err-InputLineTooLong : goal.returns-in-Err-InputLineTooLong
 returns-in-Err-InputLineTooLong c =
     let fails = c.in-Err-InputLineTooLong in
-    let fault : fails.field-0 ≡ InputLineTooLong fails.field-0-0 = rw fails.is at fails.field-0-is in
+    let fault : fails.field-0 ≡ InputLineTooLong fails.field-0-0 = fails.field-0-is in
     part-read c.args.tree.now c.args.prefix.now c.args.text.now fails.field-0-0 c.feed.result c.new-reader.result c.feed.new.self c.in_ok-input.input c.feed.new.user
     c.new-warned.result.items c.feed.new.told c.feed.ensures (fails.is ∙ ap Err fault) c.new-reader.ensures c.in_ok-input.ensures c.new-warned.ensures.items
 
