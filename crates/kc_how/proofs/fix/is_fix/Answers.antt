@@ -1,9 +1,13 @@
-use Rattle.std.proofs.{Common.{[], ap, arith, subst, sym, true, ◌∙◌, ◌≡◌}, lemmas.{List.append-nil, Result.IfOk-weaker}}
+use Rattle.std.proofs.{Common.{List, [], ap, arith, length, refl, subst, sym, true, ℕ, ◌∙◌, ◌∷◌, ◌≡◌}, lemmas.{Bool.eqb-true, List.append-nil, Result.IfOk-weaker}}
+use Rattle.std.specs.Prelude.{◌==◌}
 use Rattle.kc_language.specs.{ConfigFile.Places, Texts.{IsSolutionFor, read_alone}}
-use Rattle.kc_input.proofs.FedLemmas.{no_bytes}
 use Rattle.kc_how.specs.{Fragments.{HasValues, IsRead, NeedsEach, lines_in, with_text}, How.{IsFix, fragment_text, reaches}, Questions.goal_of}
 use Rattle.kc_how.proofs.FragmentLemmas.{fix-is}
 use Rattle.kc_how.proofs.fix.is_fix.Goals as goal
+
+no_bytes : (bytes : List ℕ) (n : ℕ) → length bytes ≡ n → true ≡ (n == 0) → bytes ≡ []
+no_bytes [] n count none = refl
+no_bytes (b ∷ bytes) n count none = absurd (omega (arith, count, eqb-true n 0 (sym none)))
 
 pub returns : goal.returns
 returns c =
