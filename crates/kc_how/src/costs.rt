@@ -1,9 +1,9 @@
 //! What facts cost: the least cost of the ways to them.
 
 use crate::facts::{Aim, Fact, Outcome};
-use crate::memo::{IMPOSSIBLE, plus};
+use crate::memo::{IMPOSSIBLE, Memo, plus};
 use crate::needs::{Need, Part, Way, Ways};
-use crate::prices::{Blame, Costs, Step};
+use crate::prices::{Blame, Prices, Step};
 use crate::relations::Relation;
 use crate::ways::ways_of;
 use kc_expr::expression::{Expr, Operand, Tri};
@@ -37,7 +37,28 @@ pub(crate) fn joined(are_needed: bool, a: u32, b: u32) -> u32 {
     if are_needed { plus(a, b) } else { a.min(b) }
 }
 
+/// The prices, and the costs of facts that are known at them.
+#[derive(Drop)]
+pub(crate) struct Costs<'a> {
+    pub prices: Prices<'a>,
+    pub memo: Memo,
+}
+
 impl<'a> Costs<'a> {
+    /// The cost of a fact. Where it is not known yet it is asked for, and 0 stands for it.
+    pub(crate) fn fact(&mut self, fact: Fact) -> Result<u32, AllocError> {
+        let outcome = self.prices.outcome;
+        self.memo.cost(&outcome, fact)
+    }
+
+    /// The cost of a fact, if there is one.
+    pub(crate) fn some_fact(&mut self, fact: Option<Fact>) -> Result<u32, AllocError> {
+        match fact {
+            Some(fact) => self.fact(fact),
+            None => Ok(0),
+        }
+    }
+
     // The cost of an operand that is no side of a relation.
     fn operand(&mut self, o: &Operand, aim: Aim) -> Result<u32, AllocError> {
         match o {

@@ -9,7 +9,6 @@ use kc_possible::possible::Possible;
 use kc_solve::solved::Solved;
 use kc_tree::layout::Layout;
 use kc_tree::rows::{ChoiceId, EntryId, Selector, SelectorId, VisibleId};
-use kc_user::user::User;
 use kc_user::value::UserValue;
 use kc_values::conditions::{choice_dependency, context, guarded, mode_of, visible_context};
 

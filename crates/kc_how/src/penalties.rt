@@ -1,6 +1,7 @@
 //! What a search avoids.
 
-use crate::plan::{Blame, Penalty, Plan};
+use crate::plan::Plan;
+use crate::prices::{Blame, Penalty};
 use kc_expr::expression::SymId;
 use std::alloc::AllocError;
 

@@ -2,13 +2,12 @@
 
 ghost use Rattle.kc_how.specs.Questions.{IsQuestion};
 
-use crate::costs::{module_fact, operand_fact};
+use crate::costs::{Costs, module_fact, operand_fact};
 use crate::facts::{Aim, Fact, Outcome};
 use crate::lines::Line;
 use crate::memo::{IMPOSSIBLE, Memo, plus};
 use crate::needs::{Give, Need, Part};
-use crate::prices::{Costs, Prices};
-pub(crate) use crate::prices::{Blame, Penalty, Step};
+use crate::prices::{Penalty, Prices, Step};
 use crate::question::Question;
 use crate::reached::add_dependencies;
 use crate::relations::{Making, Relation, Side, facts_of, picked, swapped};

@@ -2,7 +2,6 @@
 
 use crate::facts::{Aim, Fact, Outcome};
 use crate::lines::Line;
-use crate::memo::Memo;
 use crate::needs::Give;
 use crate::rank::LINE;
 use kc_expr::expression::{SymId, Tri};
@@ -10,7 +9,6 @@ use kc_expr::values::truth_of;
 use kc_tree::rows::ChoiceId;
 use kc_user::value::UserValue;
 use kc_values::conditions::mode_of;
-use std::alloc::AllocError;
 
 /// A fact of a plan, and the number of the way to it that was taken.
 #[derive(Clone, Copy, Debug, PartialEq, Eq)]
@@ -179,29 +177,6 @@ impl<'a> Prices<'a> {
         match fact {
             Fact::Truth(id, aim) if !aim.is_least() => self.loss_of(id, aim),
             _ => 0,
-        }
-    }
-}
-
-/// The prices, and the costs of facts that are known at them.
-#[derive(Drop)]
-pub(crate) struct Costs<'a> {
-    pub prices: Prices<'a>,
-    pub memo: Memo,
-}
-
-impl<'a> Costs<'a> {
-    /// The cost of a fact. Where it is not known yet it is asked for, and 0 stands for it.
-    pub(crate) fn fact(&mut self, fact: Fact) -> Result<u32, AllocError> {
-        let outcome = self.prices.outcome;
-        self.memo.cost(&outcome, fact)
-    }
-
-    /// The cost of a fact, if there is one.
-    pub(crate) fn some_fact(&mut self, fact: Option<Fact>) -> Result<u32, AllocError> {
-        match fact {
-            Some(fact) => self.fact(fact),
-            None => Ok(0),
         }
     }
 }

@@ -1,10 +1,10 @@
 //! Relations: the values of their sides that make them hold.
 
+use crate::costs::Costs;
 use crate::facts::{Aim, Fact, Outcome};
 use crate::memo::{IMPOSSIBLE, plus};
-use crate::prices::Costs;
 use kc_expr::expression::{Operand, Operands, SymId, SymbolType, Tri};
-use kc_expr::values::{text, tristate_constant};
+use kc_expr::values::tristate_constant;
 use kc_text::{Op, has_hex_prefix, read_hex, read_int};
 use kc_values::numbers::number_text;
 use std::alloc::{AllocError, Global};

@@ -3,7 +3,8 @@
 ghost use Rattle.kc_how.specs.Questions.{IsQuestion};
 
 use crate::lines::{Line, with_lines};
-use crate::plan::{Penalty, Plan, Step, cheapest, has_failed};
+use crate::plan::{Plan, cheapest, has_failed};
+use crate::prices::{Penalty, Step};
 use crate::question::Question;
 use crate::rank::{Trial, has_loss, is_taken, score};
 use crate::reached::is_reached;

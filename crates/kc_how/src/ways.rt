@@ -1,6 +1,6 @@
 //! The ways to a fact.
 
-use crate::facts::{Aim, Fact, Outcome};
+use crate::facts::{Fact, Outcome};
 use crate::needs::Ways;
 use kc_expr::expression::SymId;
 use kc_tree::rows::SelectorId;
