@@ -14,3 +14,8 @@ pub mod SolvedLemmas
 pub mod PromptWalks
 pub mod SomeLemmas
 pub mod ReasonLemmas
+pub mod ModuleLemmas
+pub mod TextLemmas
+pub mod NumberReads
+pub mod RangeWalks
+pub mod RangeLemmas

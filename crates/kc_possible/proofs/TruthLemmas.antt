@@ -74,7 +74,7 @@ same-n N = refl
 same-n M = refl
 same-n Y = refl
 
-is-n : (t : Tri) → is_n t ≡ true → t ≡ N
+pub is-n : (t : Tri) → is_n t ≡ true → t ≡ N
 is-n N h = refl
 is-n M h = absurd cc
 is-n Y h = absurd cc

@@ -1,6 +1,6 @@
 -- For proofs: What the bounds of a part of an equation cover.
-use Rattle.std.specs.{Option.option_map_or, Prelude.{All, List, Option, Some, length, map, slice_get, true, ℕ, ◌<◌, ◌≡◌}}
-use Rattle.kc_language.specs.{Expressions.{Form, SymbolValue, greatest, truth_of_value}, Statements.{ChoiceLine, Numbered}, Symbols.{Guarded, SymbolFacts, TreeFacts}, Values.{GivenValue, and_value, choice_at, default_value, mode_of}, declared.{expressions.{SymId.SymId, SymbolType.SymbolType, Tri.{TheVariants.N, Tri}}, symbols.SelectOrImply.SelectOrImply}}
+use Rattle.std.specs.{Option.option_map_or, Prelude.{All, List, Option, Some, false, length, map, slice_get, true, ℕ, ◌<◌, ◌≡◌, ◌≢◌}}
+use Rattle.kc_language.specs.{Expressions.{Form, SymbolValue, TextValue, Truth, greatest, truth_of_value}, Statements.{ChoiceLine, Numbered}, Symbols.{Guarded, SymbolFacts, TreeFacts}, Values.{GivenText, GivenValue, and_value, choice_at, default_value, equation, facts, given_of, mode_of, same_given}, declared.{expressions.{SymId.SymId, SymbolType.SymbolType, Tri.{TheVariants.{M, N}, Tri}}, symbols.SelectOrImply.SelectOrImply}}
 use Rattle.kc_tree.specs.Layouts.{asked_by, choice_at as choice_begun, facts_of}
 use Rattle.kc_tree.specs.{Places.names, Stored.unstored, declared.{layout.Layout.Layout, rows.{Choice.Choice, Symbol.Symbol}}}
 use Rattle.kc_values.specs.PartsOfValues.{member_equation}
@@ -13,6 +13,20 @@ Covers p b worth = (known : SymId → SymbolValue) → Allows p known → IsWith
 -- whatever values the symbols may have, each of these is n
 abbrev pub AreOff : Possible → List SymId → Type 0
 AreOff p found = All (λ s. (known : SymId → SymbolValue) → Allows p known → truth_of_value (known s) ≡ N) found
+
+-- whatever values the symbols may have, and whatever the user gives, the equation of this one does not give m
+abbrev pub IsNeverM : Possible → SymId → Type 0
+IsNeverM p s = (user : Option GivenValue) (known : SymId → SymbolValue) → Allows p known → equation p.laid.tree.now known s (facts p.laid.tree.now s) user ≢ Truth M
+
+-- whatever values the symbols may have, and whatever the user gives, the equation of the symbol with this row gives this text
+abbrev pub IsOnlyText : Possible → SymId → Symbol → List ℕ → Type 0
+IsOnlyText p s row text = (user : Option GivenValue) (known : SymId → SymbolValue) → Allows p known →
+    equation p.laid.tree.now known s (Some (facts_of p.laid.layout.now s.0 row)) user ≡ TextValue row.symbol_type text
+
+-- and never this text
+abbrev pub IsNoText : Possible → SymId → Symbol → List ℕ → Type 0
+IsNoText p s row text = (user : Option GivenValue) (known : SymId → SymbolValue) → Allows p known →
+    same_given (GivenText text) (given_of (equation p.laid.tree.now known s (Some (facts_of p.laid.layout.now s.0 row)) user)) ≡ false
 
 -- the truth value of a symbol of this type is between the bounds
 abbrev pub IsOfType : SymbolType → Bounds → Type 0

@@ -1,6 +1,6 @@
 -- Trusted: What the symbols of a tree may be, whatever the user gives.
-use Rattle.std.specs.Prelude.{List, Option, Some, [], length, slice_get, ℕ, ◌<◌, ◌∷◌, ◌≡◌, ◌≢◌, ◌⊎◌}
-use Rattle.kc_language.specs.{Expressions.{SymbolValue, TextValue, Truth, truth_of_value}, Symbols.{SymbolFacts, TreeFacts}, Values.{GivenValue, Solves, UserPlace, and_value, choice_at, condition, conditions, equations, facts, known_from, mode_of, name, name_count, type_in}, declared.expressions.{SymId.SymId, SymbolType.{SymbolType, TheVariants.{Bool as IsBool, Hex, Int, Str, Tristate, Undefined}}, Tri.{TheVariants.N, Tri}}}
+use Rattle.std.specs.Prelude.{List, Option, Some, [], false, length, slice_get, ℕ, ◌<◌, ◌∷◌, ◌≡◌, ◌≢◌, ◌⊎◌}
+use Rattle.kc_language.specs.{Expressions.{SymbolValue, TextValue, Truth, truth_of_value}, Symbols.{SymbolFacts, TreeFacts}, Values.{GivenText, GivenValue, Solves, UserPlace, and_value, choice_at, condition, conditions, equations, facts, given_of, known_from, mode_of, name, name_count, same_given, type_in}, declared.expressions.{SymId.SymId, SymbolType.{SymbolType, TheVariants.{Bool as IsBool, Hex, Int, Str, Tristate, Undefined}}, Tri.{TheVariants.N, Tri}}}
 use Rattle.kc_tree.specs.Layouts.{condition_at, visible_at}
 use Rattle.kc_values.specs.Computed.{choice_dependency}
 use Rattle.kc_possible.specs.{Bounds.IsWithin, declared.{bounds.Bounds.Bounds, possible.Possible.Possible}}
@@ -29,6 +29,10 @@ IsOff tree s = (user : UserPlace → Option GivenValue) (V : ℕ → SymbolValue
 -- No input gives the symbol this truth value.
 abbrev pub IsImpossible : TreeFacts → SymId → Tri → Type 0
 IsImpossible tree s t = (user : UserPlace → Option GivenValue) (V : ℕ → SymbolValue) → IsUnder tree user V → known_from tree V s ≢ Truth t
+
+-- No input gives the symbol this text.
+abbrev pub IsTextImpossible : TreeFacts → SymId → List ℕ → Type 0
+IsTextImpossible tree s text = (user : UserPlace → Option GivenValue) (V : ℕ → SymbolValue) → IsUnder tree user V → same_given (GivenText text) (given_of (known_from tree V s)) ≡ false
 
 -- ---- Bounds
 -- a value of this type: a truth value, a text, or the name of a symbol without a type

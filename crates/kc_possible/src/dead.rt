@@ -3,10 +3,12 @@
 ghost use Rattle.std.specs.Prelude.{◌≡◌, All, IfOk, false, true};
 ghost use Rattle.kc_language.specs.Texts.{has_prompt};
 ghost use Rattle.kc_possible.specs.PartsOfPossible.{IsRowOf, facts_in};
-ghost use Rattle.kc_possible.specs.Possible.{AreSomeOf, IsDead, IsImpossible, IsSound};
+ghost use Rattle.kc_possible.specs.Possible.{AreSomeOf, IsDead, IsImpossible, IsSound, IsTextImpossible};
 
 use crate::possible::Possible;
-use crate::truths::prompts_bounds;
+use crate::ranges::is_out_of_range;
+use crate::texts::only_text;
+use crate::truths::{is_never_m, prompts_bounds};
 use kc_expr::expression::{SymId, Tri};
 use kc_tree::rows::Symbol;
 use std::alloc::{AllocError, Global};
@@ -54,13 +56,39 @@ pub fn dead_prompts(alloc: Global, p: &Possible<'_>) -> Result<Vec<SymId>, Alloc
     Ok(dead)
 }
 
-/// Whether the bounds allow that some input gives the symbol this truth value (our own). If they do not, none does.
-pub fn may_be(p: &Possible<'_>, id: SymId, value: Tri) -> bool
+// Whether the value is between the bounds of a symbol.
+fn is_within_bounds(p: &Possible<'_>, id: SymId, value: Tri) -> bool
     requires { IsSound p.now }
     ensures { result ≡ false → IsImpossible p.now.laid.tree.now id value }
 {
     match p.symbols.get(id.0) {
         Some(bounds) => bounds.has(value),
         None => p.laid.layout.symbol(id).is_some(),
+    }
+}
+
+/// Whether the bounds allow that some input gives the symbol this truth value (our own). If they do not, none does. No input
+/// gives a bool m, and none gives a tristate m if the modules symbol is always n.
+pub fn may_be(p: &Possible<'_>, id: SymId, value: Tri) -> bool
+    requires { IsSound p.now }
+    ensures { result ≡ false → IsImpossible p.now.laid.tree.now id value }
+{
+    if value == Tri::M && is_never_m(p, id) {
+        return false;
+    }
+    is_within_bounds(p, id, value)
+}
+
+/// Whether the bounds allow that some input gives the symbol this text (our own). If they do not, none does.
+pub fn may_have_text(p: &Possible<'_>, id: SymId, text: &[u8]) -> bool
+    requires { IsSound p.now }
+    ensures { result ≡ false → IsTextImpossible p.now.laid.tree.now id text.now }
+{
+    let Some(row) = p.laid.layout.symbol(id) else {
+        return true;
+    };
+    match only_text(p, id, row) {
+        Some(only) => text == only,
+        None => !is_out_of_range(p, id, row, text),
     }
 }

@@ -16,8 +16,8 @@ use kc_expr::expression::{Expr, Operand, Operands, SymId, SymbolType, Tri};
 use kc_expr::values::{Values, eval, tristate_constant};
 use kc_values::table::name;
 
-// The type of a symbol.
-fn type_of(p: &Possible<'_>, id: SymId) -> SymbolType
+/// The type of a symbol.
+pub(crate) fn type_of(p: &Possible<'_>, id: SymId) -> SymbolType
     ensures { result ≡ type_in (facts p.now.laid.tree.now id) }
 {
     match p.laid.layout.symbol(id) {

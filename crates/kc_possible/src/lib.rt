@@ -5,13 +5,17 @@
 //! - [`possible`]: the bounds of all symbols and of the conditions that many of them share; one pass in the order of needs.
 //! - [`expression`]: the bounds of an expression, [`conditions`] of what a line depends on.
 //! - [`truths`]: the bounds of a bool or tristate symbol, from those of what it needs.
+//! - [`texts`]: the texts that no input changes; [`ranges`]: the texts that the ranges of a number exclude.
 //! - [`dead`]: the prompts that no input can make visible, and the values that no input can give.
-//! - [`reason`]: the symbols that stand in the way of a dead prompt.
+//! - [`reason`]: the symbols that stand in the way of a dead prompt; [`shared`] keeps those that many prompts share.
 
 pub mod bounds;
 mod conditions;
 pub mod dead;
 mod expression;
 pub mod possible;
+mod ranges;
 pub mod reason;
+pub mod shared;
+mod texts;
 mod truths;

@@ -5,23 +5,50 @@ ghost use Rattle.std.specs.List.{filter_map};
 ghost use Rattle.kc_language.specs.declared.expressions.SymId.{SymId};
 ghost use Rattle.kc_language.specs.declared.symbols.SelectOrImply.{SelectOrImply};
 ghost use Rattle.kc_language.specs.Expressions.{SymbolValue, truth_of_value};
-ghost use Rattle.kc_language.specs.declared.expressions.Tri.{Tri};
+ghost use Rattle.kc_language.specs.declared.expressions.Tri.{TheVariants.{N}, Tri};
 ghost use Rattle.kc_language.specs.Symbols.{listed, stated_default};
 ghost use Rattle.kc_language.specs.Values.{above};
 ghost use Rattle.kc_language.specs.Values as values;
 ghost use Rattle.kc_tree.specs.Layouts.{condition_at, default_view, prompt_when, said_at, selector_facts, selectors_up_to};
 ghost use Rattle.kc_tree.specs.LineParts.{default_said};
 ghost use Rattle.kc_possible.specs.Possible.{Allows};
-ghost use Rattle.kc_possible.specs.PartsOfPossible.{Covers, IsLineAt, IsRowOf, facts_in, greatest_default, member_value};
+ghost use Rattle.kc_possible.specs.PartsOfPossible.{Covers, IsLineAt, IsNeverM, IsRowOf, facts_in, greatest_default, member_value};
 
 use crate::bounds::Bounds;
 use crate::conditions::{context, line_bounds, mode, prompt_bounds};
-use crate::expression::{expression, symbol};
+use crate::expression::{expression, symbol, type_of};
 use crate::possible::Possible;
 use kc_entries::statement::SymbolDefault;
 use kc_expr::expression::{SymId, SymbolType, Tri};
 use kc_tree::attributes::stated_default;
 use kc_tree::rows::{ChoiceId, EntryId, EntryPlace, Selector, SelectorId, Symbol};
+
+// What the modules symbol may be; n without one.
+fn modules(p: &Possible<'_>) -> Bounds
+    ensures { Covers p.now result (λ known. values.modules_value known p.now.laid.tree.now.modules) }
+{
+    match p.laid.tree.modules_symbol() {
+        Some(id) => symbol(p, id),
+        None => Bounds::exactly(Tri::N),
+    }
+}
+
+// Whether the modules symbol is always n, or there is none.
+fn is_without_modules(p: &Possible<'_>) -> bool
+    ensures { result ≡ true → (known : SymId → SymbolValue) → Allows p.now known → values.modules_value known p.now.laid.tree.now.modules ≡ N }
+{
+    modules(p).high == Tri::N
+}
+
+/// Whether a symbol is never m: one that is no tristate, and a tristate if the modules symbol is always n.
+pub(crate) fn is_never_m(p: &Possible<'_>, id: SymId) -> bool
+    ensures { result ≡ true → IsNeverM p.now id }
+{
+    if type_of(p, id) == SymbolType::Tristate {
+        return is_without_modules(p);
+    }
+    true
+}
 
 // With y for m where the type is not tristate under the values: what a value between these may then be.
 fn upgraded(p: &Possible<'_>, symbol_type: SymbolType, bounds: Bounds) -> Bounds
@@ -151,8 +178,8 @@ fn defaults_of(p: &Possible<'_>, at: EntryId, place: EntryPlace) -> Bounds
     greatest
 }
 
-// The first default of a symbol's first definition.
-fn first_default<'t>(p: &Possible<'t>, row: &Symbol) -> Option<&'t SymbolDefault>
+/// The first default of a symbol's first definition.
+pub(crate) fn first_default<'t>(p: &Possible<'t>, row: &Symbol) -> Option<&'t SymbolDefault>
     ensures { option_map (λ d. default_said d.now) result ≡ find (λ d. true) (filter_map stated_default (said_at p.now.laid.layout.now row.now.first.0)) }
 {
     for line in p.laid.layout.attributes(row.first) {

@@ -4,8 +4,8 @@ use Rattle.std.specs.declared.{alloc.Global.Global, vec.Vec.Vec}
 use Rattle.kc_language.specs.declared.expressions.SymId.{SymId}
 use Rattle.kc_possible.specs.PartsOfPossible.{AreOff}
 use Rattle.kc_possible.proofs.ReasonLemmas.{always_off, none_off}
-use Rattle.kc_possible.proofs.reason.reasons.Goals as goal
-use Rattle.kc_possible.proofs.reason.reasons.Goals.{in-Some+else-has_prompt+in_ok-add_lines, in-Some+then-has_prompt+in_ok-add_prompts, in_default}
+use Rattle.kc_possible.proofs.reason.shared_reasons.Goals as goal
+use Rattle.kc_possible.proofs.reason.shared_reasons.Goals.{in-Some+else-has_prompt+in_ok-add_lines, in-Some+then-has_prompt+in_ok-add_prompts, in_default}
 
 pub returns : goal.returns
 returns c =
