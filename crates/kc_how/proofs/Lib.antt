@@ -1,0 +1,5 @@
+pub mod FilterLemmas
+pub mod MergedLemmas
+pub mod FragmentLemmas
+pub mod LeftOutLemmas
+pub mod ReachLemmas
