@@ -1,6 +1,6 @@
 -- Trusted: Hints: which diagnostics --quiet-tree leaves out, and the line that --hints adds below a diagnostic (our own).
 use Rattle.std.specs.{List.{find, flat_map, starts_with}, Prelude.{Bool, List, None, Option, Some, [], codes, false, if◌then◌else◌, nat_eq, take, true, ℕ, ◌&&◌, ◌++◌, ◌+◌, ◌∷◌}}
-use Rattle.kc_display.specs.{Difference.lines, declared.{code.Code.{Code, TheVariants.{BadDefault, BadLine, BadName, BadToken, BadValue, Blocks, CannotRead, CannotWrite, ChoiceMember, DefaultOutsideRange, DependencyLoop, Inclusion, LeftOut, LongInputLine, LongLine, LostValue, Macro, MemberTarget, Misplaced, NoFile, NoMember, NoMemory, NoType, NotUpToDate, OutsideRange, Overridden, Prompts, Selected, SetAgain, Syntax, TextTarget, TextUnset, TooDeep, TooManyLines, TooManySymbols, TypeLines, UnknownName, UnknownSymbol, UnreadableName, WarningsRefused}}, display.Showing.Showing}}
+use Rattle.kc_display.specs.{Difference.lines, declared.{code.Code.{Code, TheVariants.{BadDefault, BadLine, BadName, BadToken, BadValue, Blocks, CannotRead, CannotWrite, ChoiceMember, DefaultOutsideRange, DependencyLoop, Inclusion, LeftOut, LongInputLine, LongLine, LostValue, Macro, MemberTarget, Misplaced, NoFile, NoFix, NoMember, NoMemory, NoType, NotUpToDate, OutOfReach, OutsideRange, Overridden, Prompts, Selected, SetAgain, Syntax, TextTarget, TextUnset, TooDeep, TooManyLines, TooManySymbols, TypeLines, UnknownName, UnknownSymbol, UnreadableName, WarningsRefused}}, display.Showing.Showing}}
 
 -- The text of the code in a diagnostic.
 abbrev pub code_text : Code → List ℕ
@@ -44,6 +44,8 @@ code_text WarningsRefused = codes "error E21: "
 code_text NotUpToDate = codes "error E22: "
 code_text UnreadableName = codes "error E23: "
 code_text UnknownName = codes "error E24: "
+code_text OutOfReach = codes "error E25: "
+code_text NoFix = codes "error E26: "
 
 -- The text of its hint.
 abbrev pub hint_text : Code → List ℕ
@@ -87,6 +89,8 @@ hint_text WarningsRefused = codes "mend what the warnings tell, or run without -
 hint_text NotUpToDate = codes "run again with --replace in place of --check; --diff shows what differs"
 hint_text UnreadableName = codes "a name in a dependency file has no tab, =, ;, *, ? or [, and does not end in a blank, & or ): rename the file"
 hint_text UnknownName = codes "give the name of a symbol that the tree mentions, with or without the prefix"
+hint_text OutOfReach = codes "ask for a value that it can have; if symbols are listed below, change what they depend on"
+hint_text NoFix = codes "raise --how-steps, or ask first for a symbol that this one depends on"
 
 -- The warnings about the tree.
 abbrev pub is_about_tree : Code → Bool
@@ -110,7 +114,7 @@ all_codes =
     TypeLines ∷ Prompts ∷ NoType ∷ TextTarget ∷ NoMember ∷ MemberTarget ∷ UnknownSymbol ∷ BadValue ∷ BadLine ∷ SetAgain ∷ Selected ∷ OutsideRange ∷
     DefaultOutsideRange ∷ LostValue ∷ Overridden ∷ TextUnset ∷ NoFile ∷ Inclusion ∷ TooManyLines ∷ LongLine ∷ BadToken ∷ Macro ∷ LeftOut ∷ Syntax ∷
     Blocks ∷ Misplaced ∷ BadName ∷ TooDeep ∷ ChoiceMember ∷ BadDefault ∷ DependencyLoop ∷ TooManySymbols ∷ LongInputLine ∷ CannotRead ∷ CannotWrite ∷
-    NoMemory ∷ WarningsRefused ∷ NotUpToDate ∷ UnreadableName ∷ UnknownName ∷ []
+    NoMemory ∷ WarningsRefused ∷ NotUpToDate ∷ UnreadableName ∷ UnknownName ∷ OutOfReach ∷ NoFix ∷ []
 
 -- The first of these codes with which a text starts.
 abbrev pub begins_with : List ℕ → List ℕ → Bool

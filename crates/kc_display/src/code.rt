@@ -86,10 +86,14 @@ pub enum Code {
     UnreadableName,
     /// E24.
     UnknownName,
+    /// E25.
+    OutOfReach,
+    /// E26.
+    NoFix,
 }
 
 /// All codes.
-pub(crate) const CODES: [Code; 40] = [
+pub(crate) const CODES: [Code; 42] = [
     Code::TypeLines,
     Code::Prompts,
     Code::NoType,
@@ -130,6 +134,8 @@ pub(crate) const CODES: [Code; 40] = [
     Code::NotUpToDate,
     Code::UnreadableName,
     Code::UnknownName,
+    Code::OutOfReach,
+    Code::NoFix,
 ];
 
 impl Code {
@@ -178,6 +184,8 @@ impl Code {
             Code::NotUpToDate => "error E22: ",
             Code::UnreadableName => "error E23: ",
             Code::UnknownName => "error E24: ",
+            Code::OutOfReach => "error E25: ",
+            Code::NoFix => "error E26: ",
         }
     }
 
@@ -287,6 +295,10 @@ impl Code {
             Code::UnknownName => {
                 "give the name of a symbol that the tree mentions, with or without the prefix"
             }
+            Code::OutOfReach => {
+                "ask for a value that it can have; if symbols are listed below, change what they depend on"
+            }
+            Code::NoFix => "raise --how-steps, or ask first for a symbol that this one depends on",
         }
     }
 

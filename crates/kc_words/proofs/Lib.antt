@@ -1,6 +1,8 @@
 pub mod ApartLemmas
-pub mod DepthLemmas
+pub mod GoalLemmas
+pub mod NumberLemmas
 pub mod PartLemmas
 pub mod PlaceLemmas
+pub mod RequestLemmas
 pub mod RowLemmas
 pub mod RefusalLemmas

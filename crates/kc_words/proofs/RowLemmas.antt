@@ -98,6 +98,10 @@ differs : is_given (codes "diff") (matches_of kconf_app (codes "--check" ∷ cod
 unfolding clap_on_literals kconf_app with_options
 differs = refl
 
+how : first_of (codes "how") (matches_of kconf_app (codes "--how=A=y" ∷ codes "--how-steps" ∷ codes "9" ∷ codes "Kconfig" ∷ [])) ≡ Some (codes "A=y")
+unfolding clap_on_literals kconf_app with_options
+how = refl
+
 includes : first_of (codes "include") (matches_of kconf_app (codes "--flat" ∷ codes "--include=d" ∷ codes "Kconfig" ∷ [])) ≡ Some (codes "d")
 unfolding clap_on_literals kconf_app with_options
 includes = refl

@@ -1,11 +1,11 @@
 -- Trusted: What the command line requests, why it is refused, and which files configurations share (our own; see `kconf --help`).
 -- The crate clap reads the arguments. It has a rule for each argument, and returns rows: the name of a rule with its values. A flag that is set has
 -- the value `true`.
-use Rattle.std.specs.{Prelude.{◌≡◌, ◌≢◌, ◌==◌, ◌<◌, ◌&&◌, ◌||◌, ◌⊎◌, ◌++◌, ◌^◌, ℕ, List, [], ◌∷◌, Bool, true, false, not, Option, Some, None, is_some, unwrap_or, option_map, String, string_bytes, codes, decimal, bytes_eq, nat_eq, if◌then◌else◌, map, fold, filter, flat_map, length, drop, slice_index_or}, List.{last_or, list_any, slice_split, starts_with}, Option.option_or, Str.Lines.lines, declared.alloc.Global.Global}
+use Rattle.std.specs.{Prelude.{◌≡◌, ◌≢◌, ◌==◌, ◌<◌, ◌&&◌, ◌||◌, ◌⊎◌, ◌++◌, ◌^◌, ℕ, List, [], ◌∷◌, Bool, true, false, not, Option, Some, None, is_some, unwrap_or, option_map, String, string_bytes, codes, decimal, bytes_eq, nat_eq, if◌then◌else◌, map, fold, filter, flat_map, length, drop, slice_index_or}, List.{after_first, before_first, last_or, list_any, slice_split, starts_with}, Option.option_or, Str.Lines.lines, declared.alloc.Global.Global}
 use Rattle.clap.specs.{Words.{App, IsAmong, Kinds, Row, Rule, Text, all_of, first_of, matches_of, new_app, new_rule, with_rule}, Simple.on_top, declared.{builder.action.ArgAction.TheVariants.{Append, SetTrue}, error.kind.ErrorKind.{ErrorKind, TheVariants.{DisplayHelp, DisplayVersion}}}}
 use Rattle.kc_language.specs.{Text.{byte, longest_prefix, natural_of}, ConfigFile.{Notation, is_prefix}}
 use Rattle.kc_outcome.specs.{Outcome.{Options}, declared.outcome.{Delivery.{Delivery, TheVariants.{Check, Replace, Write}}, Output.{Output, TheVariants.{Config, DependencyFile, Explanation, GoneLines, Header, Minimal, NewSymbols}}}}
-use Rattle.kc_words.specs.declared.{each.Each.Each, options.{DeadList.DeadList, Request.{Request, TheVariants.{Dead, One, Each as Many}}}, usage.UsageError.{UsageError, TheVariants.{Help, Version, Bad, Memory}}}
+use Rattle.kc_words.specs.declared.{each.Each.Each, how.{EachQuestion.EachQuestion, HowQuestion.HowQuestion}, options.{DeadList.DeadList, Request.{Request, TheVariants.{Dead, How, HowEach, One, Each as Many}}}, usage.UsageError.{UsageError, TheVariants.{Help, Version, Bad, Memory}}}
 
 -- ---- The command
 -- The rules: --NAME VALUE; --NAME; --NAME VALUE, which may be repeated; KCONFIG, which is required; and the arguments after it.
@@ -38,6 +38,7 @@ with_options app = fold with_rule app
     ∷ flag_rule (codes "must-exist") ∷ flag_rule (codes "strict") ∷ flag_rule (codes "strict-tree") ∷ flag_rule (codes "quiet-tree")
     ∷ flag_rule (codes "hints") ∷ flag_rule (codes "warn-lost")
     ∷ flag_rule (codes "explain-lost") ∷ repeated_rule (codes "explain") ∷ option_rule (codes "explain-depth")
+    ∷ option_rule (codes "how") ∷ option_rule (codes "how-steps")
     ∷ flag_rule (codes "replace") ∷ flag_rule (codes "check") ∷ flag_rule (codes "diff") ∷ flag_rule (codes "each")
     ∷ option_rule (codes "each-from") ∷ repeated_rule (codes "fragment") ∷ [])
 
@@ -73,23 +74,49 @@ prefix_option rows = unwrap_or (first_of (codes "prefix") rows) (codes "CONFIG_"
 abbrev pub notation_option : List Row → Notation
 notation_option rows = record { prefix = prefix_option rows; is_raw = is_given (codes "raw-strings") rows }
 
--- The number of steps of an explanation: decimal digits of a number below 2^63. Any other text is refused.
+-- The number of steps of an explanation, and of tries for --how: decimal digits of a number below 2^63. Any other text is refused.
 abbrev pub depth_option : List Row → Text
 depth_option rows = unwrap_or (first_of (codes "explain-depth") rows) (codes "3")
 
-abbrev pub depth_of : Text → Option ℕ
-depth_of = natural_of 10 (2 ^ 63)
+abbrev pub steps_option : List Row → Text
+steps_option rows = unwrap_or (first_of (codes "how-steps") rows) (codes "200")
 
--- With --explain only the explanations are written, and no file is compared or refused because of a warning. Other arguments that request that are
--- ignored.
+abbrev pub number_of : Text → Option ℕ
+number_of = natural_of 10 (2 ^ 63)
+
+-- The name and the value of --how, in `NAME=VALUE`: what stands before the first `=`, and what stands after it. The name is not empty. Any other text is
+-- refused.
+abbrev pub if_named : Text → Text → Option (Text × Text)
+if_named name value = if length name == 0 then None else Some (name, value)
+
+abbrev pub goal_in : Text → Option (Text × Text)
+goal_in text = if list_any (λ b. b == byte "=") text
+    then if_named (before_first (λ b. b == byte "=") text) (after_first (λ b. b == byte "=") text)
+    else None
+
+abbrev pub goal_option : List Row → Option (Text × Text)
+goal_option rows = elim (first_of (codes "how") rows) [ None ↦ None | Some text ↦ goal_in text ]
+
+-- The names that are asked about: those of --explain, or the one of --how.
+abbrev pub asked_names : List Row → List Text
+asked_names rows = elim (goal_option rows) [ None ↦ values_of (codes "explain") rows | Some goal ↦ goal.0 ∷ [] ]
+
+-- With --explain no file is refused because of a warning. With --explain or --how only the answer is written, and no file is compared. Other arguments
+-- that request that are ignored.
 abbrev pub unless_explained : {A : Type 0} → List Row → A → A → A
 unless_explained rows absent asked = if has_value (codes "explain") rows then absent else asked
+
+abbrev pub asks : List Row → Bool
+asks rows = has_value (codes "explain") rows || has_value (codes "how") rows
+
+abbrev pub unless_asking : {A : Type 0} → List Row → A → A → A
+unless_asking rows absent asked = if asks rows then absent else asked
 
 abbrev pub delivery_of : List Row → Delivery
 delivery_of rows = if is_given (codes "check") rows then Check else if is_given (codes "replace") rows then Replace else Write
 
 -- The outputs that are asked for, with their files. `out` is the file of the full `.config`. The others follow it in the order of `other_outputs`. With
--- --explain there are only the explanations, which go to standard output.
+-- --explain or --how there is only the answer, which goes to standard output.
 abbrev pub other_outputs : List (Text × Output)
 other_outputs = (codes "header", Header) ∷ (codes "savedefconfig", Minimal) ∷ (codes "list-new", NewSymbols) ∷ (codes "list-gone", GoneLines)
     ∷ (codes "depfile", DependencyFile) ∷ []
@@ -99,7 +126,7 @@ output_if kind None = []
 output_if kind (Some file) = (kind, file) ∷ []
 
 abbrev pub asked_outputs : List Row → Option Text → List (Output × Text)
-asked_outputs rows out = unless_explained rows ((Explanation, codes "/dev/stdout") ∷ [])
+asked_outputs rows out = unless_asking rows ((Explanation, codes "/dev/stdout") ∷ [])
     (output_if Config out ++ flat_map (λ other. output_if other.1 (first_of other.0 rows)) other_outputs)
 
 abbrev pub outputs_of : Options → List (Output × Text)
@@ -112,8 +139,8 @@ pub record AreSharedOptions (rows : List Row) (options : Options) : Type 0 where
   pub is_flat : options.is_flat ≡ is_given (codes "flat") rows
   pub include : option_map string_bytes options.include ≡ first_of (codes "include") rows
   pub with_help : options.with_help ≡ is_given (codes "with-help") rows
-  pub explain : map string_bytes options.explain.items ≡ values_of (codes "explain") rows
-  pub explain_depth : Some options.explain_depth ≡ depth_of (depth_option rows)
+  pub explain : map string_bytes options.explain.items ≡ asked_names rows
+  pub explain_depth : Some options.explain_depth ≡ number_of (depth_option rows)
   pub explain_lost : options.explain_lost ≡ is_given (codes "explain-lost") rows
   pub prefix : options.prefix ≡ notation_option rows
   pub prefix_is_one : is_prefix (prefix_option rows) ≡ true
@@ -122,8 +149,8 @@ pub record AreSharedOptions (rows : List Row) (options : Options) : Type 0 where
   pub quiet_tree : options.quiet_tree ≡ is_given (codes "quiet-tree") rows
   pub hints : options.hints ≡ is_given (codes "hints") rows
   pub warn_lost : options.warn_lost ≡ is_given (codes "warn-lost") rows
-  pub delivery : options.delivery ≡ unless_explained rows Write (delivery_of rows)
-  pub shows_difference : options.shows_difference ≡ unless_explained rows false (is_given (codes "diff") rows)
+  pub delivery : options.delivery ≡ unless_asking rows Write (delivery_of rows)
+  pub shows_difference : options.shows_difference ≡ unless_asking rows false (is_given (codes "diff") rows)
 
 -- The options of one configuration.
 pub record AreOptionsOf (rows : List Row) (options : Options) : Type 0 where
@@ -155,14 +182,28 @@ pub record IsDeadOf (rows : List Row) (file : Text) (dead : DeadList) : Type 0 w
   pub names_config : dead.options.names_config ≡ false
   pub file_is : string_bytes dead.file ≡ file
 
--- One configuration, a list of dead prompts, or many configurations.
+-- What must be set so that a symbol has this value, in at most this number of tries. The options are those of one configuration.
+pub record IsHowOf (rows : List Row) (how : HowQuestion) : Type 0 where
+  pub options : AreOptionsOf rows how.options
+  pub value : Some (string_bytes how.value) ≡ option_map (λ goal. goal.1) (goal_option rows)
+  pub steps : Some how.steps ≡ number_of (steps_option rows)
+
+-- The same for many configurations. Each answer goes to standard output.
+pub record IsEachHowOf (rows : List Row) (how : EachQuestion) : Type 0 where
+  pub each : IsEachOf rows how.each
+  pub value : Some (string_bytes how.value) ≡ option_map (λ goal. goal.1) (goal_option rows)
+  pub steps : Some how.steps ≡ number_of (steps_option rows)
+
+-- One configuration, a list of dead prompts, or what must be set; and many configurations, or what must be set in each of them.
 abbrev pub AsksAlone : List Row → Request → Type 0
-AsksAlone rows (One options) = (first_of (codes "list-dead") rows ≡ None) × AreOptionsOf rows options
+AsksAlone rows (One options) = (first_of (codes "list-dead") rows ≡ None) × (has_value (codes "how") rows ≡ false) × AreOptionsOf rows options
+AsksAlone rows (How how) = (first_of (codes "list-dead") rows ≡ None) × (has_value (codes "how") rows ≡ true) × IsHowOf rows how
 AsksAlone rows (Dead dead) = (file : Text) × (first_of (codes "list-dead") rows ≡ Some file) × IsDeadOf rows file dead
-AsksAlone rows (Many each) = ⊥
+AsksAlone rows request = ⊥
 
 abbrev pub AsksFor : List Row → Request → Type 0
-AsksFor rows (Many each) = (is_each rows ≡ true) × IsEachOf rows each
+AsksFor rows (Many each) = (is_each rows ≡ true) × (has_value (codes "how") rows ≡ false) × IsEachOf rows each
+AsksFor rows (HowEach how) = (is_each rows ≡ true) × (has_value (codes "how") rows ≡ true) × IsEachHowOf rows how
 AsksFor rows request = (is_each rows ≡ false) × AsksAlone rows request
 
 -- ---- Refusals
@@ -170,7 +211,14 @@ AsksFor rows request = (is_each rows ≡ false) × AsksAlone rows request
 abbrev pub with_hint : Text → Text
 with_hint text = text ++ codes "\n\nFor more information, try '--help'.\n"
 
--- The error if arguments exclude each other: the first that applies. And the errors if a prefix or a number of steps is not valid.
+-- The error if arguments exclude each other: the first that applies. And the errors if a prefix, a number or a goal is not valid.
+abbrev pub how_exclusion : List Row → Option Text
+how_exclusion rows =
+    if not (has_value (codes "how") rows) then None
+    else if has_value (codes "explain") rows then Some (with_hint (codes "error: the argument '--how <NAME=VALUE>' cannot be used with '--explain'"))
+    else if has_value (codes "list-dead") rows then Some (with_hint (codes "error: the argument '--how <NAME=VALUE>' cannot be used with '--list-dead'"))
+    else None
+
 abbrev pub exclusion_of : List Row → Option Text
 exclusion_of rows =
     if is_given (codes "check") rows && is_given (codes "replace") rows
@@ -187,19 +235,34 @@ exclusion_of rows =
     then Some (with_hint (codes "error: the argument '--list-dead <FILE>' cannot be used with '--explain'"))
     else if is_each rows && (has_value (codes "depfile") rows && not (has_value (codes "out") rows))
     then Some (with_hint (codes "error: the argument '--depfile <FILE>' needs '--out <FILE>' with '--each'"))
-    else None
+    else how_exclusion rows
 
 abbrev pub no_prefix_text : Text → Text
 no_prefix_text text = codes "error: invalid value '" ++ text ++ with_hint (codes "' for '--prefix <TEXT>': at most " ++ decimal longest_prefix
     ++ codes " letters, digits and _, of which the first is no digit")
 
-abbrev pub no_depth_text : Text → Text
-no_depth_text text = codes "error: invalid value '" ++ text ++ with_hint (codes "' for '--explain-depth <N>': a decimal number below 2^63")
+abbrev pub no_number_text : Text → Text → Text
+no_number_text option text =
+    codes "error: invalid value '" ++ (text ++ (codes "' for '" ++ (option ++ with_hint (codes " <N>': a decimal number below 2^63"))))
+
+abbrev pub no_goal_text : Text → Text
+no_goal_text text = codes "error: invalid value '" ++ text ++ with_hint (codes "' for '--how <NAME=VALUE>': NAME=VALUE is expected")
+
+abbrev pub number_error : Text → Text → Option Text
+number_error option text = if is_some (number_of text) then None else Some (no_number_text option text)
+
+abbrev pub form_error : List Row → Option Text
+form_error rows = if is_prefix (prefix_option rows) then number_error (codes "--explain-depth") (depth_option rows) else Some (no_prefix_text (prefix_option rows))
+
+abbrev pub goal_error : Option Text → Option Text
+goal_error None = None
+goal_error (Some text) = if is_some (goal_in text) then None else Some (no_goal_text text)
+
+abbrev pub how_error : List Row → Option Text
+how_error rows = option_or (goal_error (first_of (codes "how") rows)) (number_error (codes "--how-steps") (steps_option rows))
 
 abbrev pub value_error : List Row → Option Text
-value_error rows = if is_prefix (prefix_option rows)
-    then (if is_some (depth_of (depth_option rows)) then None else Some (no_depth_text (depth_option rows)))
-    else Some (no_prefix_text (prefix_option rows))
+value_error rows = option_or (form_error rows) (how_error rows)
 
 -- The error for arguments that clap accepts, if there is one.
 abbrev pub refusal_of : List Row → Option Text
@@ -242,7 +305,7 @@ filled_parts config (first ∷ others) = first ++ flat_map (filled_part config) 
 abbrev pub filled : Text → Text → Text
 filled config pattern = filled_parts config (slice_split (λ b. b == byte "{") pattern)
 
--- The options of one of many configurations: the shared options, with this name, and with the patterns of the outputs filled in. None explains a symbol.
+-- The options of one of many configurations: the shared options, with this name, and with the patterns of the outputs filled in.
 pub record AreOptionsFor (each : Each) (name : Text) (options : Options) : Type 0 where
   pub root : string_bytes options.root ≡ string_bytes each.options.root
   pub config : string_bytes options.config ≡ name
@@ -251,7 +314,7 @@ pub record AreOptionsFor (each : Each) (name : Text) (options : Options) : Type 
   pub is_flat : options.is_flat ≡ each.options.is_flat
   pub include : option_map string_bytes options.include ≡ option_map string_bytes each.options.include
   pub with_help : options.with_help ≡ each.options.with_help
-  pub explain : options.explain.items ≡ []
+  pub explain : map string_bytes options.explain.items ≡ map string_bytes each.options.explain.items
   pub explain_depth : options.explain_depth ≡ each.options.explain_depth
   pub explain_lost : options.explain_lost ≡ each.options.explain_lost
   pub fragments : map string_bytes options.fragments.items ≡ map string_bytes each.options.fragments.items

@@ -1,8 +1,7 @@
 -- For proofs: Names for parts of the definitions of CommandLine.
 use Rattle.clap.specs.Words.{Row, Text}
-use Rattle.kc_language.specs.ConfigFile.{is_prefix}
-use Rattle.kc_words.specs.CommandLine.{depth_of, is_given, has_value, is_each, no_depth_text, no_prefix_text}
-use Rattle.std.specs.Prelude.{◌&&◌, List, Bool, codes, not, Option, None, Some, is_some, if◌then◌else◌}
+use Rattle.kc_words.specs.CommandLine.{is_given, has_value, is_each}
+use Rattle.std.specs.Prelude.{◌&&◌, List, Bool, codes, not}
 
 abbrev pub are_exclusive : List Row → Bool
 are_exclusive rows = is_given (codes "check") rows && is_given (codes "replace") rows
@@ -46,12 +45,8 @@ explains_dead_text = codes "error: the argument '--list-dead <FILE>' cannot be u
 abbrev pub target_text : Text
 target_text = codes "error: the argument '--depfile <FILE>' needs '--out <FILE>' with '--each'\n\nFor more information, try '--help'.\n"
 
-abbrev pub depth_refusal : Text → Option Text
-depth_refusal text = if is_some (depth_of text) then None else Some (no_depth_text text)
+abbrev pub explains_how_text : Text
+explains_how_text = codes "error: the argument '--how <NAME=VALUE>' cannot be used with '--explain'\n\nFor more information, try '--help'.\n"
 
-abbrev pub value_refusal : Text → Text → Option Text
-value_refusal prefix depth = if is_prefix prefix then depth_refusal depth else Some (no_prefix_text prefix)
-
-abbrev pub first_report : Option Text → Option Text → Option Text
-first_report (Some text) _ = Some text
-first_report None other = other
+abbrev pub dead_how_text : Text
+dead_how_text = codes "error: the argument '--how <NAME=VALUE>' cannot be used with '--list-dead'\n\nFor more information, try '--help'.\n"

@@ -3,7 +3,7 @@ use Rattle.std.specs.{Prelude.{◌≡◌, ◌≢◌, ◌<◌, List, Option, None
 use Rattle.clap.specs.{Words.{Row, Text}, declared.error.kind.ErrorKind.ErrorKind}
 use Rattle.kc_language.specs.ConfigFile.{is_prefix}
 use Rattle.kc_language.specs.Statements.{out_of_memory_line}
-use Rattle.kc_words.specs.{CommandLine.{depth_of, listed, no_depth_text, no_prefix_text, refusal_of, value_error}, declared.usage.UsageError.UsageError}
+use Rattle.kc_words.specs.{CommandLine.{form_error, goal_in, how_error, listed, no_goal_text, no_number_text, no_prefix_text, number_of, refusal_of, value_error}, declared.usage.UsageError.UsageError}
 use Rattle.clap.specs.declared.error.kind.ErrorKind.TheVariants as kind
 use Rattle.kc_words.specs.declared.usage.UsageError.TheVariants as usage
 
@@ -53,20 +53,34 @@ IsNoPrefix text (usage.Bad told) = (is_prefix text ≡ false) × (string_bytes t
 IsNoPrefix text usage.Memory = Unit {0}
 IsNoPrefix text _ = ⊥
 
--- out of memory, or the text is not a number of steps, and this reports it
-abbrev pub IsNoDepth : Text → UsageError → Type 0
-IsNoDepth text (usage.Bad told) = (depth_of text ≡ None) × (string_bytes told ≡ no_depth_text text)
-IsNoDepth text usage.Memory = Unit {0}
-IsNoDepth text _ = ⊥
+-- out of memory, or the text is not a number, and this reports it for this option
+abbrev pub IsNoNumber : Text → Text → UsageError → Type 0
+IsNoNumber option text (usage.Bad told) = (number_of text ≡ None) × (string_bytes told ≡ no_number_text option text)
+IsNoNumber option text usage.Memory = Unit {0}
+IsNoNumber option text _ = ⊥
 
--- out of memory, or this reports a value that is not valid
+-- out of memory, or the text is no name with a value, and this reports it
+abbrev pub IsNoGoal : Text → UsageError → Type 0
+IsNoGoal text (usage.Bad told) = (goal_in text ≡ None) × (string_bytes told ≡ no_goal_text text)
+IsNoGoal text usage.Memory = Unit {0}
+IsNoGoal text _ = ⊥
+
+-- out of memory, or this is the text of an error
+abbrev pub IsErrorOf : Option Text → UsageError → Type 0
+IsErrorOf error (usage.Bad told) = error ≡ Some (string_bytes told)
+IsErrorOf error usage.Memory = Unit {0}
+IsErrorOf error _ = ⊥
+
+-- out of memory, or this reports a value that is not valid: any; the prefix or the depth; what --how asks
 abbrev pub IsNoValue : List Row → UsageError → Type 0
-IsNoValue rows (usage.Bad told) = value_error rows ≡ Some (string_bytes told)
-IsNoValue rows usage.Memory = Unit {0}
-IsNoValue rows _ = ⊥
+IsNoValue rows = IsErrorOf (value_error rows)
+
+abbrev pub IsNoForm : List Row → UsageError → Type 0
+IsNoForm rows = IsErrorOf (form_error rows)
+
+abbrev pub IsNotAsked : List Row → UsageError → Type 0
+IsNotAsked rows = IsErrorOf (how_error rows)
 
 -- out of memory, or this reports why the arguments are refused
 abbrev pub IsNoRequest : List Row → UsageError → Type 0
-IsNoRequest rows (usage.Bad told) = refusal_of rows ≡ Some (string_bytes told)
-IsNoRequest rows usage.Memory = Unit {0}
-IsNoRequest rows _ = ⊥
+IsNoRequest rows = IsErrorOf (refusal_of rows)

@@ -22,8 +22,8 @@ With --each, {} in the FILEs of --out, --header, --savedefconfig, --list-new, --
 Exit status:
   0  success: every output file is complete
   1  refused: an error in the input (the tree, a .config file, a file name with --depfile, a name of
-     --explain), a warning under --strict or --strict-tree, or a file that is not up to date
-     (--check); no file was created or changed
+     --explain or --how), no way found by --how, a warning under --strict or --strict-tree, or a file
+     that is not up to date (--check); no file was created or changed
   2  wrong arguments
   3  I/O error or out of memory: output files may be truncated; with --replace they are unchanged,
      unless a rename failed
@@ -122,6 +122,16 @@ const EXPLAIN: OptionTexts = OptionTexts {
 const EXPLAIN_DEPTH: OptionTexts = OptionTexts {
     value: "N",
     help: "Also explain what holds it down, in at most N steps [default: 3]",
+};
+
+const HOW: OptionTexts = OptionTexts {
+    value: "NAME=VALUE",
+    help: "Print what must be set so that the symbol NAME has VALUE, and write no file",
+};
+
+const HOW_STEPS: OptionTexts = OptionTexts {
+    value: "N",
+    help: "The most fragments to try for --how [default: 200]",
 };
 
 const REPLACE: &str = "Write files atomically, and leave unchanged files untouched";
@@ -255,6 +265,8 @@ fn with_options<'a>(alloc: Global, command: Command<'a>) -> Result<Command<'a>, 
     let command = with_flag(alloc, command, "explain-lost", EXPLAIN_LOST)?;
     let command = with_repeated(alloc, command, "explain", EXPLAIN)?;
     let command = with_option(alloc, command, "explain-depth", EXPLAIN_DEPTH)?;
+    let command = with_option(alloc, command, "how", HOW)?;
+    let command = with_option(alloc, command, "how-steps", HOW_STEPS)?;
     let command = with_flag(alloc, command, "replace", REPLACE)?;
     let command = with_flag(alloc, command, "check", CHECK)?;
     let command = with_flag(alloc, command, "diff", DIFF)?;

@@ -87,8 +87,8 @@ fn filled_files(
 
 impl Each {
     /// Returns the options of the configuration of this name. The patterns are filled in: `{}` with the whole name,
-    /// `{/}` with the part after its last `/` (as GNU parallel does). The name itself is not filled in again. No symbol
-    /// is explained. Fails only if there is not enough memory.
+    /// `{/}` with the part after its last `/` (as GNU parallel does). The name itself is not filled in again. Fails only if
+    /// there is not enough memory.
     pub fn options_for(&self, alloc: Global, config: &str) -> Result<Options, AllocError>
         ensures { IfOk result (AreOptionsFor self.now config.now) }
     {
@@ -100,7 +100,7 @@ impl Each {
             kconfig: String::from_str(alloc, asked.kconfig.as_str())?,
             is_flat: asked.is_flat,
             with_help: asked.with_help,
-            explain: Vec::new(alloc),
+            explain: copies_of(alloc, &asked.explain)?,
             explain_depth: asked.explain_depth,
             explain_lost: asked.explain_lost,
             fragments: copies_of(alloc, &asked.fragments)?,

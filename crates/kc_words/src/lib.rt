@@ -6,14 +6,16 @@
 
 mod apart;
 mod command;
-mod depth;
 mod each;
+mod how;
 mod list;
+mod number;
 mod options;
 mod patterns;
 mod usage;
 
 pub use each::Each;
+pub use how::{EachQuestion, HowQuestion};
 pub use list::list_of;
 pub use options::{DeadList, Request, request_of};
 pub use usage::UsageError;

@@ -1,16 +1,17 @@
 //! What the arguments of the command line request.
 
-ghost use Rattle.std.specs.Prelude.{◌≡◌, ◌++◌, ◌<◌, [], IfOk, IfErr, OnOk, Some, codes, false, length, map, option_map, string_bytes, unwrap_or, true};
+ghost use Rattle.std.specs.Prelude.{◌≡◌, ◌++◌, ◌<◌, [], IfOk, IfErr, OnOk, Some, codes, false, is_some, length, map, option_map, string_bytes, unwrap_or, true};
 ghost use Rattle.kc_language.specs.ConfigFile.{is_prefix};
 ghost use Rattle.clap.specs.Words.{takes, rows_of, found_of, kind_of, first_of, fault_of};
-ghost use Rattle.kc_words.specs.CommandLine.{exclusion_of, has_value, is_each, is_given, values_of, AreOptionsOf, AreSharedOptions, AsksAlone, AsksFor, IsDeadOf, IsEachOf, IsRequestOf, asked_outputs, delivery_of, other_outputs, output_if, depth_of, prefix_option, kconf_app, arguments_of, rows_for, IsRefused, refusal_of, unless_explained};
+ghost use Rattle.kc_words.specs.CommandLine.{asked_names, asks, exclusion_of, goal_error, goal_option, has_value, how_exclusion, is_each, is_given, steps_option, values_of, AreOptionsOf, AreSharedOptions, AsksAlone, AsksFor, IsDeadOf, IsEachOf, IsHowOf, IsRequestOf, asked_outputs, delivery_of, other_outputs, output_if, number_of, prefix_option, kconf_app, arguments_of, rows_for, IsRefused, refusal_of, unless_asking, unless_explained};
 ghost use Rattle.std.specs.List.{flat_map};
-ghost use Rattle.kc_words.specs.Inputs.{AreValues, HasInputs, output_view};
-ghost use Rattle.kc_words.specs.Refusals.{IsKindOf, IsNoDepth, IsNoPrefix, IsNoRequest, IsNoValue, IsBadWords, IsTold};
+ghost use Rattle.kc_words.specs.Inputs.{AreValues, HasInputs, IsAsked, IsForm, IsQuestionOrRun, IsQuestionOrRuns, goal_view, output_view};
+ghost use Rattle.kc_words.specs.Refusals.{IsErrorOf, IsKindOf, IsNoForm, IsNoNumber, IsNoPrefix, IsNoRequest, IsNoValue, IsNotAsked, IsBadWords, IsTold};
 
 use crate::command::command;
-use crate::depth::depth_of;
 use crate::each::Each;
+use crate::how::{EachQuestion, Goal, HowQuestion, checked_goal};
+use crate::number::number_of;
 use crate::usage::{UsageError, bad};
 use clap::error::ErrorKind;
 use clap::{ArgMatches, Error};
@@ -27,6 +28,10 @@ pub enum Request {
     Each(Each),
     /// A list of the prompts that no input makes visible.
     Dead(DeadList),
+    /// What must be set so that a symbol has a value.
+    How(HowQuestion),
+    /// The same for each of many configurations of one tree.
+    HowEach(EachQuestion),
 }
 
 /// A list of the prompts that no input makes visible, and its file. The options have no outputs.
@@ -48,11 +53,25 @@ struct Inputs {
     names_config: bool,
 }
 
-// The values that may be refused.
+// The prefix and the depth, which may be refused.
 #[derive(Drop)]
-struct Values {
+struct Form {
     prefix: Prefix,
     explain_depth: usize,
+}
+
+// What `--how` asks, which may be refused.
+#[derive(Drop)]
+struct Asked {
+    goal: Option<Goal>,
+    steps: usize,
+}
+
+// The values that were checked.
+#[derive(Drop)]
+struct Values {
+    form: Form,
+    explain: Vec<String>,
 }
 
 const CHECK_AND_REPLACE: &str =
@@ -72,6 +91,12 @@ const DEAD_AND_EACH: &str =
 
 const DEAD_AND_EXPLAIN: &str =
     "error: the argument '--list-dead <FILE>' cannot be used with '--explain'\n\nFor more information, try '--help'.\n";
+
+const HOW_AND_EXPLAIN: &str =
+    "error: the argument '--how <NAME=VALUE>' cannot be used with '--explain'\n\nFor more information, try '--help'.\n";
+
+const HOW_AND_DEAD: &str =
+    "error: the argument '--how <NAME=VALUE>' cannot be used with '--list-dead'\n\nFor more information, try '--help'.\n";
 
 const DEPFILE_WITHOUT_OUT: &str =
     "error: the argument '--depfile <FILE>' needs '--out <FILE>' with '--each'\n\nFor more information, try '--help'.\n";
@@ -159,15 +184,15 @@ fn prefix_of(alloc: Global, text: &str, is_raw: bool) -> Result<Prefix, UsageErr
     }
 }
 
-// Parses the number of steps.
-fn checked_depth(alloc: Global, text: &str) -> Result<usize, UsageError>
-    ensures ok { IfOk result (λ depth. Some depth ≡ depth_of text.now) }
-    ensures err { IfErr result (IsNoDepth text.now) }
+// Parses the number of this option.
+fn checked_number(alloc: Global, option: &str, text: &str) -> Result<usize, UsageError>
+    ensures ok { IfOk result (λ number. Some number ≡ number_of text.now) }
+    ensures err { IfErr result (IsNoNumber option.now text.now) }
 {
-    match depth_of(text) {
-        Some(depth) => Ok(depth),
+    match number_of(text) {
+        Some(number) => Ok(number),
         None => Err(UsageError::Bad(format!(in alloc;
-            "error: invalid value '{text}' for '--explain-depth <N>': a decimal number below 2^63\n\nFor more information, try '--help'.\n"
+            "error: invalid value '{text}' for '{option} <N>': a decimal number below 2^63\n\nFor more information, try '--help'.\n"
         )?)),
     }
 }
@@ -185,6 +210,29 @@ fn is_each(matches: &ArgMatches<'_>) -> bool
     ensures { result ≡ is_each (rows_of (found_of matches.now)) }
 {
     flag_of(matches, "each") || has_value(matches, "each-from")
+}
+
+// Whether an answer is asked for, to standard output.
+fn asks(matches: &ArgMatches<'_>) -> bool
+    ensures { result ≡ asks (rows_of (found_of matches.now)) }
+{
+    has_value(matches, "explain") || has_value(matches, "how")
+}
+
+// The error about arguments that `--how` excludes.
+fn how_exclusion(matches: &ArgMatches<'_>) -> Option<&'static str>
+    ensures { option_map (λ text. text.now) result ≡ how_exclusion (rows_of (found_of matches.now)) }
+{
+    if !has_value(matches, "how") {
+        return None;
+    }
+    if has_value(matches, "explain") {
+        return Some(HOW_AND_EXPLAIN);
+    }
+    if has_value(matches, "list-dead") {
+        return Some(HOW_AND_DEAD);
+    }
+    None
 }
 
 // The error about arguments that exclude each other.
@@ -212,14 +260,14 @@ fn exclusion_of(matches: &ArgMatches<'_>) -> Option<&'static str>
     if is_each(matches) && has_value(matches, "depfile") && !has_value(matches, "out") {
         return Some(DEPFILE_WITHOUT_OUT);
     }
-    None
+    how_exclusion(matches)
 }
 
 // How the texts are delivered.
 fn delivery_of(matches: &ArgMatches<'_>) -> Delivery
-    ensures { result ≡ unless_explained (rows_of (found_of matches.now)) Delivery.Write (delivery_of (rows_of (found_of matches.now))) }
+    ensures { result ≡ unless_asking (rows_of (found_of matches.now)) Delivery.Write (delivery_of (rows_of (found_of matches.now))) }
 {
-    if has_value(matches, "explain") {
+    if asks(matches) {
         return Delivery::Write;
     }
     if flag_of(matches, "check") {
@@ -236,6 +284,13 @@ fn flag_unless_explained(matches: &ArgMatches<'_>, id: &str) -> bool
     ensures { result ≡ unless_explained (rows_of (found_of matches.now)) false (is_given id.now (rows_of (found_of matches.now))) }
 {
     !has_value(matches, "explain") && flag_of(matches, id)
+}
+
+// Whether a difference is shown.
+fn shows_difference(matches: &ArgMatches<'_>) -> bool
+    ensures { result ≡ unless_asking (rows_of (found_of matches.now)) false (is_given (codes "diff") (rows_of (found_of matches.now))) }
+{
+    !asks(matches) && flag_of(matches, "diff")
 }
 
 // Adds an output, if there is a file for it.
@@ -291,7 +346,7 @@ fn asked_outputs(
     ensures { IfOk result (λ outputs. map output_view outputs.items ≡ asked_outputs (rows_of (found_of matches.now)) (option_map string_bytes out)) }
 {
     let mut outputs = Vec::new(alloc);
-    if has_value(matches, "explain") {
+    if asks(matches) {
         let file = String::from_str(alloc, "/dev/stdout")?;
         push_output(Output::Explanation, Some(file), &mut outputs)?;
         return Ok(outputs);
@@ -301,16 +356,16 @@ fn asked_outputs(
     Ok(outputs)
 }
 
-// Reads the values that may be refused. Reports the first that is not valid.
-fn read_values(alloc: Global, matches: &ArgMatches<'_>) -> Result<Values, UsageError>
-    ensures ok { IfOk result (AreValues (rows_of (found_of matches.now))) }
-    ensures err { IfErr result (IsNoValue (rows_of (found_of matches.now))) }
+// Reads the prefix and the depth. Reports the first that is not valid.
+fn read_form(alloc: Global, matches: &ArgMatches<'_>) -> Result<Form, UsageError>
+    ensures ok { IfOk result (IsForm (rows_of (found_of matches.now))) }
+    ensures err { IfErr result (IsNoForm (rows_of (found_of matches.now))) }
 {
     let prefix = text_or(alloc, matches, "prefix", "CONFIG_")?;
     let depth = text_or(alloc, matches, "explain-depth", "3")?;
     match prefix_of(alloc, prefix.as_str(), flag_of(matches, "raw-strings")) {
-        Ok(prefix) => match checked_depth(alloc, depth.as_str()) {
-            Ok(explain_depth) => Ok(Values {
+        Ok(prefix) => match checked_number(alloc, "--explain-depth", depth.as_str()) {
+            Ok(explain_depth) => Ok(Form {
                 prefix,
                 explain_depth,
             }),
@@ -320,21 +375,73 @@ fn read_values(alloc: Global, matches: &ArgMatches<'_>) -> Result<Values, UsageE
     }
 }
 
+// Reads the goal, if there is one.
+fn read_goal(alloc: Global, matches: &ArgMatches<'_>) -> Result<Option<Goal>, UsageError>
+    ensures ok { IfOk result (λ goal. option_map goal_view goal ≡ goal_option (rows_of (found_of matches.now))) }
+    ensures is_there { IfOk result (λ goal. is_some goal ≡ has_value (codes "how") (rows_of (found_of matches.now))) }
+    ensures err { IfErr result (IsErrorOf (goal_error (first_of (codes "how") (rows_of (found_of matches.now))))) }
+{
+    match text_of(alloc, matches, "how")? {
+        Some(text) => match checked_goal(alloc, text.as_str()) {
+            Ok(goal) => Ok(Some(goal)),
+            Err(usage) => Err(usage),
+        },
+        None => Ok(None),
+    }
+}
+
+// Reads what `--how` asks. Reports the first that is not valid.
+#[tactic(auto, using(crate::proofs::RefusalLemmas::two_errors))]
+fn read_asked(alloc: Global, matches: &ArgMatches<'_>) -> Result<Asked, UsageError>
+    ensures ok { IfOk result (IsAsked (rows_of (found_of matches.now))) }
+    ensures err { IfErr result (IsNotAsked (rows_of (found_of matches.now))) }
+{
+    match read_goal(alloc, matches) {
+        Ok(goal) => {
+            let steps = text_or(alloc, matches, "how-steps", "200")?;
+            match checked_number(alloc, "--how-steps", steps.as_str()) {
+                Ok(steps) => Ok(Asked { goal, steps }),
+                Err(usage) => Err(usage),
+            }
+        }
+        Err(usage) => Err(usage),
+    }
+}
+
+// The names that are asked about.
+fn asked_names(
+    alloc: Global,
+    matches: &ArgMatches<'_>,
+    goal: &Option<Goal>,
+) -> Result<Vec<String>, AllocError>
+    requires { option_map goal_view goal.now ≡ goal_option (rows_of (found_of matches.now)) }
+    ensures { IfOk result (λ names. map string_bytes names.items ≡ asked_names (rows_of (found_of matches.now))) }
+{
+    match goal {
+        Some(goal) => {
+            let mut names = Vec::new(alloc);
+            names.push(String::from_str(alloc, goal.name.as_str())?)?;
+            Ok(names)
+        }
+        None => texts_of(alloc, matches, "explain"),
+    }
+}
+
 // Reads all options except for the inputs.
 fn read_options(
     alloc: Global,
     matches: &ArgMatches<'_>,
     inputs: Inputs,
-) -> Result<Options, UsageError>
+    values: Values,
+) -> Result<Options, AllocError>
+    requires { AreValues (rows_of (found_of matches.now)) values }
     ensures ok { IfOk result (AreSharedOptions (rows_of (found_of matches.now))) }
     ensures inputs { IfOk result (HasInputs inputs) }
-    ensures err { IfErr result (IsNoValue (rows_of (found_of matches.now))) }
 {
     let root = text_or(alloc, matches, "root", ".")?;
     let kconfig = text_or(alloc, matches, "KCONFIG", "")?;
     let include = text_of(alloc, matches, "include")?;
-    let explain = texts_of(alloc, matches, "explain")?;
-    let values = read_values(alloc, matches)?;
+    let Values { form, explain } = values;
     Ok(Options {
         root,
         config: inputs.config,
@@ -343,11 +450,11 @@ fn read_options(
         is_flat: flag_of(matches, "flat"),
         with_help: flag_of(matches, "with-help"),
         explain,
-        explain_depth: values.explain_depth,
+        explain_depth: form.explain_depth,
         explain_lost: flag_of(matches, "explain-lost"),
         fragments: inputs.fragments,
         include,
-        prefix: values.prefix,
+        prefix: form.prefix,
         must_exist: inputs.must_exist,
         strict: flag_unless_explained(matches, "strict"),
         strict_tree: flag_unless_explained(matches, "strict-tree"),
@@ -355,15 +462,15 @@ fn read_options(
         quiet_tree: flag_of(matches, "quiet-tree"),
         hints: flag_of(matches, "hints"),
         delivery: delivery_of(matches),
-        shows_difference: flag_unless_explained(matches, "diff"),
+        shows_difference: shows_difference(matches),
         names_config: inputs.names_config,
     })
 }
 
 // Reads the options of one configuration.
-fn read_one(alloc: Global, matches: &ArgMatches<'_>) -> Result<Options, UsageError>
-    ensures ok { IfOk result (AreOptionsOf (rows_of (found_of matches.now))) }
-    ensures err { IfErr result (IsNoValue (rows_of (found_of matches.now))) }
+fn read_one(alloc: Global, matches: &ArgMatches<'_>, values: Values) -> Result<Options, AllocError>
+    requires { AreValues (rows_of (found_of matches.now)) values }
+    ensures { IfOk result (AreOptionsOf (rows_of (found_of matches.now))) }
 {
     let config = text_or(alloc, matches, "config", ".config")?;
     let out = text_or(alloc, matches, "out", config.as_str())?;
@@ -375,13 +482,13 @@ fn read_one(alloc: Global, matches: &ArgMatches<'_>) -> Result<Options, UsageErr
         must_exist: flag_of(matches, "must-exist"),
         names_config: false,
     };
-    read_options(alloc, matches, inputs)
+    read_options(alloc, matches, inputs, values)
 }
 
-// Reads the request for many configurations.
-fn read_each(alloc: Global, matches: &ArgMatches<'_>) -> Result<Each, UsageError>
-    ensures ok { IfOk result (IsEachOf (rows_of (found_of matches.now))) }
-    ensures err { IfErr result (IsNoValue (rows_of (found_of matches.now))) }
+// Reads what is asked for each of many configurations.
+fn read_each(alloc: Global, matches: &ArgMatches<'_>, values: Values) -> Result<Each, AllocError>
+    requires { AreValues (rows_of (found_of matches.now)) values }
+    ensures { IfOk result (IsEachOf (rows_of (found_of matches.now))) }
 {
     let out = text_of(alloc, matches, "out")?;
     let inputs = Inputs {
@@ -393,20 +500,23 @@ fn read_each(alloc: Global, matches: &ArgMatches<'_>) -> Result<Each, UsageError
     };
     let configurations = texts_of(alloc, matches, "FRAGMENT")?;
     let list = text_of(alloc, matches, "each-from")?;
-    match read_options(alloc, matches, inputs) {
-        Ok(options) => Ok(Each {
-            options,
-            configurations,
-            list,
-        }),
-        Err(usage) => Err(usage),
-    }
+    let options = read_options(alloc, matches, inputs, values)?;
+    Ok(Each {
+        options,
+        configurations,
+        list,
+    })
 }
 
 // Reads the request for a list of dead prompts in this file.
-fn read_dead(alloc: Global, matches: &ArgMatches<'_>, file: String) -> Result<DeadList, UsageError>
-    ensures ok { IfOk result (λ dead. IsDeadOf (rows_of (found_of matches.now)) (string_bytes file) dead) }
-    ensures err { IfErr result (IsNoValue (rows_of (found_of matches.now))) }
+fn read_dead(
+    alloc: Global,
+    matches: &ArgMatches<'_>,
+    file: String,
+    values: Values,
+) -> Result<DeadList, AllocError>
+    requires { AreValues (rows_of (found_of matches.now)) values }
+    ensures { IfOk result (λ dead. IsDeadOf (rows_of (found_of matches.now)) (string_bytes file) dead) }
 {
     let inputs = Inputs {
         config: text_or(alloc, matches, "config", ".config")?,
@@ -415,41 +525,108 @@ fn read_dead(alloc: Global, matches: &ArgMatches<'_>, file: String) -> Result<De
         must_exist: false,
         names_config: false,
     };
-    match read_options(alloc, matches, inputs) {
-        Ok(options) => Ok(DeadList { options, file }),
-        Err(usage) => Err(usage),
+    let options = read_options(alloc, matches, inputs, values)?;
+    Ok(DeadList { options, file })
+}
+
+// The request for one configuration: what must be set, if there is a goal, or a run.
+fn question_or_run(options: Options, asked: Asked) -> Request
+    ensures { IsQuestionOrRun options asked result }
+{
+    let Asked { goal, steps } = asked;
+    match goal {
+        Some(goal) => Request::How(HowQuestion {
+            options,
+            value: goal.value,
+            steps,
+        }),
+        None => Request::One(options),
     }
 }
 
-// Reads the request for one configuration, or for a list of dead prompts.
-fn read_alone(alloc: Global, matches: &ArgMatches<'_>) -> Result<Request, UsageError>
-    ensures ok { IfOk result (AsksAlone (rows_of (found_of matches.now))) }
-    ensures err { IfErr result (IsNoValue (rows_of (found_of matches.now))) }
+// Reads the request for one configuration, what must be set, or a list of dead prompts.
+#[tactic(auto, using(crate::proofs::RequestLemmas::requests))]
+fn read_alone(
+    alloc: Global,
+    matches: &ArgMatches<'_>,
+    values: Values,
+    asked: Asked,
+) -> Result<Request, AllocError>
+    requires values { AreValues (rows_of (found_of matches.now)) values }
+    requires asked { IsAsked (rows_of (found_of matches.now)) asked }
+    ensures { IfOk result (AsksAlone (rows_of (found_of matches.now))) }
 {
     if let Some(file) = text_of(alloc, matches, "list-dead")? {
-        return match read_dead(alloc, matches, file) {
-            Ok(dead) => Ok(Request::Dead(dead)),
-            Err(usage) => Err(usage),
-        };
+        return Ok(Request::Dead(read_dead(alloc, matches, file, values)?));
     }
-    match read_one(alloc, matches) {
-        Ok(options) => Ok(Request::One(options)),
-        Err(usage) => Err(usage),
+    let options = read_one(alloc, matches, values)?;
+    Ok(question_or_run(options, asked))
+}
+
+// The request for many configurations: what must be set, if there is a goal, or runs.
+fn question_or_runs(each: Each, asked: Asked) -> Request
+    ensures { IsQuestionOrRuns each asked result }
+{
+    let Asked { goal, steps } = asked;
+    match goal {
+        Some(goal) => Request::HowEach(EachQuestion {
+            each,
+            value: goal.value,
+            steps,
+        }),
+        None => Request::Each(each),
     }
 }
 
-// Reads the request.
+// Reads the request for many configurations.
+#[tactic(auto, using(crate::proofs::RequestLemmas::requests))]
+fn read_many(
+    alloc: Global,
+    matches: &ArgMatches<'_>,
+    values: Values,
+    asked: Asked,
+) -> Result<Request, AllocError>
+    requires many { is_each (rows_of (found_of matches.now)) ≡ true }
+    requires values { AreValues (rows_of (found_of matches.now)) values }
+    requires asked { IsAsked (rows_of (found_of matches.now)) asked }
+    ensures { IfOk result (AsksFor (rows_of (found_of matches.now))) }
+{
+    let each = read_each(alloc, matches, values)?;
+    Ok(question_or_runs(each, asked))
+}
+
+// Reads the request, for values that were checked.
+fn read_checked(
+    alloc: Global,
+    matches: &ArgMatches<'_>,
+    form: Form,
+    asked: Asked,
+) -> Result<Request, AllocError>
+    requires form { IsForm (rows_of (found_of matches.now)) form }
+    requires asked { IsAsked (rows_of (found_of matches.now)) asked }
+    ensures { IfOk result (AsksFor (rows_of (found_of matches.now))) }
+{
+    let explain = asked_names(alloc, matches, &asked.goal)?;
+    let values = Values { form, explain };
+    if is_each(matches) {
+        return read_many(alloc, matches, values, asked);
+    }
+    read_alone(alloc, matches, values, asked)
+}
+
+// Reads the request. Reports the first value that is not valid.
+#[tactic(auto, using(crate::proofs::RefusalLemmas::two_errors))]
 fn read_taken(alloc: Global, matches: &ArgMatches<'_>) -> Result<Request, UsageError>
     ensures ok { IfOk result (AsksFor (rows_of (found_of matches.now))) }
     ensures err { IfErr result (IsNoValue (rows_of (found_of matches.now))) }
 {
-    if is_each(matches) {
-        return match read_each(alloc, matches) {
-            Ok(each) => Ok(Request::Each(each)),
+    match read_form(alloc, matches) {
+        Ok(form) => match read_asked(alloc, matches) {
+            Ok(asked) => Ok(read_checked(alloc, matches, form, asked)?),
             Err(usage) => Err(usage),
-        };
+        },
+        Err(usage) => Err(usage),
     }
-    read_alone(alloc, matches)
 }
 
 // Reads the request from arguments that do not exclude each other.
@@ -499,12 +676,12 @@ fn usage_of(alloc: Global, error: &Error) -> UsageError
 /// Reads the arguments after the program's name, as the command line `[--root DIR] [--flat] [--include DIR] [--config
 /// FILE] [--out FILE] [--header FILE] [--savedefconfig FILE] [--list-new FILE] [--with-help] [--list-gone FILE]
 /// [--list-dead FILE] [--depfile FILE] [--prefix TEXT] [--must-exist] [--strict] [--strict-tree] [--quiet-tree] [--hints]
-/// [--warn-lost] [--explain-lost] [--explain NAME ..] [--explain-depth N] [--replace] [--check] [--diff] [--fragment
-/// FILE ..] KCONFIG [FRAGMENT ..]`, `.. [--each] [--each-from FILE] .. KCONFIG [CONFIGURATION ..]`, `--help`, `-h`,
+/// [--warn-lost] [--explain-lost] [--explain NAME ..] [--explain-depth N] [--how NAME=VALUE] [--how-steps N] [--replace]
+/// [--check] [--diff] [--fragment FILE ..] KCONFIG [FRAGMENT ..]`, `.. [--each] [--each-from FILE] .. KCONFIG [CONFIGURATION ..]`, `--help`, `-h`,
 /// `--version` or `-V` (our own; Rust's `clap` reads the arguments, and its documentation has the rules).
 ///
 /// Each field is what the arguments hold, or for an absent option: root `.`, config `.config`, the full `.config` to the file of
-/// `--config`, prefix `CONFIG_`, include and each other output none, explain depth 3, each flag false; the texts are written, or
+/// `--config`, prefix `CONFIG_`, include and each other output none, explain depth 3, 200 tries, each flag false; the texts are written, or
 /// with `--replace` replaced, or with `--check` compared. The files of `--fragment` follow the others.
 ///
 /// With `--explain` the explanation is the only output, to `/dev/stdout`, whatever else is given. Nothing is strict, the texts are
@@ -515,12 +692,15 @@ fn usage_of(alloc: Global, error: &Error) -> UsageError
 ///
 /// With `--list-dead` the list is the only output, whatever else is given, and there are no fragments.
 ///
+/// With `--how` the answer is the only output, to `/dev/stdout`, as with `--explain`; but `--strict` and `--strict-tree` stay.
+/// With `--each` or `--each-from` there is an answer for each configuration.
+///
 /// # Errors
 ///
 /// Those of [`UsageError`]. They change nothing. `--check` and `--replace` exclude each other; `--diff` needs
 /// `--check`; `--config` and `--each` or `--each-from` exclude each other, as do `--explain` and these; `--list-dead`
-/// excludes them and `--explain`; `--depfile` needs `--out` together with them. The first of these errors is reported;
-/// the prefix and the depth are checked after them.
+/// excludes them and `--explain`; `--depfile` needs `--out` together with them; `--how` excludes `--explain` and
+/// `--list-dead`. The first of these errors is reported; the prefix, the depth, the goal and the tries are checked after them.
 #[inline(never)]
 pub fn request_of(alloc: Global, words: &[String]) -> Result<Request, UsageError>
     // Each field has the value of its argument, or the default.

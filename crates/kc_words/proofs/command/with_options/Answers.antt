@@ -34,9 +34,11 @@ returns c =
     let twenty_one = c.in_ok-command-21.ensures ∙ ap (λ a. with_rule a (flag_rule (codes "explain-lost"))) twenty in
     let twenty_two = c.in_ok-command-22.ensures ∙ ap (λ a. with_rule a (repeated_rule (codes "explain"))) twenty_one in
     let twenty_three = c.in_ok-command-23.ensures ∙ ap (λ a. with_rule a (option_rule (codes "explain-depth"))) twenty_two in
-    let twenty_four = c.in_ok-command-24.ensures ∙ ap (λ a. with_rule a (flag_rule (codes "replace"))) twenty_three in
-    let twenty_five = c.in_ok-command-25.ensures ∙ ap (λ a. with_rule a (flag_rule (codes "check"))) twenty_four in
-    let twenty_six = c.in_ok-command-26.ensures ∙ ap (λ a. with_rule a (flag_rule (codes "diff"))) twenty_five in
-    let twenty_seven = c.in_ok-command-27.ensures ∙ ap (λ a. with_rule a (flag_rule (codes "each"))) twenty_six in
-    let twenty_eight = c.in_ok-command-28.ensures ∙ ap (λ a. with_rule a (option_rule (codes "each-from"))) twenty_seven in
-    last_rule c.with_repeated-2.result _ _ (repeated_rule (codes "fragment")) twenty_eight c.with_repeated-2.ensures
+    let twenty_four = c.in_ok-command-24.ensures ∙ ap (λ a. with_rule a (option_rule (codes "how"))) twenty_three in
+    let twenty_five = c.in_ok-command-25.ensures ∙ ap (λ a. with_rule a (option_rule (codes "how-steps"))) twenty_four in
+    let twenty_six = c.in_ok-command-26.ensures ∙ ap (λ a. with_rule a (flag_rule (codes "replace"))) twenty_five in
+    let twenty_seven = c.in_ok-command-27.ensures ∙ ap (λ a. with_rule a (flag_rule (codes "check"))) twenty_six in
+    let twenty_eight = c.in_ok-command-28.ensures ∙ ap (λ a. with_rule a (flag_rule (codes "diff"))) twenty_seven in
+    let twenty_nine = c.in_ok-command-29.ensures ∙ ap (λ a. with_rule a (flag_rule (codes "each"))) twenty_eight in
+    let thirty = c.in_ok-command-30.ensures ∙ ap (λ a. with_rule a (option_rule (codes "each-from"))) twenty_nine in
+    last_rule c.with_repeated-2.result _ _ (repeated_rule (codes "fragment")) thirty c.with_repeated-2.ensures

@@ -1,19 +1,19 @@
 -- The options hold the inputs, and the file of the `.config` is that of the arguments or the one that is read.
 use Rattle.std.proofs.Common.{◌≡◌, ◌∙◌, false, List, Result, Ok, Err, Some, IfOk, codes, ap, map, refl, string_bytes, sym, unwrap_or}
 use Rattle.std.specs.Prelude.{◌++◌}
+use Rattle.std.specs.declared.alloc.AllocError.{AllocError}
 use Rattle.clap.specs.Words.{Row, first_of, found_of, rows_of}
 use Rattle.kc_outcome.specs.Outcome.{Options}
 use Rattle.kc_words.specs.CommandLine.{AreOptionsOf, AreSharedOptions, asked_outputs, is_given, values_of}
 use Rattle.kc_words.specs.Inputs.{HasInputs, output_view}
 use Rattle.kc_words.specs.declared.options.Inputs.{Inputs}
-use Rattle.kc_words.specs.declared.usage.UsageError.{UsageError}
 use Rattle.kc_words.proofs.options.read_one.Goals as goal
 
 module _ (rows : List Row) (inputs : Inputs) (config : string_bytes inputs.config ≡ unwrap_or (first_of (codes "config") rows) (codes ".config"))
     (outputs : map output_view inputs.outputs.items ≡ asked_outputs rows (Some (unwrap_or (first_of (codes "out") rows) (string_bytes inputs.config))))
     (fragments : map string_bytes inputs.fragments.items ≡ values_of (codes "FRAGMENT") rows ++ values_of (codes "fragment") rows)
     (must_exist : inputs.must_exist ≡ is_given (codes "must-exist") rows) (names_config : inputs.names_config ≡ false) where
-  holds : (result : Result Options UsageError) → IfOk result (AreSharedOptions rows) → IfOk result (HasInputs inputs) → IfOk result (AreOptionsOf rows)
+  holds : (result : Result Options AllocError) → IfOk result (AreSharedOptions rows) → IfOk result (HasInputs inputs) → IfOk result (AreOptionsOf rows)
   holds (Ok options) shared has = record {
     shared = shared;
     config = ap string_bytes has.config ∙ config;
@@ -25,8 +25,8 @@ module _ (rows : List Row) (inputs : Inputs) (config : string_bytes inputs.confi
   }
   holds (Err e) shared has = has
 
-pub returns-clause-ok : goal.returns-clause-ok
-returns-clause-ok c =
+pub returns : goal.returns
+returns c =
     let rows = rows_of (found_of c.args.matches.now) in
     holds rows _ c.in_ok-config.ensures
     (c.in_ok-asked_outputs.ensures

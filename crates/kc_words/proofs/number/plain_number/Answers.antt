@@ -1,8 +1,8 @@
--- A number that begins with no `-` has its own value as a number of steps.
+-- A number that begins with no `-` has its own value.
 use Rattle.std.proofs.Common.{◌∙◌, ap}
 use Rattle.kc_language.specs.Text.{int_of}
-use Rattle.kc_words.proofs.DepthLemmas.{plain_some}
-use Rattle.kc_words.proofs.depth.plain_depth.Goals as goal
+use Rattle.kc_words.proofs.NumberLemmas.{plain_some}
+use Rattle.kc_words.proofs.number.plain_number.Goals as goal
 
 pub returns : goal.returns
 returns c =
