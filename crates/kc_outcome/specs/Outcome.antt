@@ -2,7 +2,7 @@
 -- Our own. `IsOutcome` at the end is the rule.
 use Rattle.std.specs.{List.{list_any}, Option.{option_map_or}, Prelude.{[], Bool, Err, List, None, Ok, Option, Some, codes, false, filter, find, flat_map, if◌then◌else◌, is_some, length, map, not, option_map, string_bytes, true, unwrap_or, ℕ, ◌&&◌, ◌++◌, ◌==◌, ◌||◌, ◌∷◌, ◌≡◌}}
 use denote.Enum.Bare.{sameb}
-use Rattle.kc_language.specs.{ConfigFile.{Notation, ReadResult, Stream, StreamLocation, UserInput, no_input, reading_of}, Expansion.{AreOpened, Files, Refused}, Expressions.{all_mentioned, same_name}, Needs.{IsAccepted, IsLoopText, loop_refused}, Files.{is_read_by_make, path_of, rule_text}, Statements.{cause_text, error_at, error_line, run_error_text}, Symbols.{IsTreeOf, TreeFacts, Warning, listed}, Text.{byte}, Texts.{IsSolutionFor, Solution, config_text, header_text, lost_at, lost_lines, minimal_text, new_text, solution_view, value_warnings, warnings}, declared.{diagnostics.{RunError.{RunError}, Warning.TheVariants.{UserOutside}}, expressions.SymId.{SymId}}}
+use Rattle.kc_language.specs.{ConfigFile.{Notation, ReadResult, Stream, StreamLocation, UserInput, no_input, reading_of}, Expansion.{AreOpened, Files, Refused}, Expressions.{all_mentioned, same_name}, Needs.{IsAccepted, IsLoopText, loop_refused}, Files.{is_read_by_make, path_of, rule_text}, Statements.{cause_text, error_at, error_line, run_error_text}, Symbols.{IsTreeOf, TreeFacts, Warning, listed}, Text.{byte}, Texts.{IsSolutionFor, Solution, config_text, header_text, lost_at, lost_lines, minimal_text, new_text, solution_view, value_warnings, warnings}, Values.{name}, declared.{diagnostics.{RunError.{RunError}, Warning.TheVariants.{UserOutside}}, expressions.SymId.{SymId}}}
 use Rattle.kc_outcome.specs.{Explanations.{asked_symbol, causes_lines, explanation_text, near_names, new_text_with_help, symbol_lines, text_of_lines}, contracts.outcome.Output.{the_type}, declared.outcome.{Options.{Options as AnyOptions}, Output.{Output}, Status.{Status}}}
 
 -- The options, the root file, and the name that some diagnostics begin with under --each.
@@ -122,12 +122,20 @@ unknown_name options tree = find (λ asked. not (is_some (asked_symbol tree opti
 abbrev pub near_text : TreeFacts → List ℕ → List ℕ
 near_text tree asked = elim (near_names tree asked) [ [] ↦ [] | called ∷ more ↦ codes "; one letter differs: " ++ called ++ flat_map (λ name. codes ", " ++ name) more ]
 
-abbrev pub explained_text : Options → UserInput → Solution → List ℕ
-explained_text options input solution = flat_map (λ asked. flat_map (explanation_text input solution options.prefix.is_raw options.explain_depth)
+-- The last line of explanations: how to ask what must be set, for the first of these names.
+abbrev pub question_text : List ℕ → List (List ℕ) → List ℕ
+question_text front names = elim names [ [] ↦ [] | called ∷ more ↦ front ++ codes "to see what to set: --how " ++ called ++ codes "=VALUE\n" ]
+
+abbrev pub explanations : Options → UserInput → Solution → List ℕ
+explanations options input solution = flat_map (λ asked. flat_map (explanation_text input solution options.prefix.is_raw options.explain_depth)
     (listed (asked_symbol solution.tree options.prefix.prefix asked))) (map string_bytes options.explain.items)
 
+abbrev pub explained_text : Options → UserInput → Solution → List ℕ
+explained_text options input solution =
+    explanations options input solution ++ question_text [] (map string_bytes options.explain.items)
+
 -- The lines of lost values. With --explain-lost, each is followed by the explanation of its symbol, and all by the causes, the one that holds most down
--- first. These lines begin like the warnings about values.
+-- first, and by the question for the first of them. These lines begin like the warnings about values.
 abbrev pub lost_symbols : Options → UserInput → Solution → List SymId
 lost_symbols options input solution = filter (λ s. not (length (lost_at options.prefix.is_raw input.lines solution s) == 0)) solution.tree.defined
 
@@ -135,7 +143,7 @@ abbrev pub lost_text : Options → UserInput → Solution → List ℕ
 lost_text options input solution = if options.explain_lost && options.warn_lost
     then (let lost = lost_symbols options input solution in let is_raw = options.prefix.is_raw in let front = lead options ++ codes "  " in
     flat_map (λ s. lines_text (lost_at is_raw input.lines solution s) ++ text_of_lines front (symbol_lines input solution is_raw s)) lost
-    ++ text_of_lines front (causes_lines input solution is_raw lost (length lost)))
+    ++ text_of_lines front (causes_lines input solution is_raw lost (length lost)) ++ question_text front (map (name solution.tree) lost))
     else lines_text (lost_warnings options input solution)
 
 -- What a run leaves if nothing is refused: the text of each output, and the warnings and the lost values. The tree opens the files `opened`.
