@@ -33,7 +33,7 @@ use Rattle.kc_outcome.specs.declared.outcome.Output.{Output}
 use Rattle.kc_conf.specs.Faults.{AreLines}
 use Rattle.kc_conf.proofs.{EffectLemmas.{all_reported, assigned_typed, effect_is, silent_says}, RerunLemmas.{has_its_texts}}
 use Rattle.kc_conf.proofs.ExplainedLemmas.{AreLines-behind}
-use Rattle.kc_conf.proofs.LostLemmas.{behind, causes_text, lost_text_if, told_at}
+use Rattle.kc_conf.proofs.LostLemmas.{behind, causes_text, lost_text_if, question_after, told_at}
 use Rattle.kc_conf.proofs.PartLemmas.{AreLines-append, AreLines-each, AreLines-nothing, AreLines-reading, AreLines-warning_if, AreLines-warnings}
 
 -- ---- lines that stand in texts
@@ -429,8 +429,11 @@ module _ (files : Files) (options : Options) (all : List (List ℕ)) (tree : Tre
               (subst (λ (t : TreeFacts). Contains t.defined s) (sym is_whole.solution_is.tree_is) (formed.typed_defined s f defined typed)) there by_line
               (behind options last solution) (AreLines-behind options last solution)) [
                 | inl same ↦ inl same
-                | inr told ↦ heard_in true e (stands_before (causes_text options last solution (lost_symbols options last solution) (length (lost_symbols options last solution)))
-                    (line_told_of solution.tree) (flat_map (told_at options last solution) (lost_symbols options last solution)) told)
+                | inr told ↦
+                    let lost = lost_symbols options last solution in
+                    let causes = causes_text options last solution lost (length lost) in
+                    heard_in true e (stands_before (question_after options last solution lost) (line_told_of solution.tree) (flat_map (told_at options last solution) lost ++ causes)
+                    (stands_before causes (line_told_of solution.tree) (flat_map (told_at options last solution) lost) told))
               ]
           by false e = elim (kept_or_told prefix.is_raw last_lines solution s f given (stream_location l) (subst (λ (t : TreeFacts). facts t s ≡ Some f) (sym is_whole.solution_is.tree_is) defined)
               (subst (λ (t : TreeFacts). Contains t.defined s) (sym is_whole.solution_is.tree_is) (formed.typed_defined s f defined typed)) there by_line) [

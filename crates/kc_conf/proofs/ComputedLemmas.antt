@@ -26,7 +26,7 @@ never : {P : Type 0} (b : Bool) → b ≡ true → b ≡ false → P
 never b on off = absurd (let clash : true ≡ false = sym on ∙ off in cc)
 
 -- each output with its text
-named-map : (f : Output → List ℕ) (outputs : List WantedOutput) →
+pub named-map : (f : Output → List ℕ) (outputs : List WantedOutput) →
     map (λ (wanted : WantedOutput). let t : NamedText = record { name = string_bytes wanted.file; bytes = f wanted.kind } in t) outputs
     ≡ with_names outputs (map (λ wanted. f wanted.kind) outputs)
 named-map f [] = refl

@@ -10,7 +10,7 @@ use Rattle.kc_outcome.specs.declared.outcome.Status.{Status}
 use Rattle.kc_conf.specs.declared.stop.Stop.{Stop}
 use Rattle.kc_conf.specs.Faults.{AreFirstReads, AreReads, Breaks, Broken, Completes, Runs, in_delivery, in_input, in_diagnostics, no_memory, nothing, of_accepted, of_tree, refused_name as reads_no_name, refused_tree as reads_no_tree}
 use Rattle.kc_io.specs.Inputs.{InputFile}
-use Rattle.kc_conf.specs.Many.{AreRootedAt, EndsTurn, IsPart, RunsEach, RunsTurn, StopsAtTree, TakeTurns, TakesTurn}
+use Rattle.kc_conf.specs.Many.{AreRootedAt, EndsTurn, IsPart, RunsAll, RunsEach, RunsTurn, StopsAtTree, TakeTurns, TakesTurn}
 use Rattle.kc_conf.specs.Many as many
 use Rattle.kc_outcome.specs.Outcome.{Options, IsAcceptedTree, IsLenientOutcome, IsOutcome, IsOutcomeOfReading, IsRefusedTree, Outcome, accepted_tree, long_line, looped, no_tree, read_of, refused_if, refused_name, refused_tree, refuses_input, reported, root_file, unknown_symbol, whole}
 use Rattle.kc_conf.specs.Faults.{IsRefusedName, NamesAreTaken}
@@ -37,7 +37,7 @@ module _ (root : List ℕ) (files others : Files) (alike : ExpandsAlike root fil
   accepted_over tree x = record { built = tree_over _ x.built; accepted = x.accepted }
 
   -- what is opened over these is opened over the others
-  opened_over : (opened : List (List ℕ)) → AreOpened files root opened → AreOpened others root opened
+  pub opened_over : (opened : List (List ℕ)) → AreOpened files root opened → AreOpened others root opened
   opened_over opened are log expands = are log ((alike.gives _).1 expands)
 
   -- and the other way round
@@ -128,7 +128,7 @@ module _ (options : Options) (files others : Files) (alike : ExpandsAlike (root_
     status_is = b.status_is;
   }
 
-  ends_over : (before : TreeFacts → List ℕ) (inputs : List InputFile) (outcome : Outcome) (old new : Log) (status : Status) →
+  pub ends_over : (before : TreeFacts → List ℕ) (inputs : List InputFile) (outcome : Outcome) (old new : Log) (status : Status) →
       Completes files options inputs outcome old new status ⊎ Broken files options before inputs outcome old new status →
       Completes others options inputs outcome old new status ⊎ Broken others options before inputs outcome old new status
   ends_over before inputs outcome old new status (inl c) = inl (completes_over inputs outcome old new status c)
@@ -148,7 +148,7 @@ module _ (options : Options) (files others : Files) (alike : ExpandsAlike (root_
 
 module _ (root : List ℕ) (files others : Files) (alike : ExpandsAlike root files others) where
   -- these options begin at the same file
-  alike_for : (options : Options) → root_file options ≡ root → ExpandsAlike (root_file options) files others
+  pub alike_for : (options : Options) → root_file options ≡ root → ExpandsAlike (root_file options) files others
   alike_for options rooted = subst (λ (first : List ℕ). ExpandsAlike first files others) (sym rooted) alike
 
   part_over : (tree : TreeFacts) (options : Options) (all : List (List ℕ)) (part : Outcome) → root_file options ≡ root → IsPart files tree options all part → IsPart others tree options all part
@@ -156,7 +156,7 @@ module _ (root : List ℕ) (files others : Files) (alike : ExpandsAlike root fil
       let same = alike_for options rooted in
       (opened, opened_over (root_file options) files others same opened are, outcome_over options files others same all _ is)
 
-  end_over : (options : Options) (inputs : List InputFile) (part : Outcome) (old new : Log) (status : Status) (is_over : Bool) → root_file options ≡ root →
+  pub end_over : (options : Options) (inputs : List InputFile) (part : Outcome) (old new : Log) (status : Status) (is_over : Bool) → root_file options ≡ root →
       EndsTurn files options inputs part old new status is_over → EndsTurn others options inputs part old new status is_over
   unfolding broken_over
   end_over options inputs part old new status is_over rooted (many.whole c goes_on) =
@@ -174,12 +174,14 @@ module _ (root : List ℕ) (files others : Files) (alike : ExpandsAlike root fil
     ends = end_over options r.inputs r.part old new status is_over rooted r.ends;
   }
 
-  module _ (tree : TreeFacts) (options : ℕ → Options → Type 0) (rooted : AreRootedAt root options) where
-    takes_over : (i : ℕ) (old new : Log) (status : Status) (is_over : Bool) → TakesTurn (RunsTurn files tree) (options i) old new status is_over → TakesTurn (RunsTurn others tree) (options i) old new status is_over
-    takes_over i old new status is_over (many.runs o are r) = many.runs o are (turn_over tree o old new status is_over (rooted i o are) r)
-    takes_over i old new status is_over (many.no_options says is over) = many.no_options says is over
+  module _ {turn other : Options → Log → Log → Status → Bool → Type 0}
+      (over : (options : Options) (old new : Log) (status : Status) (is_over : Bool) → root_file options ≡ root → turn options old new status is_over → other options old new status is_over)
+      (options : ℕ → Options → Type 0) (rooted : AreRootedAt root options) where
+    takes_over : (i : ℕ) (old new : Log) (status : Status) (is_over : Bool) → TakesTurn turn (options i) old new status is_over → TakesTurn other (options i) old new status is_over
+    takes_over i old new status is_over (many.runs o are r) = many.runs o are (over o old new status is_over (rooted i o are) r)
+    takes_over i old new status is_over (many.no_options says is ends) = many.no_options says is ends
 
-    turns_over : (i left : ℕ) (old new : Log) (status : Status) → TakeTurns (RunsTurn files tree) options i left old new status → TakeTurns (RunsTurn others tree) options i left old new status
+    turns_over : (i left : ℕ) (old new : Log) (status : Status) → TakeTurns turn options i left old new status → TakeTurns other options i left old new status
     turns_over _ _ _ _ _ (many.none i log) = many.none i log
     turns_over _ _ _ _ _ (many.next i left old mid new status rest t ts) =
         many.next i left old mid new status rest (takes_over i old mid status _ t) (turns_over (suc i) left mid new rest ts)
@@ -192,8 +194,14 @@ module _ (root : List ℕ) (files others : Files) (alike : ExpandsAlike root fil
   stops_over old new status (many.no_memory says is) = many.no_memory says is
 
   -- a run for many configurations over these files is one over the others
+  pub all_over : {turn other : TreeFacts → Options → Log → Log → Status → Bool → Type 0} →
+      ((tree : TreeFacts) (options : Options) (old new : Log) (status : Status) (is_over : Bool) → root_file options ≡ root → turn tree options old new status is_over → other tree options old new status is_over) →
+      (options : ℕ → Options → Type 0) (count : ℕ) (old new : Log) (status : Status) → AreRootedAt root options →
+      RunsAll turn files root options count old new status → RunsAll other others root options count old new status
+  all_over over options count old new status rooted (many.stops s) = many.stops (stops_over old new status s)
+  all_over over options count old new status rooted (many.turns tree mid x said ts) =
+      many.turns tree mid (accepted_over root files others alike tree x) said (turns_over (over tree) options rooted 0 count mid new status ts)
+
   pub runs_each_over : (options : ℕ → Options → Type 0) (count : ℕ) (old new : Log) (status : Status) → AreRootedAt root options →
       RunsEach files root options count old new status → RunsEach others root options count old new status
-  runs_each_over options count old new status rooted (many.stops s) = many.stops (stops_over old new status s)
-  runs_each_over options count old new status rooted (many.turns tree mid x said ts) =
-      many.turns tree mid (accepted_over root files others alike tree x) said (turns_over tree options rooted 0 count mid new status ts)
+  runs_each_over = all_over turn_over

@@ -31,3 +31,6 @@ pub mod SeparateLemmas
 pub mod AmongLemmas
 pub mod FolderLemmas
 pub mod DeadLemmas
+pub mod ReadParts
+pub mod ReplyLemmas
+pub mod HowLemmas

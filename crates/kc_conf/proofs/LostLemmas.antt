@@ -11,7 +11,7 @@ use Rattle.kc_language.specs.Texts.{Solution, known, lost_at, lost_lines, lost_o
 use Rattle.kc_language.specs.declared.expressions.SymId.{SymId}
 use Rattle.std.specs.Prelude.{slice_index_or}
 use Rattle.kc_outcome.specs.Explanations.{causes_lines, symbol_lines, text_of_lines}
-use Rattle.kc_outcome.specs.Outcome.{Options, lead, lines_text, lost_symbols, lost_text, lost_warnings}
+use Rattle.kc_outcome.specs.Outcome.{Options, lead, lines_text, lost_symbols, lost_text, lost_warnings, question_text}
 use Rattle.kc_conf.specs.declared.lost.LostValue.{LostValue}
 use Rattle.kc_conf.specs.Lost.{lines_of, lost_pairs, lost_values, lost_view}
 
@@ -33,8 +33,12 @@ module _ (options : Options) (input : UserInput) (solution : Solution) where
   abbrev pub causes_text : List SymId → ℕ → List ℕ
   causes_text lost n = text_of_lines (lead options ++ codes "  ") (causes_lines input solution options.prefix.is_raw lost n)
 
+  abbrev pub question_after : List SymId → List ℕ
+  question_after lost = question_text (lead options ++ codes "  ") (map (name solution.tree) lost)
+
   abbrev pub lost_text_if : Bool → List ℕ
   lost_text_if b = if b then flat_map told_at (lost_symbols options input solution) ++ causes_text (lost_symbols options input solution) (length (lost_symbols options input solution))
+      ++ question_after (lost_symbols options input solution)
       else lines_text (lost_warnings options input solution)
 
 module _ (is_raw : Bool) (lines : List (Option StreamLocation)) (s : Solution) where
@@ -125,6 +129,7 @@ module _ (options : Options) (input : UserInput) (solution : Solution) where
     -- with explanations and causes
     abbrev told_by : List (SymId × List ℕ) → List ℕ
     told_by vs = flat_map (with_more options.prefix.is_raw input.lines solution (behind options input solution)) vs ++ causes_text options input solution (map first vs) (length vs)
+        ++ question_after options input solution (map first vs)
 
     pub lost_explained : options.warn_lost ≡ true → (options.explain_lost && options.warn_lost) ≡ true → told_by ps ≡ lost_text options input solution
     lost_explained warns on =
@@ -132,7 +137,8 @@ module _ (options : Options) (input : UserInput) (solution : Solution) where
         let symbols = symbols_are options.prefix.is_raw input.lines solution defined in
         ap told_by (are ∙ ap (λ b. if b then all_pairs else []) warns)
         ∙ (λ j. told_are options.prefix.is_raw input.lines solution (behind options input solution) defined j
-        ++ causes_text options input solution (symbols j) ((sym (length-map all_pairs first) ∙ ap length symbols) j))
+        ++ causes_text options input solution (symbols j) ((sym (length-map all_pairs first) ∙ ap length symbols) j)
+        ++ question_after options input solution (symbols j))
         ∙ sym (ap (lost_text_if options input solution) on)
 
 -- whether there are none

@@ -14,7 +14,7 @@ use Rattle.kc_read.specs.declared.refusal.Refusal.{Refusal}
 use Rattle.kc_conf.specs.Accepted.{AreKept, IsAcceptedOf, IsOrderedOf, IsRefusalOf}
 use Rattle.kc_conf.specs.Endings.{RefusesTree}
 use Rattle.kc_conf.specs.Faults.{event_of}
-use Rattle.kc_conf.specs.Many.{AreRootedAt, CannotSay, KeepsFor, RunsEach, RunsTurn, TakeTurns, TakesTurn, greater, last, next, no_memory, none, refused_tree, stops, unsaid_refusal, unsaid_warnings}
+use Rattle.kc_conf.specs.Many.{AreRootedAt, CannotSay, KeepsFor, RunsAll, TakeTurns, TakesTurn, greater, last, next, no_memory, none, refused_tree, stops, unsaid_refusal, unsaid_warnings}
 use Rattle.kc_conf.specs.PartRuns.{AnswersAll, EndsEach, SaysLines}
 use Rattle.kc_conf.specs.Reads.{IsReportStop}
 use Rattle.kc_conf.specs.declared.accepted.OrderedTree.{OrderedTree}
@@ -49,35 +49,35 @@ greater-assoc Usage Faulted c = refl
 greater-assoc Faulted b c = refl
 
 -- whatever the others do that are left, this and they make the whole
-pub record TurnsSoFar (files : Files) (tree : TreeFacts) (options : ℕ → Options → Type 0) (count i : ℕ) (status : Status) (old now : Log) : Type 0 where
-  pub with : (new : Log) (others : Status) → TakeTurns (RunsTurn files tree) options i (count - i) now new others → TakeTurns (RunsTurn files tree) options 0 count old new (greater status others)
+pub record TurnsSoFar (turn : Options → Log → Log → Status → Bool → Type 0) (options : ℕ → Options → Type 0) (count i : ℕ) (status : Status) (old now : Log) : Type 0 where
+  pub with : (new : Log) (others : Status) → TakeTurns turn options i (count - i) now new others → TakeTurns turn options 0 count old new (greater status others)
 
-pub TurnsSoFar-none : {files : Files} {tree : TreeFacts} {options : ℕ → Options → Type 0} {count : ℕ} {log : Log} → TurnsSoFar files tree options count 0 Done log log
-TurnsSoFar-none {files = files} {tree = tree} {options = options} {count = count} {log = log} = record {
-  with = λ new others taken. let e : count - 0 ≡ count = omega arith in subst (λ (n : ℕ). TakeTurns (RunsTurn files tree) options 0 n log new others) e taken;
+pub TurnsSoFar-none : {turn : Options → Log → Log → Status → Bool → Type 0} {options : ℕ → Options → Type 0} {count : ℕ} {log : Log} → TurnsSoFar turn options count 0 Done log log
+TurnsSoFar-none {turn = turn} {options = options} {count = count} {log = log} = record {
+  with = λ new others taken. let e : count - 0 ≡ count = omega arith in subst (λ (n : ℕ). TakeTurns turn options 0 n log new others) e taken;
 }
 
-module _ {files : Files} {tree : TreeFacts} {options : ℕ → Options → Type 0} {count i : ℕ} {status : Status} {old mid : Log} (so_far : TurnsSoFar files tree options count i status old mid) where
+module _ {turn : Options → Log → Log → Status → Bool → Type 0} {options : ℕ → Options → Type 0} {count i : ℕ} {status : Status} {old mid : Log} (so_far : TurnsSoFar turn options count i status old mid) where
   module _ (within : i < count) where
     left-more : suc (count - suc i) ≡ count - i
     left-more = omega (arith, within)
 
-    pub TurnsSoFar-next : {turn : Status} {new : Log} → TakesTurn (RunsTurn files tree) (options i) mid new turn false → TurnsSoFar files tree options count (i + 1) (greater status turn) old new
-    TurnsSoFar-next {turn = turn} {new = new} taken = record {
+    pub TurnsSoFar-next : {one : Status} {new : Log} → TakesTurn turn (options i) mid new one false → TurnsSoFar turn options count (i + 1) (greater status one) old new
+    TurnsSoFar-next {one = one} {new = new} taken = record {
       with = λ end others rest.
           let e : i + 1 ≡ suc i = omega arith in
-          let rest' : TakeTurns (RunsTurn files tree) options (suc i) (count - suc i) new end others = subst (λ (n : ℕ). TakeTurns (RunsTurn files tree) options n (count - n) new end others) e rest in
-          rw (← greater-assoc status turn others) (so_far.with end (greater turn others) (rw (← left-more) (next i (count - suc i) mid new end turn others taken rest')));
+          let rest' : TakeTurns turn options (suc i) (count - suc i) new end others = subst (λ (n : ℕ). TakeTurns turn options n (count - n) new end others) e rest in
+          rw (← greater-assoc status one others) (so_far.with end (greater one others) (rw (← left-more) (next i (count - suc i) mid new end one others taken rest')));
     }
 
-    pub TakeTurns-last : {turn : Status} {new : Log} → TakesTurn (RunsTurn files tree) (options i) mid new turn true → TakeTurns (RunsTurn files tree) options 0 count old new (greater status turn)
-    TakeTurns-last {turn = turn} {new = new} taken = so_far.with new turn (rw (← left-more) (last i (count - suc i) mid new turn taken))
+    pub TakeTurns-last : {one : Status} {new : Log} → TakesTurn turn (options i) mid new one true → TakeTurns turn options 0 count old new (greater status one)
+    TakeTurns-last {one = one} {new = new} taken = so_far.with new one (rw (← left-more) (last i (count - suc i) mid new one taken))
 
-  pub TakeTurns-all : count ≤ i → TakeTurns (RunsTurn files tree) options 0 count old mid status
+  pub TakeTurns-all : count ≤ i → TakeTurns turn options 0 count old mid status
   TakeTurns-all beyond =
       let e : 0 ≡ count - i = omega (arith, beyond) in
-      subst (λ (s : Status). TakeTurns (RunsTurn files tree) options 0 count old mid s) (greater-done status)
-      (so_far.with mid Done (subst (λ (n : ℕ). TakeTurns (RunsTurn files tree) options i n mid mid Done) e (none i mid)))
+      subst (λ (s : Status). TakeTurns turn options 0 count old mid s) (greater-done status)
+      (so_far.with mid Done (subst (λ (n : ℕ). TakeTurns turn options i n mid mid Done) e (none i mid)))
 
 -- ---- the tree
 
@@ -87,25 +87,25 @@ CannotSay-report OutOfMemory old new never log = absurd never
 CannotSay-report (Failed f) old new (report, name) log =
     (f.fault, subst (λ (n : List ℕ). Leads (failed Report n f.fault) [] old new) name (subst (λ (a : Action). Leads (failed a f.name.now f.fault) [] old new) report log))
 
-module _ (files : Files) (root : List ℕ) (options : ℕ → Options → Type 0) (count : ℕ) (old mid : Log) where
+module _ (turn : TreeFacts → Options → Log → Log → Status → Bool → Type 0) (files : Files) (root : List ℕ) (options : ℕ → Options → Type 0) (count : ℕ) (old mid : Log) where
   -- the tree is refused, or there was no memory for it
-  pub EndsEach-refused : (r : Refusal) (result : Result Status Stop) → IsRefusalOf files root r → RefusesTree r result old mid → EndsEach files root options count result old mid
+  pub EndsEach-refused : (r : Refusal) (result : Result Status Stop) → IsRefusalOf files root r → RefusesTree r result old mid → EndsEach turn files root options count result old mid
   EndsEach-refused r result why (inl (is, same)) = rw (is, same) (leads_nothing old)
   EndsEach-refused r (Ok status) why (inr (known, (is, log))) = stops (refused_tree (refusal_view r) (why known) log is)
   EndsEach-refused r (Err OutOfMemory) why (inr (known, (never, log))) = absurd never
   EndsEach-refused r (Err (Failed f)) why (inr (known, (report, log))) = unsaid_refusal (refusal_view r) (why known) (CannotSay-report (Failed f) old mid report log) refl
 
   -- its warnings were not said
-  pub EndsEach-unsaid : (tree : TreeFacts) {text : List ℕ} (stop : Stop) → IsAcceptedTree files root tree → text ≡ lines_text tree.warnings → SaysLines text (Err stop) old mid → EndsEach files root options count (Err stop) old mid
+  pub EndsEach-unsaid : (tree : TreeFacts) {text : List ℕ} (stop : Stop) → IsAcceptedTree files root tree → text ≡ lines_text tree.warnings → SaysLines text (Err stop) old mid → EndsEach turn files root options count (Err stop) old mid
   EndsEach-unsaid tree OutOfMemory accepted is log = log
   EndsEach-unsaid tree (Failed f) accepted is (report, some, log) = unsaid_warnings tree accepted (λ e. some (is ∙ e)) (CannotSay-report (Failed f) old mid report log) refl
 
   -- what is answered
-  pub RunsEach-answered : (result : Result Status Stop) (status : Status) (new : Log) → EndsEach files root options count result old mid → AnswersAll result status mid new →
-      RunsEach files root options count old new status
-  RunsEach-answered (Ok ended) status new runs (is, same) = rw (is, same) runs
-  RunsEach-answered (Err OutOfMemory) status new log (is, (report, said)) = stops (no_memory (report, Leads-then log said) is)
-  RunsEach-answered (Err (Failed f)) status new ends (is, same) = rw (is, same) (stops ends)
+  pub RunsAll-answered : (result : Result Status Stop) (status : Status) (new : Log) → EndsEach turn files root options count result old mid → AnswersAll result status mid new →
+      RunsAll turn files root options count old new status
+  RunsAll-answered (Ok ended) status new runs (is, same) = rw (is, same) runs
+  RunsAll-answered (Err OutOfMemory) status new log (is, (report, said)) = stops (no_memory (report, Leads-then log said) is)
+  RunsAll-answered (Err (Failed f)) status new ends (is, same) = rw (is, same) (stops ends)
 
 -- what is kept for all is kept for options that want it
 kept-for : (files : Files) (keeps wants : Bool) (kept : Option FileMap) → (wants ≡ true → keeps ≡ true) → AreKept files keeps kept → AreKept files wants kept

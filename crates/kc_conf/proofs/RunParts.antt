@@ -1,16 +1,16 @@
 -- How a run ends, and what it leaves.
-use Rattle.std.proofs.Common.{◌≡◌, ◌≢◌, ◌⊎◌, inl, inr, ℕ, Bool, true, false, not, List, [], ◌∷◌, ◌++◌, refl, sym, ap, subst, ◌∙◌, append_assoc, append-nil, None, Some, Result, Ok, Err}
+use Rattle.std.proofs.Common.{◌≡◌, ◌≢◌, ◌⊎◌, inl, inr, ℕ, Bool, true, false, not, List, [], ◌∷◌, ◌++◌, refl, sym, ap, subst, ◌∙◌, append_assoc, append-nil, Result, Ok, Err}
 use Rattle.std.specs.Prelude.{◌||◌, is_ok}
-use Rattle.kc_language.specs.Expansion.{Files}
+use Rattle.kc_language.specs.Expansion.{Files, Refused}
 use Rattle.kc_language.specs.Symbols.{TreeFacts}
-use Rattle.kc_language.specs.Text.{BeginsWith, GoesBeyond}
-use Rattle.kc_io.specs.Delivery.{StopsBefore, NamedText, cleared_by, delivers, stale_lines, stale_texts, texts_of}
+use Rattle.kc_language.specs.Text.{BeginsWith}
+use Rattle.kc_io.specs.Delivery.{NamedText, cleared_by, stale_lines, stale_texts, texts_of}
 use Rattle.kc_io.specs.Inputs.{AreInputs, InputFile, bytes_of, still_told}
-use Rattle.kc_io.specs.Log.{keeps_files, Event, Log, Leads, Tells}
+use Rattle.kc_io.specs.Log.{keeps_files, Event, Log, Leads}
 use Rattle.kc_io.specs.declared.device.Action.TheVariants.{Open, Read}
 use Rattle.kc_io.specs.declared.steps.Failure.{Failure}
 use Rattle.kc_io.proofs.LogLemmas.{leads_nothing}
-use Rattle.kc_outcome.specs.Outcome.{Options, IsAcceptedTree, IsOutcome, Outcome, lead, refusal_line, refused_outcome, refused_tree, reported, root_file}
+use Rattle.kc_outcome.specs.Outcome.{Options, IsAcceptedTree, IsOutcome, IsRefusedTree, Outcome, refusal_line, refused_outcome, refused_tree, reported, root_file}
 use Rattle.kc_read.specs.OpenedFiles.{OpenedAreOneList}
 use Rattle.kc_read.specs.RefusalView.{refusal_view}
 use Rattle.kc_read.specs.declared.refusal.Refusal.{Refusal}
@@ -22,7 +22,7 @@ use Rattle.kc_conf.specs.Endings as tail
 use Rattle.kc_conf.specs.Laws.{ExactlyOneOutcome}
 use Rattle.kc_conf.specs.Many.{IsPart, RunsTurn, ends_all}
 use Rattle.kc_conf.specs.Many as many
-use Rattle.kc_conf.specs.PartRuns.{EndsSo, IsBrokenOff, Leaves}
+use Rattle.kc_conf.specs.PartRuns.{EndsSo, Leaves}
 use Rattle.kc_conf.specs.PartsOfFaults.{nothing_said, said_of_tree}
 use Rattle.kc_conf.specs.Reads.{StopsInputs}
 use Rattle.kc_conf.specs.Reads as reading_stops
@@ -148,14 +148,20 @@ pub Leaves-weaker : {files : Files} {options : Options} {before : TreeFacts → 
 Leaves-weaker weaker run = record { inputs = run.inputs; are_inputs = run.are_inputs; outcome = run.outcome; is_outcome = weaker (bytes_of run.inputs) run.outcome run.is_outcome; ends = run.ends }
 
 -- a tree is refused, or there was no memory for it
+pub Leaves-untreed : (files : Files) (options : Options) (IsIt : List (List ℕ) → Outcome → Type 0) → ((all : List (List ℕ)) → (outcome : Outcome) × IsIt all outcome) →
+    ((r : Refused) → IsRefusedTree files (root_file options) r → (all : List (List ℕ)) → IsIt all (refused_outcome (refusal_line r))) → (r : Refusal) (result : Result Status Stop) (old new : Log) →
+    IsRefusalOf files (root_file options) r → RefusesTree r result old new → Leaves files options said_of_tree IsIt result old new
+Leaves-untreed files options IsIt exists refused r result old new why (inl (is, same)) = rw (is, same) (Leaves-memory files options said_of_tree IsIt exists (leads_nothing old))
+Leaves-untreed files options IsIt exists refused r result old new why (inr (known, refuses)) =
+    Leaves-refused files options said_of_tree IsIt (refusal_line (refusal_view r)) result old new (some-refusal (refusal_view r)) (λ inputs log. ends.refused_tree (refusal_view r) (why known))
+    (refused (refusal_view r) (why known)) refuses
+
 pub Leaves-tree : OpenedAreOneList → ExactlyOneOutcome → (files : Files) (options : Options) (r : Refusal) (result : Result Status Stop) (old new : Log) → IsRefusalOf files (root_file options) r →
     RefusesTree r result old new → Leaves files options said_of_tree (IsOutcome files options) result old new
-Leaves-tree opens outcomes files options r result old new why (inl (is, same)) =
-    rw (is, same) (Leaves-memory files options said_of_tree (IsOutcome files options) (λ all. let (outcome, is, only) = outcomes files options all in (outcome, is)) (leads_nothing old))
-Leaves-tree opens outcomes files options r result old new why (inr (known, refuses)) =
+Leaves-tree opens outcomes files options =
     let (opened, are, only) = opens files (root_file options) in
-    Leaves-refused files options said_of_tree (IsOutcome files options) (refusal_line (refusal_view r)) result old new (some-refusal (refusal_view r)) (λ inputs log. ends.refused_tree (refusal_view r) (why known))
-    (λ all. (refused_outcome (refusal_line (refusal_view r)), opened, refused_tree (refusal_view r) (why known) refl, are, refl)) refuses
+    Leaves-untreed files options (IsOutcome files options) (λ all. let (outcome, is, only) = outcomes files options all in (outcome, is))
+    (λ r is all. (refused_outcome (refusal_line r), opened, refused_tree r is refl, are, refl))
 
 -- ---- what a run answers
 
@@ -178,7 +184,7 @@ pub record Answered (files : Files) (options : Options) (before : TreeFacts → 
   pub ends : (Completes files options inputs outcome old new status × (is_over ≡ false))
       ⊎ ((b : Broken files options before inputs outcome old new status) × (is_over ≡ (ends_all b.stop || not (is_ok b.report))))
 
-answered : {files : Files} {options : Options} {before : TreeFacts → List ℕ} {IsIt : List (List ℕ) → Outcome → Type 0} (result : Result Status Stop) {status : Status} {is_over : Bool} {old mid new : Log} →
+pub answered : {files : Files} {options : Options} {before : TreeFacts → List ℕ} {IsIt : List (List ℕ) → Outcome → Type 0} (result : Result Status Stop) {status : Status} {is_over : Bool} {old mid new : Log} →
     Leaves files options before IsIt result old mid → Answers options result status is_over mid new → Answered files options before IsIt status is_over old new
 answered {files = files} {options = options} {before = before} {IsIt = IsIt} (Ok ended) {is_over = is_over} {old = old} run (is, over, same) =
     rw (is, same) (record { inputs = run.inputs; are_inputs = run.are_inputs; outcome = run.outcome; is_outcome = run.is_outcome; ends = inl (run.ends, over) })

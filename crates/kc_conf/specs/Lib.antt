@@ -6,6 +6,8 @@ pub mod Dead
 pub mod DeadParts
 pub mod Endings
 pub mod Faults
+pub mod How
+pub mod HowParts
 pub mod LawSteps
 pub mod Laws
 pub mod Lost

@@ -4,7 +4,8 @@ use Rattle.kc_language.specs.ConfigFile.{StreamLocation, UserInput}
 use Rattle.kc_language.specs.Texts.{Solution, lost_at}
 use Rattle.kc_language.specs.declared.expressions.SymId.{SymId}
 use Rattle.kc_outcome.specs.Explanations.{causes_lines, symbol_lines, text_of_lines}
-use Rattle.kc_outcome.specs.Outcome.{Options}
+use Rattle.kc_language.specs.Values.{name}
+use Rattle.kc_outcome.specs.Outcome.{Options, question_text}
 use Rattle.kc_explain.specs.declared.teller.Teller.{Teller}
 use Rattle.kc_conf.specs.declared.lost.LostValue.{LostValue}
 
@@ -19,7 +20,7 @@ abbrev pub lost_values : Options → UserInput → Solution → List (SymId × L
 lost_values options input solution =
     if options.warn_lost then flat_map (lost_pairs options.prefix.is_raw input.lines solution) solution.tree.defined else []
 
--- their lines; a line with the explanation of its symbol; those of all, and the causes
+-- their lines; a line with the explanation of its symbol; those of all, the causes, and the question for the first
 abbrev pub lines_of : List (SymId × List ℕ) → List ℕ
 lines_of lost = flat_map (λ v. v.1 ++ codes "\n") lost
 
@@ -30,3 +31,4 @@ module _ (t : Teller) (front : List ℕ) where
   abbrev pub told_lost : List (SymId × List ℕ) → List ℕ
   told_lost lost = flat_map with_explanation lost
       ++ text_of_lines front (causes_lines t.input.now t.solved.now t.is_raw (map (λ v. v.0) lost) (length lost))
+      ++ question_text front (map (name t.solved.now.tree) (map (λ v. v.0) lost))

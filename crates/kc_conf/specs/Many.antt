@@ -88,12 +88,16 @@ module _ (files : Files) (root : List ℕ) (old new : Log) (status : Status) whe
         status ≡ Status.Faulted → StopsAtTree
     no_memory : TriesToSay out_of_memory_line old new → status ≡ Status.Faulted → StopsAtTree
 
--- A run for `count` configurations. It ends at the tree; or the tree is accepted, its warnings are reported once, and then the configurations take
--- their turns.
-pub data RunsEach (files : Files) (root : List ℕ) (options : ℕ → Options → Type 0) (count : ℕ) (old new : Log) (status : Status) : Type 0 where
-  stops : StopsAtTree files root old new status → RunsEach files root options count old new status
+-- A run for `count` configurations, where `turn` specifies the turn of one over the tree. It ends at the tree; or the tree is accepted, its warnings are
+-- reported once, and then the configurations take their turns.
+pub data RunsAll (turn : TreeFacts → Options → Log → Log → Status → Bool → Type 0) (files : Files) (root : List ℕ) (options : ℕ → Options → Type 0) (count : ℕ)
+    (old new : Log) (status : Status) : Type 0 where
+  stops : StopsAtTree files root old new status → RunsAll turn files root options count old new status
   turns : (tree : TreeFacts) (mid : Log) → IsAcceptedTree files root tree → Leads [] (lines_text tree.warnings) old mid →
-      TakeTurns (RunsTurn files tree) options 0 count mid new status → RunsEach files root options count old new status
+      TakeTurns (turn tree) options 0 count mid new status → RunsAll turn files root options count old new status
+
+abbrev pub RunsEach : Files → List ℕ → (ℕ → Options → Type 0) → ℕ → Log → Log → Status → Type 0
+RunsEach files root options count old new status = RunsAll (RunsTurn files) files root options count old new status
 
 -- ---- Configurations with separate files
 -- the files that a run with these options writes, or compares with --check; those that it writes; and whether a name is one of these

@@ -6,7 +6,8 @@ use Rattle.kc_io.specs.Inputs.{AreInputs, InputFile, bytes_of, still_told}
 use Rattle.kc_io.specs.Log.{Event, Log, Leads, TriesToSay}
 use Rattle.kc_conf.specs.Accepted.{IsAcceptedOf}
 use Rattle.kc_conf.specs.Faults.{AreLines, Breaks, Completes, clearing, event_of, refused_name_of}
-use Rattle.kc_conf.specs.Many.{RunsEach, StopsAtTree}
+use Rattle.kc_conf.specs.Many.{RunsAll, StopsAtTree}
+use Rattle.kc_conf.specs.How.{IsHowOutcome}
 use Rattle.kc_conf.specs.PartsOfMany.{told_before}
 use Rattle.kc_outcome.specs.Outcome.{Options, IsOutcome, Outcome, is_not_empty, is_done, lines_text, reported, refused_if, root_file}
 use Rattle.kc_language.specs.Statements.{out_of_memory_line}
@@ -14,6 +15,7 @@ use Rattle.kc_conf.specs.Reads.{IsReportStop}
 use Rattle.kc_outcome.specs.declared.outcome.Status.{Status}
 use Rattle.kc_outcome.specs.declared.outcome.Status.TheVariants.{Faulted}
 use Rattle.kc_conf.specs.declared.accepted.OrderedTree.{OrderedTree}
+use Rattle.kc_conf.specs.declared.reply.Asked.{Asked}
 use Rattle.kc_conf.specs.declared.stop.Stop.{Stop}
 use Rattle.kc_conf.specs.declared.stop.Stop.TheVariants.{OutOfMemory, Failed}
 
@@ -31,6 +33,11 @@ strictly_after options before part = refused_if options (is_done part.status && 
 abbrev pub IsLeft : Files → Options → TreeFacts → List ℕ → List (List ℕ) → Outcome → Type 0
 IsLeft files options tree told all left = (opened : List (List ℕ)) × AreOpened files (root_file options) opened
     × IsOutcome files options all (reported (told_before told (refused_name_of options opened tree)) left)
+
+-- the same of the outcome of a question
+abbrev pub IsHowLeft : Files → Options → Asked → TreeFacts → List ℕ → List (List ℕ) → Outcome → Type 0
+IsHowLeft files options asked tree told all left = (opened : List (List ℕ)) × AreOpened files (root_file options) opened
+    × IsHowOutcome files options asked all (reported (told_before told (refused_name_of options opened tree)) left)
 
 -- Of the warnings of this accepted tree, `told` were reported before, and the run reports the others: `before` of the tree.
 pub record TellsRest (files : Files) (options : Options) (accepted : OrderedTree) (before : TreeFacts → List ℕ) (told : List ℕ) : Type 0 where
@@ -62,10 +69,10 @@ module _ (files : Files) (options : Options) (before : TreeFacts → List ℕ) w
 -- ---- many configurations
 
 -- A run for many configurations, which has not yet reported that there was not enough memory.
-abbrev pub EndsEach : Files → List ℕ → (ℕ → Options → Type 0) → ℕ → Result Status Stop → Log → Log → Type 0
-EndsEach files root options count (Ok status) old new = RunsEach files root options count old new status
-EndsEach files root options count (Err OutOfMemory) old new = Leads [] [] old new
-EndsEach files root options count (Err (Failed f)) old new = StopsAtTree files root old new Faulted
+abbrev pub EndsEach : (TreeFacts → Options → Log → Log → Status → Bool → Type 0) → Files → List ℕ → (ℕ → Options → Type 0) → ℕ → Result Status Stop → Log → Log → Type 0
+EndsEach turn files root options count (Ok status) old new = RunsAll turn files root options count old new status
+EndsEach turn files root options count (Err OutOfMemory) old new = Leads [] [] old new
+EndsEach turn files root options count (Err (Failed f)) old new = StopsAtTree files root old new Faulted
 
 abbrev pub AnswersAll : Result Status Stop → Status → Log → Log → Type 0
 AnswersAll (Ok ended) status old new = (status ≡ ended) × (new ≡ old)

@@ -132,16 +132,16 @@ fn refuses_input(
             && is_none_lost(options, input, solved, lost))
 }
 
-// Whether the tree has warnings.
-fn has_warnings(tree: &Tree) -> bool
+/// Whether the tree has warnings.
+pub(crate) fn has_warnings(tree: &Tree) -> bool
     ensures { result ≡ is_not_empty (lines_text tree.now.warnings) }
 {
     !tree.parse_warnings().is_empty()
 }
 
-// Whether there was an earlier warning, or this text is one.
+/// Whether there was an earlier warning, or this text is one.
 #[tactic(auto, using(crate::proofs::OutcomeLemmas::text_some))]
-fn is_warned_by(before: bool, text: &[u8]) -> bool
+pub(crate) fn is_warned_by(before: bool, text: &[u8]) -> bool
     ensures { result ≡ (before || is_not_empty text.now) }
 {
     before || !text.is_empty()

@@ -21,7 +21,8 @@ use kc_load::{Folder, load};
 use kc_options::{Options, Status};
 use kc_possible::dead::dead_prompts;
 use kc_possible::possible::Possible;
-use kc_possible::reason::reasons;
+use kc_possible::reason::shared_reasons;
+use kc_possible::shared::SharedReasons;
 use kc_read::file_map::FileMap;
 use kc_tree::tree::Tree;
 use kc_values::table::name;
@@ -58,8 +59,9 @@ fn list_of(alloc: Global, p: &Possible<'_>, dead: &[SymId]) -> Result<Vec<u8>, A
     ensures { IfOk result (λ text. IsListOf p.now.laid.tree.now dead.now text.items) }
 {
     let mut text = Vec::new(alloc);
+    let mut shared = SharedReasons::new(alloc, p)?;
     for id in dead {
-        let reasons = reasons(alloc, p, *id)?;
+        let reasons = shared_reasons(p, *id, &mut shared)?;
         add_line(p.laid.tree, *id, &reasons, &mut text)?;
     }
     Ok(text)

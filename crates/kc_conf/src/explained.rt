@@ -1,5 +1,5 @@
 //! Explanations of the symbols to be explained.
-ghost use Rattle.std.specs.Prelude.{◌≡◌, ◌++◌, IfOk, OnOk};
+ghost use Rattle.std.specs.Prelude.{◌≡◌, ◌++◌, [], codes, map, string_bytes, IfOk, OnOk};
 ghost use Rattle.std.specs.List.{flat_map};
 ghost use Rattle.kc_outcome.specs.Explanations.{asked_symbol, explanation_text};
 ghost use Rattle.kc_language.specs.Symbols.{listed};
@@ -29,8 +29,51 @@ fn add_asked(
     }
 }
 
-/// Returns the explanations of the symbols to be explained, one after another. Fails only if there is not enough
-/// memory.
+// The explanations of all symbols to be explained.
+fn explanations(
+    alloc: Global,
+    options: &Options,
+    input: &UserInput<'_>,
+    solved: &Solved<'_>,
+) -> Result<Vec<u8>, AllocError>
+    ensures { IfOk result (λ text. text.items ≡ rules.explanations options.now input.now solved.now) }
+{
+    let teller = Teller::new(solved, input, options.prefix.is_raw());
+    let mut text = Vec::new(alloc);
+    for asked in options.explain.iter() {
+        add_asked(alloc, options, &teller, asked.as_bytes(), &mut text)?;
+    }
+    Ok(text)
+}
+
+/// Adds the question what must be set so that the symbol of this name has a value, after `front`. Fails only if there is not
+/// enough memory.
+pub(crate) fn add_question(
+    front: &[u8],
+    called: &[u8],
+    text: &mut Vec<u8>,
+) -> Result<(), AllocError>
+    ensures { OnOk result (text.new.items ≡ text.old.items ++ front.now ++ codes "to see what to set: --how " ++ called.now ++ codes "=VALUE\n") }
+{
+    text.extend_from_slice(front)?;
+    text.extend_from_slice(b"to see what to set: --how ")?;
+    text.extend_from_slice(called)?;
+    text.extend_from_slice(b"=VALUE\n")?;
+    Ok(())
+}
+
+// Adds the question for the first of these names.
+fn add_first_question(names: &[String], text: &mut Vec<u8>) -> Result<(), AllocError>
+    ensures { OnOk result (text.new.items ≡ text.old.items ++ rules.question_text [] (map string_bytes names.now)) }
+{
+    match names {
+        [] => Ok(()),
+        [called, ..] => add_question(&[], called.as_bytes(), text),
+    }
+}
+
+/// Returns the explanations of the symbols to be explained, one after another, and the question what must be set. Fails only
+/// if there is not enough memory.
 pub(crate) fn explained_text(
     alloc: Global,
     options: &Options,
@@ -39,10 +82,7 @@ pub(crate) fn explained_text(
 ) -> Result<Vec<u8>, AllocError>
     ensures { IfOk result (λ text. text.items ≡ rules.explained_text options.now input.now solved.now) }
 {
-    let teller = Teller::new(solved, input, options.prefix.is_raw());
-    let mut text = Vec::new(alloc);
-    for asked in options.explain.iter() {
-        add_asked(alloc, options, &teller, asked.as_bytes(), &mut text)?;
-    }
+    let mut text = explanations(alloc, options, input, solved)?;
+    add_first_question(&options.explain, &mut text)?;
     Ok(text)
 }

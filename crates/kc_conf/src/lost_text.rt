@@ -1,16 +1,20 @@
 //! What is told of lost values: their lines and, with --explain-lost, the explanations of their symbols and the causes.
 ghost use Rattle.std.specs.Prelude.{◌≡◌, ◌++◌, codes, map, IfOk, OnOk};
 ghost use Rattle.std.specs.List.{flat_map};
+ghost use Rattle.kc_language.specs.Values.{name as spec_name};
 ghost use Rattle.kc_outcome.specs.Outcome as rules;
 ghost use Rattle.kc_conf.specs.Lost.{lines_of, lost_values, lost_view, told_lost, with_explanation};
 
 use crate::causes::add_causes;
+use crate::explained::add_question;
 use crate::lost::LostValue;
 use kc_explain::{Teller, add_symbol_lines};
 use kc_expr::expression::SymId;
 use kc_input::user_input::UserInput;
 use kc_options::{Options, lead};
 use kc_solve::solved::Solved;
+use kc_tree::tree::Tree;
+use kc_values::table::name;
 use std::alloc::{AllocError, Global};
 
 // Adds the lines of lost values.
@@ -77,7 +81,22 @@ fn symbols_of(alloc: Global, lost: &[LostValue]) -> Result<Vec<SymId>, AllocErro
     Ok(symbols)
 }
 
-// Adds the lines of lost values, each with the explanation of its symbol, and then the causes.
+// Adds the question for the first of these lost symbols.
+fn add_first_question(
+    tree: &Tree,
+    front: &[u8],
+    lost: &[SymId],
+    text: &mut Vec<u8>,
+) -> Result<(), AllocError>
+    ensures { OnOk result (text.new.items ≡ text.old.items ++ rules.question_text front.now (map (spec_name tree.now) lost.now)) }
+{
+    match lost {
+        [] => Ok(()),
+        [first, ..] => add_question(front, name(tree, *first), text),
+    }
+}
+
+// Adds the lines of lost values, each with the explanation of its symbol, then the causes, and the question for the first.
 fn add_told(
     alloc: Global,
     t: &Teller<'_, '_, '_>,
@@ -89,7 +108,8 @@ fn add_told(
 {
     let symbols = symbols_of(alloc, lost)?;
     add_all_explained(alloc, t, front, lost, text)?;
-    add_causes(alloc, t, front, &symbols, text)
+    add_causes(alloc, t, front, &symbols, text)?;
+    add_first_question(t.solved.tree(), front, &symbols, text)
 }
 
 /// Adds the lines of lost values, with explanations and causes if they are wanted. Fails only if there is not enough memory.

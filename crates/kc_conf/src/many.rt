@@ -2,10 +2,14 @@
 ghost use Rattle.kc_read.specs.Files.{files_in};
 ghost use Rattle.std.specs.Prelude.{◌≡◌, ◌<◌, ℕ, Bool, List, IfOk};
 ghost use Rattle.kc_language.specs.Expansion.{Files};
+ghost use Rattle.kc_language.specs.Symbols.{TreeFacts};
+ghost use Rattle.kc_io.specs.Log.{Log};
 ghost use Rattle.kc_conf.specs.Accepted.{IsAcceptedOf, IsOrderedOf, IsReady};
 ghost use Rattle.kc_conf.specs.Many.{AreRootedAt, KeepsFor, RunsEach, RunsTurn, TakeTurns, TakesTurn, greater};
 ghost use Rattle.kc_conf.specs.PartRuns.{AnswersAll, EndsEach};
+ghost use Rattle.kc_conf.specs.declared.accepted.OrderedTree.{OrderedTree};
 ghost use Rattle.kc_outcome.specs.Outcome.{Options};
+ghost use Rattle.kc_outcome.specs.declared.outcome.Status.{Status};
 
 use crate::accepted::{AcceptedTree, OrderedTree, read_tree};
 use crate::diagnostics::{say_lines, say_no_memory};
@@ -43,36 +47,64 @@ pub trait Configurations {
         ensures { KeepsFor (options self.now) result };
 }
 
-// Runs for one configuration, after the tree's warnings.
-fn run_turn<D: Device>(
-    alloc: Global,
-    options: &Options,
-    accepted: &OrderedTree<'_>,
-    device: &mut D,
-) -> Turn
-    requires { IsReady accepted.now }
-    ensures { (files : Files) → IsAcceptedOf files options.now accepted.now →
-        RunsTurn files accepted.now.laid.tree.now options.now (D.log device.old) (D.log device.new) result.status result.is_over }
-{
-    let ended = run_accepted(alloc, options, accepted, &[], device);
-    answer(options, ended, device)
+/// What is done in the turn of each configuration of an accepted tree.
+pub(crate) trait Task {
+    /// Whether it can be done with this tree.
+    ghost is_ready: { Self → OrderedTree → Type 0 };
+
+    /// What a turn leaves.
+    ghost leaves: { Self → Files → TreeFacts → Options → Log → Log → Status → Bool → Type 0 };
+
+    /// Takes the turn of a configuration with these options, after the tree's warnings.
+    fn take<D: Device>(
+        &self,
+        alloc: Global,
+        options: &Options,
+        accepted: &OrderedTree<'_>,
+        device: &mut D,
+    ) -> Turn
+        requires { is_ready self.now accepted.now }
+        ensures { (files : Files) → IsAcceptedOf files options.now accepted.now →
+            leaves self.now files accepted.now.laid.tree.now options.now (D.log device.old) (D.log device.new) result.status result.is_over };
+}
+
+/// The task of a run.
+#[derive(Clone, Copy)]
+struct Running;
+
+impl Task for Running {
+    ghost is_ready = { λ s accepted. IsReady accepted };
+
+    ghost leaves = { λ s. RunsTurn };
+
+    fn take<D: Device>(
+        &self,
+        alloc: Global,
+        options: &Options,
+        accepted: &OrderedTree<'_>,
+        device: &mut D,
+    ) -> Turn {
+        let ended = run_accepted(alloc, options, accepted, &[], device);
+        answer(options, ended, device)
+    }
 }
 
 // The turn of the configuration of this number.
-fn take_turn<C: Configurations, D: Device>(
+fn take_turn<C: Configurations, T: Task, D: Device>(
     alloc: Global,
     configurations: &C,
     i: usize,
+    task: &T,
     accepted: &OrderedTree<'_>,
     device: &mut D,
 ) -> Turn
     requires within { i < C.number configurations.now }
-    requires ready { IsReady accepted.now }
+    requires ready { T.is_ready task.now accepted.now }
     ensures { (files : Files) → ((options : Options) → C.options configurations.now i options → IsAcceptedOf files options accepted.now) →
-        TakesTurn (RunsTurn files accepted.now.laid.tree.now) (C.options configurations.now i) (D.log device.old) (D.log device.new) result.status result.is_over }
+        TakesTurn (T.leaves task.now files accepted.now.laid.tree.now) (C.options configurations.now i) (D.log device.old) (D.log device.new) result.status result.is_over }
 {
     match configurations.options_of(alloc, i) {
-        Ok(options) => run_turn(alloc, &options, accepted, device),
+        Ok(options) => task.take(alloc, &options, accepted, device),
         Err(_) => {
             say_no_memory(device);
             Turn {
@@ -98,19 +130,20 @@ fn greater(a: Status, b: Status) -> Status
 }
 
 // Lets each configuration take its turn, up to one that ends all turns.
-fn take_turns<C: Configurations, D: Device>(
+fn take_turns<C: Configurations, T: Task, D: Device>(
     alloc: Global,
     configurations: &C,
+    task: &T,
     accepted: &OrderedTree<'_>,
     device: &mut D,
 ) -> Status
-    requires ready { IsReady accepted.now }
+    requires ready { T.is_ready task.now accepted.now }
     ensures { (files : Files) → ((i : ℕ) (options : Options) → C.options configurations.now i options → IsAcceptedOf files options accepted.now) →
-        TakeTurns (RunsTurn files accepted.now.laid.tree.now) (C.options configurations.now) 0 (C.number configurations.now) (D.log device.old) (D.log device.new) result }
+        TakeTurns (T.leaves task.now files accepted.now.laid.tree.now) (C.options configurations.now) 0 (C.number configurations.now) (D.log device.old) (D.log device.new) result }
 {
     let mut status = Status::Done;
     for i in 0..configurations.count() {
-        let turn = take_turn(alloc, configurations, i, accepted, device);
+        let turn = take_turn(alloc, configurations, i, task, accepted, device);
         status = greater(status, turn.status);
         if turn.is_over {
             return status;
@@ -121,20 +154,21 @@ fn take_turns<C: Configurations, D: Device>(
 
 // ---- the tree
 
-// Runs over an accepted tree: reports its warnings, then lets the configurations take their turns.
-fn run_turns<C: Configurations, D: Device>(
+/// Reports the warnings of an accepted tree, then lets the configurations take their turns.
+pub(crate) fn all_turns<C: Configurations, T: Task, D: Device>(
     alloc: Global,
     configurations: &C,
+    task: &T,
     accepted: &OrderedTree<'_>,
     device: &mut D,
 ) -> Result<Status, Stop<'static>>
-    requires { IsReady accepted.now }
+    requires { T.is_ready task.now accepted.now }
     ensures { (files : Files) (root : List ℕ) (keeps : Bool) → IsOrderedOf files root keeps accepted.now → KeepsFor (C.options configurations.now) keeps →
         AreRootedAt root (C.options configurations.now) →
-        EndsEach files root (C.options configurations.now) (C.number configurations.now) result (D.log device.old) (D.log device.new) }
+        EndsEach (T.leaves task.now files) files root (C.options configurations.now) (C.number configurations.now) result (D.log device.old) (D.log device.new) }
 {
     match say_lines(alloc, device, accepted.laid.tree.parse_warnings()) {
-        Ok(()) => Ok(take_turns(alloc, configurations, accepted, device)),
+        Ok(()) => Ok(take_turns(alloc, configurations, task, accepted, device)),
         Err(stop) => Err(stop),
     }
 }
@@ -149,7 +183,7 @@ fn run_each_over<C: Configurations, D: Device>(
     kept: &mut Option<AcceptedTree>,
 ) -> Result<Status, Stop<'static>>
     requires { AreRootedAt root.now (C.options configurations.now) }
-    ensures { EndsEach (files_in files) root.now (C.options configurations.now) (C.number configurations.now) result (D.log device.old) (D.log device.new) }
+    ensures { EndsEach (RunsTurn (files_in files)) (files_in files) root.now (C.options configurations.now) (C.number configurations.now) result (D.log device.old) (D.log device.new) }
 {
     let keeps = configurations.keeps_sources();
     let reading = match read_tree(alloc, files, root.as_bytes(), keeps) {
@@ -160,15 +194,15 @@ fn run_each_over<C: Configurations, D: Device>(
         Ok(accepted) => accepted,
         Err(refusal) => return refuse(&refusal, device),
     };
-    let ended = run_turns(alloc, configurations, &accepted, device);
+    let ended = all_turns(alloc, configurations, &Running, &accepted, device);
     let order = accepted.order;
     *kept = Some(AcceptedTree { reading, order });
     ended
 }
 
-// Answers how the runs ended. If they stopped before the first turn, reports that there was not enough memory, unless
-// the diagnostics failed.
-fn answer_all<D: Device>(ended: Result<Status, Stop<'_>>, device: &mut D) -> Status
+/// Answers how the runs ended. If they stopped before the first turn, reports that there was not enough memory, unless
+/// the diagnostics failed.
+pub(crate) fn answer_all<D: Device>(ended: Result<Status, Stop<'_>>, device: &mut D) -> Status
     ensures { AnswersAll ended.entry result (D.log device.old) (D.log device.new) }
 {
     let stop = match ended {

@@ -124,8 +124,8 @@ pub(crate) fn refuse<D: Device>(refusal: &Refusal, device: &mut D) -> Result<Sta
     }
 }
 
-// Reports the waiting diagnostics, if there are any.
-fn say_waiting<D: Device>(waiting: &[u8], device: &mut D) -> Result<(), Stop<'static>>
+/// Reports the waiting diagnostics, if there are any.
+pub(crate) fn say_waiting<D: Device>(waiting: &[u8], device: &mut D) -> Result<(), Stop<'static>>
     requires { AreLines waiting.now }
     ensures { SaysAll waiting.now result (D.log device.old) (D.log device.new) }
 {
@@ -167,8 +167,8 @@ pub(crate) fn finish<'o, D: Device>(
     }
 }
 
-// Reports the waiting diagnostics, then refuses a line that is too long.
-fn finish_long<D: Device>(
+/// Reports the waiting diagnostics, then refuses a line that is too long.
+pub(crate) fn finish_long<D: Device>(
     waiting: &[u8],
     long: LongLine<'_>,
     device: &mut D,
@@ -195,8 +195,8 @@ fn lead_text(alloc: Global, options: &Options) -> Result<Vec<u8>, AllocError>
     Ok(text)
 }
 
-// The user's input before the first input file: empty.
-fn fresh_input<'a>(
+/// The user's input before the first input file: empty.
+pub(crate) fn fresh_input<'a>(
     alloc: Global,
     options: &Options,
     tree: &Tree,

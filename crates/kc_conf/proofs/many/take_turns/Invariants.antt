@@ -9,4 +9,4 @@ use Rattle.kc_conf.proofs.many.take_turns.Given as goal
 abbrev pub invariant-loop-i : goal.invariant-loop-i
 invariant-loop-i g l =
     (files : Files) → ((i : ℕ) (options : Options) → g.C.Configurations.options l.configurations i options → IsAcceptedOf files options l.accepted) →
-    TurnsSoFar files l.accepted.laid.tree.now (g.C.Configurations.options l.configurations) (g.C.Configurations.number l.configurations) l.i l.status (g.D.Device.log l.fn.device) (g.D.Device.log l.device)
+    TurnsSoFar (g.T.Task.leaves l.task files l.accepted.laid.tree.now) (g.C.Configurations.options l.configurations) (g.C.Configurations.number l.configurations) l.i l.status (g.D.Device.log l.fn.device) (g.D.Device.log l.device)

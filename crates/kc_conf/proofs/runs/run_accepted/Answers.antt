@@ -1,10 +1,10 @@
 -- A name is refused; or warnings of the tree are said, and the input files follow.
-use Rattle.std.proofs.Common.{◌∙◌, ap, sym, subst, option_map}
+use Rattle.std.proofs.Common.{◌∙◌, ap, sym, option_map}
 use Rattle.std.proofs.lemmas.Result.{err_from_is_err_and}
 use Rattle.kc_io.proofs.LogLemmas.{leads_nothing}
-use Rattle.kc_io.specs.Log.{Leads}
 use Rattle.kc_conf.specs.RefusedNames.{refused_line}
-use Rattle.kc_conf.proofs.InputParts.{Leaves-name, Leaves-unread, Leaves-unsaid}
+use Rattle.kc_conf.proofs.InputParts.{Leaves-name, Leaves-unread, left-goes}
+use Rattle.kc_conf.proofs.ReadParts.{Leaves-unsaid}
 use Rattle.kc_conf.proofs.RefusedNames.{none_refused}
 use Rattle.kc_conf.proofs.runs.run_accepted.Goals as goal
 
@@ -33,6 +33,6 @@ returns-in-Ok g c = λ files before told tells is. c.run_inputs.ensures files be
 
 pub returns : goal.returns
 returns g c = λ files before told tells is.
-    Leaves-unsaid c.one_answer.ensures c.exactly_one_outcome.ensures tells
+    Leaves-unsaid (left-goes c.one_answer.ensures c.exactly_one_outcome.ensures tells
     (none_refused c.args.options.now c.args.accepted.now.opened.now c.args.accepted.now.laid.tree.now
-    (sym (c.in_ok-refused.ensures c.args.accepted.now.opened.now c.in_ok-names.ensures) ∙ ap (option_map refused_line) c.in_default.is)) c.in-Err.stop _ _ is c.in-Err.ensures
+    (sym (c.in_ok-refused.ensures c.args.accepted.now.opened.now c.in_ok-names.ensures) ∙ ap (option_map refused_line) c.in_default.is))) c.in-Err.stop _ _ is c.in-Err.ensures

@@ -4,22 +4,23 @@ use Rattle.std.proofs.lemmas.Result.{err_from_is_err_and}
 use Rattle.kc_io.specs.Delivered.{text_view}
 use Rattle.kc_conf.specs.Faults.{AreLines}
 use Rattle.kc_conf.specs.Reads.{stop_of}
-use Rattle.kc_conf.proofs.InputParts.{AreLines-waiting, Leaves-broken, Leaves-long, Leaves-nothing, Leaves-uncomputed, Leaves-whole}
+use Rattle.kc_conf.proofs.InputParts.{Leaves-long, Leaves-whole, left-goes}
+use Rattle.kc_conf.proofs.ReadParts.{AreLines-waiting, Leaves-broken, Leaves-nothing, Leaves-uncomputed}
 use Rattle.kc_conf.proofs.runs.run_inputs.Goals as goal
 
 pub returns-in_err-names_told : goal.returns-in_err-names_told
 returns-in_err-names_told g c =
     let p = err_from_is_err_and c.from_residual.result c.from_residual.ensures.1 in
-    rw (p.1, p.2) (λ files before told start tells h. Leaves-nothing c.one_answer.ensures c.exactly_one_outcome.ensures tells c.requires.taken h)
+    rw (p.1, p.2) (λ files before told start tells h. Leaves-nothing (left-goes c.one_answer.ensures c.exactly_one_outcome.ensures tells c.requires.taken) h)
 
 pub returns-in_err-user : goal.returns-in_err-user
 returns-in_err-user g c =
     let p = err_from_is_err_and c.from_residual-in_err-user.result c.from_residual-in_err-user.ensures.1 in
-    rw (p.1, p.2) (λ files before told start tells h. Leaves-nothing c.one_answer.ensures c.exactly_one_outcome.ensures tells c.requires.taken h)
+    rw (p.1, p.2) (λ files before told start tells h. Leaves-nothing (left-goes c.one_answer.ensures c.exactly_one_outcome.ensures tells c.requires.taken) h)
 
 pub returns-in-Err : goal.returns-in-Err
 returns-in-Err g c = λ files before told start tells h.
-    Leaves-broken c.one_answer.ensures c.exactly_one_outcome.ensures tells c.requires.taken c.in_ok-user.ensures h c.in-Err.stop c.in-Err.ensures.err
+    Leaves-broken (left-goes c.one_answer.ensures c.exactly_one_outcome.ensures tells c.requires.taken) c.in_ok-user.ensures h c.in-Err.stop c.in-Err.ensures.err
 
 pub finish_long-requires : goal.finish_long-requires
 finish_long-requires g c = subst AreLines (sym c.deref-in-Some.ensures.value) (AreLines-waiting c.in_ok-user.ensures c.in-Ok.ensures.ok)
@@ -33,7 +34,7 @@ pub returns-in_err-texts : goal.returns-in_err-texts
 returns-in_err-texts g c =
     let p = err_from_is_err_and c.from_residual-in_err-texts.result c.from_residual-in_err-texts.ensures.1 in
     rw (p.1, p.2) (λ files before told start tells h.
-    Leaves-uncomputed c.one_answer.ensures c.exactly_one_outcome.ensures tells c.requires.taken c.in_ok-user.ensures h (rw c.in_default.is at c.in-Ok.ensures.ok))
+    Leaves-uncomputed (left-goes c.one_answer.ensures c.exactly_one_outcome.ensures tells c.requires.taken) c.in_ok-user.ensures h (rw c.in_default.is at c.in-Ok.ensures.ok))
 
 pub finish-requires : goal.finish-requires
 finish-requires g c = subst AreLines (sym c.deref-2.ensures.value) (c.in_ok-texts.ensures.lines (AreLines-waiting c.in_ok-user.ensures c.in-Ok.ensures.ok))

@@ -3,7 +3,7 @@ use Rattle.std.proofs.Common.{ap}
 use Rattle.kc_outcome.specs.Outcome.{lines_text}
 use Rattle.kc_conf.specs.Many.{turns}
 use Rattle.kc_conf.proofs.ManyLemmas.{EndsEach-unsaid, IsAcceptedOf-rooted}
-use Rattle.kc_conf.proofs.many.run_turns.Goals as goal
+use Rattle.kc_conf.proofs.many.all_turns.Goals as goal
 
 pub returns-in-Ok : goal.returns-in-Ok
 returns-in-Ok g c = λ files root keeps of keeps_for rooted.
@@ -12,5 +12,5 @@ returns-in-Ok g c = λ files root keeps of keeps_for rooted.
 
 pub returns-in-Err : goal.returns-in-Err
 returns-in-Err g c = λ files root keeps of keeps_for rooted.
-    EndsEach-unsaid files root (g.C.Configurations.options c.args.configurations.now) (g.C.Configurations.number c.args.configurations.now) _ _ c.args.accepted.now.laid.tree.now c.in-Err.stop of.tree
+    EndsEach-unsaid (g.T.Task.leaves c.args.task.now files) files root (g.C.Configurations.options c.args.configurations.now) (g.C.Configurations.number c.args.configurations.now) _ _ c.args.accepted.now.laid.tree.now c.in-Err.stop of.tree
     (ap lines_text c.parse_warnings.ensures) c.in-Err.ensures

@@ -4,7 +4,7 @@ use Rattle.kc_outcome.specs.Outcome.{lines_text}
 use Rattle.kc_conf.specs.PartsOfFaults.{nothing_said}
 use Rattle.kc_conf.proofs.PartLemmas.{AreLines-nothing}
 use Rattle.kc_conf.proofs.RunParts.{RunsTurn-answered}
-use Rattle.kc_conf.proofs.many.run_turn.Goals as goal
+use Rattle.kc_conf.proofs.many.RunningTask.take.Goals as goal
 
 pub returns : goal.returns
 returns g c = λ files of.

@@ -3,7 +3,7 @@ use Rattle.std.proofs.Common.{◌≡◌, map, string_bytes, take}
 use Rattle.std.specs.List.{flat_map}
 use Rattle.kc_outcome.specs.Explanations.{asked_symbol, explanation_text}
 use Rattle.kc_language.specs.Symbols.{listed}
-use Rattle.kc_conf.proofs.explained.explained_text.Given as goal
+use Rattle.kc_conf.proofs.explained.explanations.Given as goal
 
 abbrev pub invariant-loop-asked : goal.invariant-loop-asked
 invariant-loop-asked l =

@@ -4,7 +4,7 @@ use Rattle.std.specs.List.{flat_map}
 use Rattle.kc_outcome.specs.Explanations.{asked_symbol, explanation_text}
 use Rattle.kc_language.specs.Symbols.{listed}
 use Rattle.kc_conf.proofs.MoreLemmas.{one_more_mapped}
-use Rattle.kc_conf.proofs.explained.explained_text.Goals as goal
+use Rattle.kc_conf.proofs.explained.explanations.Goals as goal
 
 pub loop-asked-preserved : goal.loop-asked-preserved
 loop-asked-preserved c =

@@ -1,0 +1,38 @@
+-- A name is refused; or the tree's warnings are said, and the input files follow.
+use Rattle.std.proofs.Common.{◌∙◌, ap, sym, option_map}
+use Rattle.std.proofs.lemmas.Result.{err_from_is_err_and}
+use Rattle.kc_io.proofs.LogLemmas.{leads_nothing}
+use Rattle.kc_conf.specs.RefusedNames.{refused_line}
+use Rattle.kc_conf.proofs.HowLemmas.{Leaves-how-unnamed, Leaves-how-unread, how-goes}
+use Rattle.kc_conf.proofs.ReadParts.{Leaves-unsaid}
+use Rattle.kc_conf.proofs.RefusedNames.{none_refused}
+use Rattle.kc_conf.proofs.how_run.how_accepted.Goals as goal
+
+pub returns-in_err-names : goal.returns-in_err-names
+returns-in_err-names g c =
+    let p = err_from_is_err_and c.from_residual.result c.from_residual.ensures.1 in
+    rw (p.1, p.2) (λ files before told tells is. Leaves-how-unread c.one_answer.ensures c.exactly_one_outcome.ensures tells c.args.inquiry.now.asked.now (leads_nothing (g.D.Device.log c.args.device.now)))
+
+pub returns-in_err-refused : goal.returns-in_err-refused
+returns-in_err-refused g c =
+    let p = err_from_is_err_and c.from_residual-in_err-refused.result c.from_residual-in_err-refused.ensures.1 in
+    rw (p.1, p.2) (λ files before told tells is. Leaves-how-unread c.one_answer.ensures c.exactly_one_outcome.ensures tells c.args.inquiry.now.asked.now (leads_nothing (g.D.Device.log c.args.device.now)))
+
+pub returns-in-Some : goal.returns-in-Some
+returns-in-Some g c = λ files before told tells is.
+    Leaves-how-unnamed c.one_answer.ensures c.exactly_one_outcome.ensures tells c.args.inquiry.now.asked.now c.in-Some.name c.refuse_name.result _ _
+    (sym (c.in_ok-refused.ensures c.args.accepted.now.opened.now c.in_ok-names.ensures) ∙ ap (option_map refused_line) c.in-Some.is) c.refuse_name.ensures
+
+pub how_inputs-requires-clause-taken : goal.how_inputs-requires-clause-taken
+how_inputs-requires-clause-taken g c =
+    none_refused c.args.options.now c.args.accepted.now.opened.now c.args.accepted.now.laid.tree.now
+    (sym (c.in_ok-refused.ensures c.args.accepted.now.opened.now c.in_ok-names.ensures) ∙ ap (option_map refused_line) c.in_default.is)
+
+pub returns-in-Ok : goal.returns-in-Ok
+returns-in-Ok g c = λ files before told tells is. c.how_inputs.ensures files before told (g.D.Device.log c.args.device.now) tells (rw is c.in-Ok.ensures)
+
+pub returns : goal.returns
+returns g c = λ files before told tells is.
+    Leaves-unsaid (how-goes c.one_answer.ensures c.exactly_one_outcome.ensures tells c.args.inquiry.now.asked.now
+    (none_refused c.args.options.now c.args.accepted.now.opened.now c.args.accepted.now.laid.tree.now
+    (sym (c.in_ok-refused.ensures c.args.accepted.now.opened.now c.in_ok-names.ensures) ∙ ap (option_map refused_line) c.in_default.is))) c.in-Err.stop _ _ is c.in-Err.ensures

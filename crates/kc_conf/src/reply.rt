@@ -1,0 +1,196 @@
+//! What a run replies that is asked what must be set so that a symbol has a value.
+ghost use Rattle.std.specs.Prelude.{All, IfOk, Some, map, not, ◌<◌, ◌||◌, ◌≡◌};
+ghost use Rattle.kc_language.specs.ConfigFile.{ArePlacesOf};
+ghost use Rattle.kc_language.specs.Values.{name_count};
+ghost use Rattle.kc_language.specs.declared.expressions.SymId.{SymId};
+ghost use Rattle.kc_possible.specs.Possible.{IsOff};
+ghost use Rattle.kc_how.specs.How.{IsFix, IsOutOfReach};
+ghost use Rattle.kc_how.specs.FixTexts as spec;
+ghost use Rattle.kc_how.specs.Questions.{IsQuestion, IsWith, goal_of};
+ghost use Rattle.kc_conf.specs.How.{asked_first};
+ghost use Rattle.kc_conf.specs.HowParts.{IsInquiry, IsReply, Replies};
+
+use crate::accepted::OrderedTree;
+use kc_explain::asked_symbol;
+use kc_expr::expression::SymId;
+use kc_expr::values::Values;
+use kc_how::answer::{Answer, Miss, answered};
+use kc_how::fix::{fragment_alone, with_fragment};
+use kc_how::goal::{Goal, wanted_value};
+use kc_how::question::Question;
+use kc_how::text::{Fix, fix_text, impossible_text, loses_nothing, no_value_text, not_found_text};
+use kc_input::user_input::UserInput;
+use kc_options::Options;
+use kc_possible::possible::Possible;
+use kc_solve::solve::solve;
+use kc_tree::tree::Tree;
+use std::alloc::{AllocError, Global};
+
+/// What is asked of the symbol of the first name to be explained (our own).
+#[derive(Clone, Copy, Debug)]
+pub struct Asked<'w> {
+    /// The value that it shall have, as it stands right of the `=` of a `.config` line. A string may also stand without quotes.
+    pub value: &'w str,
+    /// The number of fragments that may be tried.
+    pub steps: usize,
+}
+
+/// What is asked of a tree, and what its symbols may be.
+#[derive(Clone, Copy)]
+pub(crate) struct Inquiry<'q> {
+    pub asked: &'q Asked<'q>,
+    pub possible: &'q Possible<'q>,
+}
+
+/// A reply.
+#[derive(Drop)]
+pub(crate) enum Reply {
+    /// This text, for each output.
+    Text(Vec<u8>),
+    /// The lines of a refusal.
+    Refusal(Vec<u8>),
+}
+
+// ---- to a question
+
+// No fix was found.
+fn not_found(
+    alloc: Global,
+    question: &Question<'_, '_, '_, '_>,
+    miss: Miss,
+) -> Result<Reply, AllocError>
+    ensures { IfOk result (Replies question.now) }
+{
+    let text = not_found_text(
+        alloc,
+        question.laid.tree,
+        question.prefix,
+        question.goal,
+        question.steps,
+        miss,
+    )?;
+    Ok(Reply::Refusal(text))
+}
+
+// No input reaches the goal, and these symbols are off.
+fn impossible(
+    alloc: Global,
+    question: &Question<'_, '_, '_, '_>,
+    reasons: &[SymId],
+) -> Result<Reply, AllocError>
+    requires { IsOutOfReach question.now.laid.now.tree.now (goal_of question.now.goal.now) × All (IsOff question.now.laid.now.tree.now) reasons.now }
+    ensures { IfOk result (Replies question.now) }
+{
+    let text = impossible_text(
+        alloc,
+        question.laid.tree,
+        question.prefix,
+        question.goal,
+        reasons,
+    )?;
+    Ok(Reply::Refusal(text))
+}
+
+// Whether a fix counts: where no value may be lost, it loses none.
+fn counts(question: &Question<'_, '_, '_, '_>, fix: &Fix<'_, '_>) -> bool
+    requires question { IsQuestion question.now }
+    requires fix { IsWith question.now fix.now }
+    ensures { result ≡ (not question.now.is_strict || spec.loses_nothing question.now.laid.now.tree.now question.now.prefix.now question.now.input.now question.now.before.now
+        fix.now.after.now (map (λ line. line.items) fix.now.lines.now)) }
+{
+    !question.is_strict || loses_nothing(question, fix)
+}
+
+// A fragment of these lines is a fix.
+fn fixed(
+    alloc: Global,
+    question: &Question<'_, '_, '_, '_>,
+    lines: &[Vec<u8>],
+) -> Result<Reply, AllocError>
+    requires question { IsQuestion question.now }
+    requires fix { IsFix question.now.laid.now.tree.now question.now.prefix.now question.now.input.now question.now.before.now (goal_of question.now.goal.now)
+        (map (λ line. line.items) lines.now) }
+    ensures { IfOk result (Replies question.now) }
+{
+    let alone = fragment_alone(alloc, question, lines)?;
+    let user = with_fragment(alloc, question, lines)?;
+    let after = solve(alloc, question.laid, question.order, &user)?;
+    let fix = Fix {
+        lines,
+        alone: &alone,
+        after: &after,
+    };
+    if counts(question, &fix) {
+        let text = fix_text(alloc, question, &fix)?;
+        Ok(Reply::Text(text))
+    } else {
+        not_found(alloc, question, Miss::NoPlanLeft)
+    }
+}
+
+// The reply to a question.
+fn reply_to(alloc: Global, question: &Question<'_, '_, '_, '_>) -> Result<Reply, AllocError>
+    requires { IsQuestion question.now }
+    ensures { IfOk result (Replies question.now) }
+{
+    let answer = answered(alloc, question)?;
+    match answer {
+        Answer::Found(lines) => fixed(alloc, question, &lines),
+        Answer::Impossible(reasons) => impossible(alloc, question, &reasons),
+        Answer::NotFound(miss) => not_found(alloc, question, miss),
+    }
+}
+
+// ---- about an input
+
+// The symbol of the first name to be explained, if there is one.
+fn asked_first(options: &Options, tree: &Tree) -> Option<SymId>
+    ensures symbol { result ≡ asked_first options.now tree.now }
+    ensures there { (s : SymId) → result ≡ Some s → s.0 < name_count tree.now }
+{
+    let _count = tree.name_count();
+    match options.explain.as_slice() {
+        [] => None,
+        [name, ..] => asked_symbol(tree, &options.prefix, name.as_bytes()),
+    }
+}
+
+/// The reply about the user's input of an accepted tree. The caller must pass an order, bounds and user values of the tree. The
+/// only error is that memory runs out.
+pub(crate) fn reply_about(
+    alloc: Global,
+    options: &Options,
+    inquiry: &Inquiry<'_>,
+    accepted: &OrderedTree<'_>,
+    input: &UserInput<'_>,
+) -> Result<Reply, AllocError>
+    requires inquiry { IsInquiry accepted.now inquiry.now }
+    requires places { ArePlacesOf accepted.now.laid.tree.now input.now.places }
+    ensures { IfOk result (IsReply options.now inquiry.now.asked.now accepted.now.laid.tree.now input.now) }
+{
+    let asked = inquiry.asked;
+    let before = solve(alloc, &accepted.laid, &accepted.order, input.user())?;
+    let tree = accepted.laid.tree;
+    let Some(symbol) = asked_first(options, tree) else {
+        return Ok(Reply::Text(Vec::new(alloc)));
+    };
+    let symbol_type = before.symbol_type(symbol);
+    let text = asked.value.as_bytes();
+    let Some(value) = wanted_value(alloc, symbol_type, text, options.prefix.is_raw())? else {
+        let line = no_value_text(alloc, tree, &options.prefix, symbol, asked.value)?;
+        return Ok(Reply::Refusal(line));
+    };
+    let goal = Goal { symbol, value };
+    let question = Question {
+        laid: &accepted.laid,
+        order: &accepted.order,
+        possible: inquiry.possible,
+        prefix: &options.prefix,
+        input,
+        before: &before,
+        goal: &goal,
+        steps: asked.steps,
+        is_strict: options.strict,
+    };
+    reply_to(alloc, &question)
+}
