@@ -75,9 +75,9 @@ module _ (law : LookingKeeps) (old new : Journal) where
 
 pub named_stand_apart_law : LookingKeeps → NamedStandApart
 named_stand_apart_law law each folder folder_after before after status (unlisted line is says e) = ends_before (tries_keep law before after line says)
-named_stand_apart_law law each folder folder_after before after status (clashing names wrong are leads clash says) = ends_before (usage_keeps law before after wrong says.1)
+named_stand_apart_law law each folder folder_after before after status (clashing names wrong runs are leads clash says) = ends_before (usage_keeps law before after wrong says.1)
 named_stand_apart_law law each folder folder_after before after status (unloaded names fault are apart is says e) = ends_before (tries_keep law before after _ says)
-named_stand_apart_law law each folder folder_after before after status (including names files is are apart of_folder leads runs) = includes is
-named_stand_apart_law law each folder folder_after before after status (loaded names files is are apart of_folder leads runs) =
-    leaves names files are of_folder
-    (each_leaves_its_part_law (GivesOptions each names) (length names) files (string_bytes each.options.kconfig) before after status (separate each names apart) runs)
+named_stand_apart_law law each folder folder_after before after status (including names files is ready runs) = includes is
+named_stand_apart_law law each folder folder_after before after status (loaded names files is ready runs) =
+    leaves names files ready.names_are ready.files_are
+    (each_leaves_its_part_law (GivesOptions each names) (length names) files (string_bytes each.options.kconfig) before after status (separate each names (ready.apart refl)) runs)

@@ -7,8 +7,8 @@ use Rattle.kc_outcome.specs.{Outcome.{Options, file_for}, declared.outcome.{Outp
 use Rattle.kc_io.specs.Log.{Journal, Log, TriesToSay, held}
 use Rattle.kc_language.specs.Lines.{is_whole_lines}
 use Rattle.kc_load.specs.{Folder.{AnswersAs, AreFilesOf, FolderState, IsLoadFault, Leads as FolderLeads, failed_load, files_told}, declared.fault.LoadFault.LoadFault}
-use Rattle.kc_words.specs.{CommandLine.{AreApart, AreOptionsFor, IsClash, IsRefused, IsRequestOf, arguments_of, kconf_app, listed, refusal_of, rows_for, with_hint}, declared.{each.Each.Each, options.Request.{Request, TheVariants.{Dead, One, Each as Many}}, usage.UsageError.{UsageError, TheVariants.{Bad, Memory}}}}
-use Rattle.kc_conf.specs.{Dead.FolderListsDead, Faults.{FolderRuns, load_line}, Many.{LeavesEach, RunsEach}}
+use Rattle.kc_words.specs.{CommandLine.{AreApart, AreOptionsFor, IsClash, IsRefused, IsRequestOf, arguments_of, kconf_app, listed, refusal_of, rows_for, with_hint}, declared.{each.Each.Each, how.{EachQuestion.EachQuestion, HowQuestion.HowQuestion}, options.Request.{Request, TheVariants.{Dead, How, HowEach, One, Each as Many}}, usage.UsageError.{UsageError, TheVariants.{Bad, Memory}}}}
+use Rattle.kc_conf.specs.{Dead.FolderListsDead, Faults.{FolderRuns, load_line}, How.{FolderHowRuns, HowRunsEach}, Many.{LeavesEach, RunsEach}, declared.reply.Asked.Asked}
 use Rattle.kc_disk.specs.declared.arguments.Arguments.{Arguments, TheVariants.{Given, Unread}}
 
 -- The exit status.
@@ -66,10 +66,15 @@ pub data RunsIncluding (options : Options) (folder folder_after : Option FolderS
   ran_pieces : (pieced : Options) → IsPieced options pieced → FolderRuns pieced folder folder_after None None status →
       RunsIncluding options folder folder_after status
 
-pub data RunsEachIncluding (files : Files) (each : Each) (names : List (List ℕ)) (status : Status) : Type 0 where
-  no_pieces_for_each : status ≡ Faulted → RunsEachIncluding files each names status
-  ran_each : RunsEach files (string_bytes each.options.kconfig) (GivesPieced each names) (length names) None None status →
-      RunsEachIncluding files each names status
+-- The turns of many configurations: runs, or answers to what is asked of each.
+abbrev pub TakesTurns : Option Asked → Files → List ℕ → (ℕ → Options → Type 0) → ℕ → Log → Log → Status → Type 0
+TakesTurns None files root options count old new status = RunsEach files root options count old new status
+TakesTurns (Some asked) files root options count old new status = HowRunsEach asked files root options count old new status
+
+pub data TurnsIncluding (asked : Option Asked) (files : Files) (each : Each) (names : List (List ℕ)) (status : Status) : Type 0 where
+  no_pieces_for_each : status ≡ Faulted → TurnsIncluding asked files each names status
+  ran_each : TakesTurns asked files (string_bytes each.options.kconfig) (GivesPieced each names) (length names) None None status →
+      TurnsIncluding asked files each names status
 
 -- The list cannot be read: the folder failed at its path, the file does not exist, or it is not UTF-8.
 pub data HasNoList (list : List ℕ) (folder folder_after : Option FolderState) : Type 0 where
@@ -89,21 +94,30 @@ pub record IsUnloaded (each : Each) (fault : LoadFault) (folder folder_after : O
   pub cause : IsLoadFault (files_told folder_after) (string_bytes each.options.root) (string_bytes each.options.kconfig) fault
   pub leads : FolderLeads (failed_load {A = Unit {0}} (string_bytes each.options.root) (Err fault)) folder folder_after
 
--- A run for many configurations. If the list cannot be read, the configurations share files, or the tree cannot be loaded, that is reported and
+-- The configurations have these names and share no file, and these are the files of the tree. Answers go to standard output, so they share none.
+pub record AreReady (asked : Option Asked) (each : Each) (folder folder_after : Option FolderState) (names : List (List ℕ)) (files : Files) : Type 0 where
+  pub names_are : AreNames each folder_after names
+  pub apart : asked ≡ None → AreApart each names
+  pub files_are : AreFilesOf (files_told folder_after) (string_bytes each.options.root) (string_bytes each.options.kconfig) each.options.is_flat files
+  pub leads : FolderLeads [] folder folder_after
+
+-- Turns for many configurations. If the list cannot be read, the configurations share files, or the tree cannot be loaded, that is reported and
 -- nothing else is done.
-module _ (each : Each) (folder folder_after : Option FolderState) (old new : Log) (status : Status) where
-  pub data FolderRunsEach : Type 0 where
-    unlisted : (line : List ℕ) → IsUnlisted each folder folder_after line → TriesToSay line old new → status ≡ Faulted → FolderRunsEach
-    clashing : (names : List (List ℕ)) (usage : UsageError) → AreNames each folder_after names → FolderLeads [] folder folder_after →
-        IsClash each names usage → EndsUsage usage status × SaysUsage usage old new → FolderRunsEach
-    unloaded : (names : List (List ℕ)) (fault : LoadFault) → AreNames each folder_after names → AreApart each names →
-        IsUnloaded each fault folder folder_after → TriesToSay (load_line fault) old new → status ≡ Faulted → FolderRunsEach
-    including : (names : List (List ℕ)) (files : Files) → is_some each.options.include ≡ true → AreNames each folder_after names →
-        AreApart each names → AreFilesOf (files_told folder_after) (string_bytes each.options.root) (string_bytes each.options.kconfig) each.options.is_flat files → FolderLeads [] folder folder_after →
-        RunsEachIncluding files each names status → FolderRunsEach
-    loaded : (names : List (List ℕ)) (files : Files) → is_some each.options.include ≡ false → AreNames each folder_after names →
-        AreApart each names → AreFilesOf (files_told folder_after) (string_bytes each.options.root) (string_bytes each.options.kconfig) each.options.is_flat files → FolderLeads [] folder folder_after →
-        RunsEach files (string_bytes each.options.kconfig) (GivesOptions each names) (length names) old new status → FolderRunsEach
+module _ (asked : Option Asked) (each : Each) (folder folder_after : Option FolderState) (old new : Log) (status : Status) where
+  pub data FolderTurns : Type 0 where
+    unlisted : (line : List ℕ) → IsUnlisted each folder folder_after line → TriesToSay line old new → status ≡ Faulted → FolderTurns
+    clashing : (names : List (List ℕ)) (usage : UsageError) → asked ≡ None → AreNames each folder_after names → FolderLeads [] folder folder_after →
+        IsClash each names usage → EndsUsage usage status × SaysUsage usage old new → FolderTurns
+    unloaded : (names : List (List ℕ)) (fault : LoadFault) → AreNames each folder_after names → (asked ≡ None → AreApart each names) →
+        IsUnloaded each fault folder folder_after → TriesToSay (load_line fault) old new → status ≡ Faulted → FolderTurns
+    including : (names : List (List ℕ)) (files : Files) → is_some each.options.include ≡ true → AreReady asked each folder folder_after names files →
+        TurnsIncluding asked files each names status → FolderTurns
+    loaded : (names : List (List ℕ)) (files : Files) → is_some each.options.include ≡ false → AreReady asked each folder folder_after names files →
+        TakesTurns asked files (string_bytes each.options.kconfig) (GivesOptions each names) (length names) old new status → FolderTurns
+
+-- A run for each of them.
+abbrev pub FolderRunsEach : Each → Option FolderState → Option FolderState → Log → Log → Status → Type 0
+FolderRunsEach each folder folder_after old new status = FolderTurns None each folder folder_after old new status
 
 -- What such a run leaves in the files. It ends before the first configuration and changes no file; or it leaves what each configuration leaves for
 -- the files as they were before the run. (The content of pieces is not recorded, so nothing is specified for a run with --include.)
@@ -136,12 +150,37 @@ abbrev pub EndsOne : Bool → Options → Option FolderState → Option FolderSt
 EndsOne true options folder folder_after old new status = RunsIncluding options folder folder_after status
 EndsOne false options folder folder_after old new status = FolderRuns options folder folder_after old new status
 
--- A run for one configuration or for many, or a list of dead prompts.
+-- What must be set so that a symbol has a value: for the value and the number of tries of the question. The same for many configurations.
+pub record IsAskedBy (value : String Global) (steps : ℕ) (asked : Asked) : Type 0 where
+  pub value_is : asked.value.now ≡ string_bytes value
+  pub steps_are : asked.steps ≡ steps
+
+abbrev pub FolderAsks : HowQuestion → Option FolderState → Option FolderState → Log → Log → Status → Type 0
+FolderAsks how folder folder_after old new status =
+    (asked : Asked) × IsAskedBy how.value how.steps asked × FolderHowRuns how.options asked folder folder_after old new status
+
+abbrev pub FolderAsksEach : EachQuestion → Option FolderState → Option FolderState → Log → Log → Status → Type 0
+FolderAsksEach how folder folder_after old new status =
+    (asked : Asked) × IsAskedBy how.value how.steps asked × FolderTurns (Some asked) how.each folder folder_after old new status
+
+-- The same with or without included files. There was not enough memory for the pieces; or it is asked over them.
+pub data AsksIncluding (how : HowQuestion) (folder folder_after : Option FolderState) (status : Status) : Type 0 where
+  no_pieces_to_ask : folder_after ≡ folder → status ≡ Faulted → AsksIncluding how folder folder_after status
+  asked_pieces : (pieced : Options) → IsPieced how.options pieced → FolderAsks (record how { options = pieced }) folder folder_after None None status →
+      AsksIncluding how folder folder_after status
+
+abbrev pub EndsHow : Bool → HowQuestion → Option FolderState → Option FolderState → Log → Log → Status → Type 0
+EndsHow true how folder folder_after old new status = AsksIncluding how folder folder_after status
+EndsHow false how folder folder_after old new status = FolderAsks how folder folder_after old new status
+
+-- A run for one configuration or for many, a list of dead prompts, or what must be set in one configuration or in many.
 abbrev pub EndsAsked : Request → Option FolderState → Option FolderState → Log → Log → Status → Type 0
 EndsAsked (One options) folder folder_after old new status = EndsOne (is_some options.include) options folder folder_after old new status
 EndsAsked (Many each) folder folder_after old new status = FolderRunsEach each folder folder_after old new status
 EndsAsked (Dead dead) folder folder_after old new status =
     FolderListsDead dead.options (string_bytes dead.file) folder folder_after old new status
+EndsAsked (How how) folder folder_after old new status = EndsHow (is_some how.options.include) how folder folder_after old new status
+EndsAsked (HowEach how) folder folder_after old new status = FolderAsksEach how folder folder_after old new status
 
 -- What is done with the arguments: the requested run; or the error is reported, and nothing else is done.
 module _ (arguments : List (String Global)) (folder folder_after : Option FolderState) (old new : Log) (status : Status) where

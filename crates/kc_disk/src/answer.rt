@@ -1,16 +1,17 @@
 //! Does what arguments request.
 ghost use Rattle.std.specs.Prelude.{◌≡◌};
 ghost use Rattle.kc_disk.specs.Program.{AnswersArguments, EndsAsked, KconfEnds, EndsUsage, SaysUsage};
-ghost use Rattle.kc_words.specs.declared.options.Request.TheVariants.{One};
+ghost use Rattle.kc_words.specs.declared.options.Request.TheVariants.{How, One};
 
 use crate::arguments::Arguments;
-use crate::each::run_each_in_folder;
-use crate::including::run_including;
+use crate::asking::ask;
+use crate::each::{ask_each_in_folder, run_each_in_folder};
+use crate::including::{ask_including, run_including};
 use crate::usage::say_usage;
 use kc_conf::{AcceptedTree, Options, Status, list_dead_in_folder, run_in_folder};
 use kc_io::Device;
 use kc_load::Folder;
-use kc_words::{Request, UsageError, request_of};
+use kc_words::{HowQuestion, Request, UsageError, request_of};
 
 // Prints help or the version to standard output, or reports the error. Returns `Faulted` if standard output does not
 // take all of it.
@@ -46,6 +47,22 @@ fn answer_one<F: Folder, D: Device>(
     run_in_folder(rt.alloc(), folder, &options, device, kept)
 }
 
+// Tells what must be set.
+fn answer_how<F: Folder, D: Device>(
+    rt: &HostRuntime,
+    how: HowQuestion,
+    folder: &mut F,
+    device: &mut D,
+    kept: &mut Option<AcceptedTree>,
+) -> Status
+    ensures { EndsAsked (How how) (F.state folder.old) (F.state folder.new) (D.log device.old) (D.log device.new) result }
+{
+    if how.options.include.is_some() {
+        return ask_including(rt.alloc(), folder, how, device, kept);
+    }
+    ask(rt.alloc(), folder, &how, device, kept)
+}
+
 // Does what the arguments request.
 fn answer_given<F: Folder, D: Device>(
     rt: &HostRuntime,
@@ -63,6 +80,8 @@ fn answer_given<F: Folder, D: Device>(
             let file = dead.file.as_str();
             list_dead_in_folder(rt.alloc(), folder, &dead.options, file, device, kept)
         }
+        Ok(Request::How(how)) => answer_how(rt, how, folder, device, kept),
+        Ok(Request::HowEach(how)) => ask_each_in_folder(rt.alloc(), folder, &how, device, kept),
         Err(usage) => print_usage(rt, device, &usage),
     }
 }

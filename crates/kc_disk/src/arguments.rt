@@ -111,7 +111,8 @@ fn writes_where_it_reads(rt: &HostRuntime, arguments: &[String]) -> bool
             }
             has_no_place(rt, options.config.as_str())
         }
-        Ok(Request::Each(_) | Request::Dead(_)) | Err(_) => false,
+        Ok(Request::Each(_) | Request::Dead(_) | Request::How(_) | Request::HowEach(_)) | Err(_) =>
+            { false }
     }
 }
 

@@ -1,27 +1,31 @@
-//! A run for many configurations over a folder.
+//! Runs and answers for many configurations over a folder.
 ghost use Rattle.std.specs.Prelude.{◌≡◌, length, map, string_bytes, IfOk};
-ghost use Rattle.kc_disk.specs.Program.{FolderRunsEach, GivesOptions};
+ghost use Rattle.kc_conf.specs.Many.{AreRootedAt};
+ghost use Rattle.kc_disk.specs.Program.{FolderAsksEach, FolderRunsEach, GivesOptions, TakesTurns};
 ghost use Rattle.kc_disk.specs.EachSteps.{FindsNames, IsUnreadable, ReadsList, ReadsListIf, RunsLoaded, RunsNamed};
 ghost use Rattle.kc_read.specs.Files.{files_in};
 
-use crate::including::run_each_including;
+use crate::including::take_turns_including;
 use crate::usage::say_usage;
-use kc_conf::{AcceptedTree, Configurations, Options, Status, run_each, say_load_fault};
+use kc_conf::{
+    AcceptedTree, Asked, Configurations, Options, Status, how_each, run_each, say_load_fault,
+};
 use kc_io::Device;
 use kc_load::{Folder, FolderFault, LoadFault, load};
 use kc_options::wants_sources;
 use kc_read::file_map::FileMap;
-use kc_words::{Each, list_of};
+use kc_words::{Each, EachQuestion, list_of};
 use std::alloc::{AllocError, Global};
 
-// The options of each of these configurations.
+/// The configurations of these names, and what is asked of each: nothing if each is run.
 #[derive(Drop)]
-struct NamedConfigurations<'e> {
-    each: &'e Each,
-    names: &'e [String],
+pub(crate) struct Named<'e, 'n> {
+    pub(crate) each: &'e Each,
+    pub(crate) names: &'n [String],
+    pub(crate) asked: Option<Asked<'e>>,
 }
 
-impl<'e> Configurations for NamedConfigurations<'e> {
+impl<'e, 'n> Configurations for Named<'e, 'n> {
     ghost options = { λ s. GivesOptions s.each.now (map string_bytes s.names.now) };
 
     ghost number = { λ s. length s.names.now };
@@ -118,42 +122,100 @@ pub fn run_each_in_folder<F: Folder, D: Device>(
         }
     };
     match each.check_names(alloc, &names) {
-        Ok(()) => run_named(alloc, folder, each, &names, device, kept),
+        Ok(()) => {
+            let named = Named {
+                each,
+                names: &names,
+                asked: None,
+            };
+            take_named(alloc, folder, &named, device, kept)
+        }
         Err(usage) => say_usage(device, &usage),
     }
 }
 
-// Runs for these configurations over the loaded files.
-fn run_loaded<D: Device>(
-    alloc: Global,
-    files: FileMap,
-    each: &Each,
-    names: &[String],
-    device: &mut D,
-    kept: &mut Option<AcceptedTree>,
-) -> Status
-    ensures { RunsLoaded (files_in files) each.now (map string_bytes names.now) (D.log device.old) (D.log device.new) result }
-{
-    if each.options.include.is_some() {
-        return run_each_including(alloc, files, each, names, device, kept);
-    }
-    let configurations = NamedConfigurations { each, names };
-    let kconfig = each.options.kconfig.as_str();
-    run_each(alloc, files, kconfig, &configurations, device, kept)
-}
-
-// Runs for these configurations.
-fn run_named<F: Folder, D: Device>(
+/// Tells for each of many configurations what must be set so that the symbol of the question has the value (our own). The
+/// configurations are found like those of [`run_each_in_folder`].
+///
+/// If the list cannot be read (E18), or the files of the tree cannot be loaded (E18, E20), that is reported, and nothing else
+/// is done. Otherwise it does the same as `how_each` of kc_conf.
+pub(crate) fn ask_each_in_folder<F: Folder, D: Device>(
     alloc: Global,
     folder: &mut F,
-    each: &Each,
-    names: &[String],
+    how: &EachQuestion,
     device: &mut D,
     kept: &mut Option<AcceptedTree>,
 ) -> Status
-    ensures { RunsNamed each.now (map string_bytes names.now) (F.state folder.old) (F.state folder.new) (D.log device.old) (D.log device.new) result }
+    ensures { FolderAsksEach how.now (F.state folder.old) (F.state folder.new) (D.log device.old) (D.log device.new) result }
 {
-    let options = &each.options;
+    let asked = Asked {
+        value: how.value.as_str(),
+        steps: how.steps,
+    };
+    match names_of(alloc, folder, &how.each) {
+        Ok(names) => {
+            let named = Named {
+                each: &how.each,
+                names: &names,
+                asked: Some(asked),
+            };
+            take_named(alloc, folder, &named, device, kept)
+        }
+        Err(fault) => {
+            say_load_fault(&fault, device);
+            Status::Faulted
+        }
+    }
+}
+
+/// Lets the configurations take their turns: each runs, or answers what is asked.
+pub(crate) fn take_turns<C: Configurations, D: Device>(
+    alloc: Global,
+    files: FileMap,
+    root: &str,
+    configurations: &C,
+    asked: &Option<Asked<'_>>,
+    device: &mut D,
+    kept: &mut Option<AcceptedTree>,
+) -> Status
+    requires { AreRootedAt root.now (C.options configurations.now) }
+    ensures { TakesTurns asked.now (files_in files) root.now (C.options configurations.now) (C.number configurations.now) (D.log device.old) (D.log device.new) result }
+{
+    match asked {
+        Some(asked) => how_each(alloc, files, root, configurations, asked, device, kept),
+        None => run_each(alloc, files, root, configurations, device, kept),
+    }
+}
+
+// Lets these configurations take their turns over the loaded files.
+fn take_loaded<D: Device>(
+    alloc: Global,
+    files: FileMap,
+    named: &Named<'_, '_>,
+    device: &mut D,
+    kept: &mut Option<AcceptedTree>,
+) -> Status
+    ensures { RunsLoaded named.now.asked (files_in files) named.now.each.now (map string_bytes named.now.names.now) (D.log device.old) (D.log device.new) result }
+{
+    let options = &named.each.options;
+    if options.include.is_some() {
+        return take_turns_including(alloc, files, named, device, kept);
+    }
+    let root = options.kconfig.as_str();
+    take_turns(alloc, files, root, named, &named.asked, device, kept)
+}
+
+// Lets these configurations take their turns.
+fn take_named<F: Folder, D: Device>(
+    alloc: Global,
+    folder: &mut F,
+    named: &Named<'_, '_>,
+    device: &mut D,
+    kept: &mut Option<AcceptedTree>,
+) -> Status
+    ensures { RunsNamed named.now.asked named.now.each.now (map string_bytes named.now.names.now) (F.state folder.old) (F.state folder.new) (D.log device.old) (D.log device.new) result }
+{
+    let options = &named.each.options;
     match load(
         alloc,
         folder,
@@ -161,7 +223,7 @@ fn run_named<F: Folder, D: Device>(
         options.kconfig.as_str(),
         options.is_flat,
     ) {
-        Ok(files) => run_loaded(alloc, files, each, names, device, kept),
+        Ok(files) => take_loaded(alloc, files, named, device, kept),
         Err(fault) => {
             say_load_fault(&fault, device);
             Status::Faulted

@@ -3,18 +3,17 @@ ghost use Rattle.std.specs.Prelude.{◌≡◌, None, length, map, string_bytes, 
 ghost use Rattle.kc_read.specs.Files.{files_in};
 ghost use Rattle.kc_outcome.specs.declared.outcome.Status.TheVariants as status;
 ghost use Rattle.kc_conf.specs.Faults.{FolderRuns};
-ghost use Rattle.kc_conf.specs.Many.{RunsEach};
-ghost use Rattle.kc_disk.specs.Program.{GivesPieced, IsPieced, RunsEachIncluding, RunsIncluding};
+ghost use Rattle.kc_disk.specs.Program.{AsksIncluding, FolderAsks, GivesPieced, IsPieced, RunsIncluding, TakesTurns, TurnsIncluding};
 
-use kc_conf::{
-    AcceptedTree, Configurations, Options, Status, run_each, run_in_folder, say_load_fault,
-};
+use crate::asking::ask;
+use crate::each::{Named, take_turns};
+use kc_conf::{AcceptedTree, Configurations, Options, Status, run_in_folder, say_load_fault};
 use kc_include::{Inputs, Piece, PiecedDevice, later_names};
 use kc_io::Device;
 use kc_load::{Folder, LoadFault};
 use kc_options::wants_sources;
 use kc_read::file_map::FileMap;
-use kc_words::Each;
+use kc_words::HowQuestion;
 use std::alloc::{AllocError, Global};
 use std::cell::Cell;
 
@@ -157,33 +156,97 @@ pub(crate) fn run_including<F: Folder, D: Device>(
     }
 }
 
+// Asks over pieces.
+fn ask_pieces<F: Folder, D: Device>(
+    alloc: Global,
+    folder: &mut F,
+    how: &HowQuestion,
+    turns: &[Vec<Piece<'_>>],
+    device: &mut D,
+    kept: &mut Option<AcceptedTree>,
+) -> Status
+    ensures { FolderAsks how.now (F.state folder.old) (F.state folder.new) None None result }
+{
+    let turn = Cell::new(0);
+    let mut pieces = PiecedDevice::new(device, turns, &turn);
+    ask(alloc, folder, how, &mut pieces, kept)
+}
+
+// Asks over the input files that were read.
+fn ask_inputs<F: Folder, D: Device>(
+    alloc: Global,
+    folder: &mut F,
+    how: HowQuestion,
+    inputs: &Inputs,
+    device: &mut D,
+    kept: &mut Option<AcceptedTree>,
+) -> Status
+    ensures { AsksIncluding how (F.state folder.old) (F.state folder.new) result }
+{
+    let HowQuestion {
+        options,
+        value,
+        steps,
+    } = how;
+    match turn_of(alloc, options, inputs) {
+        Ok((options, turns)) => {
+            let pieced = HowQuestion {
+                options,
+                value,
+                steps,
+            };
+            ask_pieces(alloc, folder, &pieced, &turns, device, kept)
+        }
+        Err(_) => say_no_memory(device),
+    }
+}
+
+/// Tells what must be set so that the symbol of the question has the value, with the files that lines of the input files
+/// include (our own).
+///
+/// The input files and their included files are read at once, before the tree, as by [`run_including`].
+pub(crate) fn ask_including<F: Folder, D: Device>(
+    alloc: Global,
+    folder: &mut F,
+    how: HowQuestion,
+    device: &mut D,
+    kept: &mut Option<AcceptedTree>,
+) -> Status
+    ensures { AsksIncluding how (F.state folder.old) (F.state folder.new) result }
+{
+    match read_inputs(alloc, &how.options, &[how.options.config.as_str()], device) {
+        Ok(inputs) => ask_inputs(alloc, folder, how, &inputs, device, kept),
+        Err(_) => say_no_memory(device),
+    }
+}
+
 // The options of each of these configurations, for its pieces.
 #[derive(Drop)]
 struct PiecedConfigurations<'e> {
-    each: &'e Each,
-    names: &'e [String],
+    named: &'e Named<'e, 'e>,
     turns: &'e [Vec<Piece<'e>>],
     // The current turn.
     turn: &'e Cell<usize>,
 }
 
 impl<'e> Configurations for PiecedConfigurations<'e> {
-    ghost options = { λ s. GivesPieced s.each.now (map string_bytes s.names.now) };
+    ghost options = { λ s. GivesPieced s.named.now.each.now (map string_bytes s.named.now.names.now) };
 
-    ghost number = { λ s. length s.names.now };
+    ghost number = { λ s. length s.named.now.names.now };
 
     fn count(&self) -> usize {
-        self.names.len()
+        self.named.names.len()
     }
 
     fn options_of(&self, alloc: Global, i: usize) -> Result<Options, AllocError> {
         self.turn.set(i);
-        let options = self.each.options_for(alloc, self.names[i].as_str())?;
+        let name = self.named.names[i].as_str();
+        let options = self.named.each.options_for(alloc, name)?;
         pieced(alloc, options, self.turns, i)
     }
 
     fn keeps_sources(&self) -> bool {
-        wants_sources(&self.each.options)
+        wants_sources(&self.named.each.options)
     }
 }
 
@@ -199,72 +262,78 @@ fn texts_of<'e>(alloc: Global, names: &'e [String]) -> Result<Vec<&'e str>, Allo
 // Reads the input files of these configurations.
 fn read_each<D: Device>(
     alloc: Global,
-    each: &Each,
-    names: &[String],
+    named: &Named<'_, '_>,
     device: &mut D,
 ) -> Result<Inputs, AllocError> {
-    let texts = texts_of(alloc, names)?;
-    read_inputs(alloc, &each.options, &texts, device)
+    let texts = texts_of(alloc, named.names)?;
+    read_inputs(alloc, &named.each.options, &texts, device)
 }
 
-// Runs over the pieces of these configurations.
-fn run_each_turn<D: Device>(
+// Lets the configurations take their turns over these pieces.
+fn take_pieces<D: Device>(
     alloc: Global,
     files: FileMap,
-    each: &Each,
-    names: &[String],
+    named: &Named<'_, '_>,
     turns: &[Vec<Piece<'_>>],
     device: &mut D,
     kept: &mut Option<AcceptedTree>,
 ) -> Status
-    ensures { RunsEach (files_in files) (string_bytes each.now.options.kconfig) (GivesPieced each.now (map string_bytes names.now)) (length names.now) None None result }
+    ensures { let each = named.now.each.now in
+        TakesTurns named.now.asked (files_in files) (string_bytes each.options.kconfig) (GivesPieced each (map string_bytes named.now.names.now)) (length named.now.names.now) None None result }
 {
     let turn = Cell::new(0);
     let mut pieces = PiecedDevice::new(device, turns, &turn);
     let configurations = PiecedConfigurations {
-        each,
-        names,
+        named,
         turns,
         turn: &turn,
     };
-    let kconfig = each.options.kconfig.as_str();
-    run_each(alloc, files, kconfig, &configurations, &mut pieces, kept)
+    let root = named.each.options.kconfig.as_str();
+    take_turns(
+        alloc,
+        files,
+        root,
+        &configurations,
+        &named.asked,
+        &mut pieces,
+        kept,
+    )
 }
 
-// Runs for these configurations over the input files that were read.
-fn run_each_input<D: Device>(
+// Lets these configurations take their turns over the input files that were read.
+fn take_inputs<D: Device>(
     alloc: Global,
     files: FileMap,
-    each: &Each,
-    names: &[String],
+    named: &Named<'_, '_>,
     inputs: &Inputs,
     device: &mut D,
     kept: &mut Option<AcceptedTree>,
 ) -> Status
-    ensures { RunsEachIncluding (files_in files) each.now (map string_bytes names.now) result }
+    ensures { TurnsIncluding named.now.asked (files_in files) named.now.each.now (map string_bytes named.now.names.now) result }
 {
-    match turns_of(alloc, inputs, each.options.fragments.len(), names.len()) {
-        Ok(turns) => run_each_turn(alloc, files, each, names, &turns, device, kept),
+    let fragments = named.each.options.fragments.len();
+    match turns_of(alloc, inputs, fragments, named.names.len()) {
+        Ok(turns) => take_pieces(alloc, files, named, &turns, device, kept),
         Err(_) => say_no_memory(device),
     }
 }
 
-/// Runs for these configurations over a map of files, with the files that lines of the input files include (our own).
+/// Lets these configurations take their turns over a map of files, with the files that lines of the input files include
+/// (our own).
 ///
 /// All input files and their included files are read at once, before the first turn. Then it does the same as
-/// `run_each` of kc_conf for the pieces of these files.
-pub(crate) fn run_each_including<D: Device>(
+/// `run_each` or `how_each` of kc_conf for the pieces of these files.
+pub(crate) fn take_turns_including<D: Device>(
     alloc: Global,
     files: FileMap,
-    each: &Each,
-    names: &[String],
+    named: &Named<'_, '_>,
     device: &mut D,
     kept: &mut Option<AcceptedTree>,
 ) -> Status
-    ensures { RunsEachIncluding (files_in files) each.now (map string_bytes names.now) result }
+    ensures { TurnsIncluding named.now.asked (files_in files) named.now.each.now (map string_bytes named.now.names.now) result }
 {
-    match read_each(alloc, each, names, device) {
-        Ok(inputs) => run_each_input(alloc, files, each, names, &inputs, device, kept),
+    match read_each(alloc, named, device) {
+        Ok(inputs) => take_inputs(alloc, files, named, &inputs, device, kept),
         Err(_) => say_no_memory(device),
     }
 }

@@ -9,6 +9,7 @@
 
 mod answer;
 mod arguments;
+mod asking;
 mod destination;
 mod device;
 mod diagnostics;

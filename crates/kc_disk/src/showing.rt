@@ -35,6 +35,8 @@ fn options_given(alloc: Global, arguments: &[String]) -> Option<Options> {
         Ok(Request::One(options)) => Some(options),
         Ok(Request::Each(each)) => Some(each.options),
         Ok(Request::Dead(dead)) => Some(dead.options),
+        Ok(Request::How(how)) => Some(how.options),
+        Ok(Request::HowEach(how)) => Some(how.each.options),
         Err(_) => None,
     }
 }

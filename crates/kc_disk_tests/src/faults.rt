@@ -31,6 +31,13 @@ const REFUSALS: &[Case] = &[
         diagnostics: b"error E24: no symbol has the name A\n",
         ..REFUSED
     },
+    Case {
+        name: "a value that no input gives",
+        arguments: "--how A=y Kconfig",
+        tree: &[("./Kconfig", b"config A\n\tbool \"a\"\n\tdepends on NONE\n")],
+        diagnostics: b"error E25: no input gives CONFIG_A=y\n  NONE: not defined\n",
+        ..REFUSED
+    },
 ];
 
 // Devices that fail.
@@ -105,6 +112,34 @@ const FAULTS: &[Case] = &[
             ("m", None),
             ("d", None),
         ],
+        ..FAULTED
+    },
+    Case {
+        name: "E19 of an answer for which there is no room",
+        arguments: "--how A=y Kconfig",
+        tree: &[("./Kconfig", b"config A\n\tbool \"a\"\n")],
+        plan: Plan { room: 5, ..SEVEN },
+        log: "make /dev/stdout\n",
+        diagnostics: b"error E19: cannot write /dev/stdout\n",
+        left: &[("/dev/stdout", Some(b"CONFI")), (".config", None)],
+        ..FAULTED
+    },
+    Case {
+        name: "E18 of a list of configurations",
+        arguments: "--how A=y --each-from list Kconfig",
+        tree: &[("./Kconfig", b"config A\n\tbool \"a\"\n"), ("list", b"a\n")],
+        failing: "list",
+        diagnostics: b"error E18: cannot read list\n",
+        ..FAULTED
+    },
+    Case {
+        name: "E18 of one of two configurations, with the answer for the other one",
+        arguments: "--how A=n --each Kconfig a b",
+        tree: &[("./Kconfig", b"config A\n\tbool \"a\"\n")],
+        files: &[("b", b"")],
+        log: "make /dev/stdout\nclose /dev/stdout\n",
+        diagnostics: b"a: error E18: cannot read a\n",
+        left: &[("/dev/stdout", Some(b"# b:\n# CONFIG_A=n already\n"))],
         ..FAULTED
     },
 ];

@@ -80,7 +80,7 @@ const CASES: &[Case] = &[
             (
                 "/dev/stdout",
                 Some(
-                    b"A=y (bool): user value\n  .config:1: user value y\n  Kconfig:1: dependencies: y\n  Kconfig:2: prompt: y\n",
+                    b"A=y (bool): user value\n  .config:1: user value y\n  Kconfig:1: dependencies: y\n  Kconfig:2: prompt: y\nto see what to set: --how A=VALUE\n",
                 ),
             ),
         ],

@@ -22,5 +22,13 @@ returns-in-Ok-Dead g c =
     (λ (file : List ℕ). FolderListsDead c.in-Ok-Dead.dead.options file (g.F.Folder.state c.args.folder.now) (g.F.Folder.state c.list_dead_in_folder.new.folder) (g.D.Device.log c.args.device.now) (g.D.Device.log c.list_dead_in_folder.new.device) c.list_dead_in_folder.result)
     c.as_str-file.ensures.value c.list_dead_in_folder.ensures)
 
+pub returns-in-Ok-How : goal.returns-in-Ok-How
+returns-in-Ok-How g c =
+    runs (request.How c.in-Ok-How.how) (record { faultless = c.in-Ok-How.ensures.faultless; fields = subst (λ (r : Request). IsRequestOf (rows_for c.args.arguments.now) r) c.in-Ok-How.field-0-is c.in-Ok-How.ensures.ok }) c.answer_how.ensures
+
+pub returns-in-Ok-HowEach : goal.returns-in-Ok-HowEach
+returns-in-Ok-HowEach g c =
+    runs (request.HowEach c.in-Ok-HowEach.how) (record { faultless = c.in-Ok-HowEach.ensures.faultless; fields = subst (λ (r : Request). IsRequestOf (rows_for c.args.arguments.now) r) c.in-Ok-HowEach.field-0-is c.in-Ok-HowEach.ensures.ok }) c.ask_each_in_folder.ensures
+
 pub returns-in-Err : goal.returns-in-Err
 returns-in-Err g c = none c.in-Err.usage (c.in-Err.ensures.refused, c.in-Err.ensures.taken) c.print_usage.ensures.status c.print_usage.ensures.says refl

@@ -7,6 +7,7 @@ use Rattle.kc_disk.proofs.including.PiecedConfigurationsConfigurations.keeps_sou
 
 pub returns : goal.returns
 returns c =
-    let each = c.args.self.now.each.now in
-    let names = map string_bytes c.args.self.now.names.now in
+    let named = c.args.self.now.named.now in
+    let each = named.each.now in
+    let names = map string_bytes named.names.now in
     subst (λ (b : Bool). KeepsFor (GivesPieced each names) b) (sym c.wants_sources.ensures) (keeps_for_pieces each names)

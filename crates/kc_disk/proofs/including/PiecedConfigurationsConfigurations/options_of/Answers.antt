@@ -9,11 +9,12 @@ use Rattle.kc_disk.proofs.including.PiecedConfigurationsConfigurations.options_o
 
 pub returns : goal.returns
 returns c =
-    let each = c.args.self.now.each.now in
-    let names = c.args.self.now.names.now in
+    let named = c.args.self.now.named.now in
+    let each = named.each.now in
+    let names = named.names.now in
     let options = c.in_ok-options.options in
     let there = get_or-map string_bytes names c.args.i c.index-self-i.result [] c.requires in
     let given : AreOptionsFor each (slice_index_or (map string_bytes names) c.args.i []) options =
-    subst (λ (text : List ℕ). AreOptionsFor each text options) (c.as_str.ensures.value ∙ sym there) c.in_ok-options.ensures in
+    subst (λ (text : List ℕ). AreOptionsFor each text options) (c.as_str-name.ensures.value ∙ sym there) c.in_ok-options.ensures in
     let pieced_is : (pieced : Options) → IsPieced options pieced → GivesPieced each (map string_bytes names) c.args.i pieced = λ pieced is. (options, given, is) in
     IfOk-weaker c.pieced.result (IsPieced options) (GivesPieced each (map string_bytes names) c.args.i) pieced_is c.pieced.ensures

@@ -6,11 +6,12 @@ use Rattle.kc_load.specs.Folder.{IsLoadFault, failed_load, Leads, files_told}
 use Rattle.kc_conf.proofs.FolderLemmas.{flipped}
 use Rattle.kc_disk.specs.EachSteps.{not_loaded}
 use Rattle.kc_disk.proofs.EachLemmas.{named-loaded}
-use Rattle.kc_disk.proofs.each.run_named.Goals as goal
+use Rattle.kc_disk.proofs.each.take_named.Goals as goal
 
 pub returns-in-Ok : goal.returns-in-Ok
 returns-in-Ok g c =
-    let each = c.args.each.now in
+    let named = c.args.named.now in
+    let each = named.each.now in
     let options = each.options in
     let told = files_told (g.F.Folder.state c.load.new.folder) in
     let map = files_in c.in-Ok.files in
@@ -18,11 +19,11 @@ returns-in-Ok g c =
     let e : Suffices told (string_bytes options.root) root options.is_flat map =
     subst₂ (λ (dir first : List ℕ). Suffices told dir first options.is_flat map) c.as_str.ensures.value c.as_str-2.ensures.value c.in-Ok.ensures.enough
     in
-    named-loaded each _ _ _ _ _ _ map e.0 e.1 c.in-Ok.ensures.leads (flipped root e.0 map e.2) c.run_loaded.ensures
+    named-loaded named.asked each _ _ _ _ _ _ map e.0 (record { files_are = e.1; leads = c.in-Ok.ensures.leads }) (flipped root e.0 map e.2) c.take_loaded.ensures
 
 pub returns-in-Err : goal.returns-in-Err
 returns-in-Err g c =
-    let options = c.args.each.now.options in
+    let options = c.args.named.now.each.now.options in
     let told = files_told (g.F.Folder.state c.load.new.folder) in
     not_loaded c.in-Err.fault (record {
       cause = subst₂ (λ (dir first : List ℕ). IsLoadFault told dir first c.in-Err.fault) c.as_str.ensures.value c.as_str-2.ensures.value c.in-Err.ensures.fault;
