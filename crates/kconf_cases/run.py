@@ -27,7 +27,7 @@ CONFS = {"--conf": "7.2", "--conf-6.1": "6.1"}
 # Options of kconf with a value.
 VALUED = (
     "--config", "--out", "--header", "--savedefconfig", "--list-new", "--list-gone", "--list-dead", "--depfile", "--explain", "--explain-depth",
-    "--prefix", "--root", "--include"
+    "--how", "--how-steps", "--prefix", "--root", "--include"
 )
 
 
@@ -169,7 +169,7 @@ def merged_config(folder, names):
 
 def prepare_for_conf(folder, options, rest):
     """Writes what conf reads, and returns whether the case can be given to it."""
-    if not rest or any(name in options for name in ("--strict", "--strict-tree", "--must-exist", "--check", "--explain", "--list-dead", "--raw-strings", "--version", "--")):
+    if not rest or any(name in options for name in ("--strict", "--strict-tree", "--must-exist", "--check", "--explain", "--how", "--list-dead", "--raw-strings", "--version", "--")):
         return False
     config = merged_config(folder, [options.get("--config", ".config"), *rest[1:]])
     if config is None:

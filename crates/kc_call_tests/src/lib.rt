@@ -15,6 +15,8 @@ mod expressions;
 #[cfg(test)]
 mod files;
 #[cfg(test)]
+mod how;
+#[cfg(test)]
 mod loading;
 #[cfg(test)]
 mod order;

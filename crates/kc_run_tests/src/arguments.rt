@@ -1,6 +1,6 @@
 //! Arguments of the command line, and what they request (kc_words).
 use kc_conf::{Delivery, Options, Output, WantedOutput};
-use kc_words::{DeadList, Each, Request, UsageError, request_of};
+use kc_words::{DeadList, Each, EachQuestion, HowQuestion, Request, UsageError, request_of};
 use std::alloc::{AllocError, Global};
 
 // Adds the arguments between the `|` of a line.
@@ -123,7 +123,7 @@ fn are_options(alloc: Global, options: &Options, want: &Want) -> bool {
 fn words_give(alloc: Global, words: &[String], want: &Want) -> bool {
     match request_of(alloc, words) {
         Ok(Request::One(options)) => are_options(alloc, &options, want),
-        Ok(Request::Each(_) | Request::Dead(_)) => false,
+        Ok(Request::Each(_) | Request::Dead(_) | Request::How(_) | Request::HowEach(_)) => false,
         Err(_usage) => false,
     }
 }
@@ -137,6 +137,7 @@ fn gives(alloc: Global, line: &str, want: &Want) -> bool {
 // Arguments and their options.
 const OPTIONS: &[(&str, Want)] = &[
     ("Kconfig", PLAIN),
+    ("Kconfig|--how-steps=9", PLAIN),
     (
         "--root|d|--config|a|Kconfig",
         Want {
@@ -296,7 +297,7 @@ fn is_each(alloc: Global, each: &Each, want: &WantEach) -> bool {
 fn words_give_each(alloc: Global, words: &[String], want: &WantEach) -> bool {
     match request_of(alloc, words) {
         Ok(Request::Each(each)) => is_each(alloc, &each, want),
-        Ok(Request::One(_) | Request::Dead(_)) => false,
+        Ok(Request::One(_) | Request::Dead(_) | Request::How(_) | Request::HowEach(_)) => false,
         Err(_usage) => false,
     }
 }
@@ -387,7 +388,7 @@ fn is_dead_list(alloc: Global, dead: &DeadList, file: &str, want: &Want) -> bool
 fn words_give_dead(alloc: Global, words: &[String], file: &str, want: &Want) -> bool {
     match request_of(alloc, words) {
         Ok(Request::Dead(dead)) => is_dead_list(alloc, &dead, file, want),
-        Ok(Request::One(_) | Request::Each(_)) => false,
+        Ok(Request::One(_) | Request::Each(_) | Request::How(_) | Request::HowEach(_)) => false,
         Err(_usage) => false,
     }
 }
@@ -430,6 +431,176 @@ const DEAD_LISTS: &[(&str, &str, Want)] = &[
 fn a_list_of_dead_prompts_has_no_other_output(rt: HostRuntime) {
     for (line, file, want) in DEAD_LISTS {
         assert!(rt; gives_dead(rt.alloc(), line, file, want), "{line}");
+    }
+}
+
+// The expected question: the value, the most fragments to try, and the options.
+struct WantHow {
+    value: &'static str,
+    steps: usize,
+    options: Want,
+}
+
+fn is_question(alloc: Global, how: &HowQuestion, want: &WantHow) -> bool {
+    how.value.as_str() == want.value
+        && how.steps == want.steps
+        && are_options(alloc, &how.options, &want.options)
+}
+
+fn words_give_how(alloc: Global, words: &[String], want: &WantHow) -> bool {
+    match request_of(alloc, words) {
+        Ok(Request::How(how)) => is_question(alloc, &how, want),
+        Ok(Request::One(_) | Request::Each(_) | Request::Dead(_) | Request::HowEach(_)) => false,
+        Err(_usage) => false,
+    }
+}
+
+// Whether the arguments between the `|` ask what must be set so that a symbol has this value.
+fn gives_how(alloc: Global, line: &str, want: &WantHow) -> bool {
+    let mut words = Vec::new(alloc);
+    words_into(alloc, line, &mut words).is_ok() && words_give_how(alloc, &words, want)
+}
+
+// The options of a question about A for a command line with only one name, `Kconfig`.
+const HOW: Want = Want {
+    outputs: &[(Output::Explanation, "/dev/stdout")],
+    explain: &["A"],
+    ..PLAIN
+};
+
+// Arguments and the question that they ask.
+const QUESTIONS: &[(&str, WantHow)] = &[
+    (
+        "--how|A=y|Kconfig",
+        WantHow {
+            value: "y",
+            steps: 200,
+            options: HOW,
+        },
+    ),
+    (
+        "Kconfig|--how=A=|--how-steps=0",
+        WantHow {
+            value: "",
+            steps: 0,
+            options: HOW,
+        },
+    ),
+    (
+        "--how-steps|9223372036854775807|--how=CONFIG_B=a=\"b\"|Kconfig",
+        WantHow {
+            value: "a=\"b\"",
+            steps: 9_223_372_036_854_775_807,
+            options: Want {
+                explain: &["CONFIG_B"],
+                ..HOW
+            },
+        },
+    ),
+    (
+        "--how|A=-1|Kconfig|--out=b|--header=h|--savedefconfig|m|--list-new=n|--list-gone=o|--depfile=d|--replace",
+        WantHow {
+            value: "-1",
+            steps: 200,
+            options: HOW,
+        },
+    ),
+    (
+        "--root=d|--config=a|--how|A=y|Kconfig|b|--fragment|c|--must-exist|--strict|--strict-tree|--flat|--include=i|--prefix=|--raw-strings|--quiet-tree|--hints|--warn-lost|--explain-depth|1|--check|--diff",
+        WantHow {
+            value: "y",
+            steps: 200,
+            options: Want {
+                root: "d",
+                config: "a",
+                include: Some("i"),
+                explain_depth: 1,
+                prefix: b"",
+                fragments: &["b", "c"],
+                flags: "must-exist strict strict-tree flat raw-strings quiet-tree hints warn-lost ",
+                ..HOW
+            },
+        },
+    ),
+];
+
+// The value, the tries and the configurations of a question.
+struct WantEachHow {
+    value: &'static str,
+    steps: usize,
+    each: WantEach,
+}
+
+fn is_each_question(alloc: Global, how: &EachQuestion, want: &WantEachHow) -> bool {
+    how.value.as_str() == want.value
+        && how.steps == want.steps
+        && is_each(alloc, &how.each, &want.each)
+}
+
+fn words_give_each_how(alloc: Global, words: &[String], want: &WantEachHow) -> bool {
+    match request_of(alloc, words) {
+        Ok(Request::HowEach(how)) => is_each_question(alloc, &how, want),
+        Ok(Request::One(_) | Request::Each(_) | Request::Dead(_) | Request::How(_)) => false,
+        Err(_usage) => false,
+    }
+}
+
+// Whether the arguments between the `|` ask for many configurations what must be set.
+fn gives_each_how(alloc: Global, line: &str, want: &WantEachHow) -> bool {
+    let mut words = Vec::new(alloc);
+    words_into(alloc, line, &mut words).is_ok() && words_give_each_how(alloc, &words, want)
+}
+
+// The options of a question about A for many configurations.
+const HOW_EACH: Want = Want {
+    outputs: &[(Output::Explanation, "/dev/stdout")],
+    explain: &["A"],
+    ..EACH
+};
+
+// Arguments and the question that they ask for many configurations.
+const EACH_QUESTIONS: &[(&str, WantEachHow)] = &[
+    (
+        "--how|A=y|--each|Kconfig|a|b",
+        WantEachHow {
+            value: "y",
+            steps: 200,
+            each: WantEach {
+                configurations: &["a", "b"],
+                list: None,
+                options: HOW_EACH,
+            },
+        },
+    ),
+    (
+        "--each-from=l|--how=A=|--how-steps|7|Kconfig|--out={}.full|--list-new={}.new|--replace|--strict|--fragment|c",
+        WantEachHow {
+            value: "",
+            steps: 7,
+            each: WantEach {
+                configurations: &[],
+                list: Some("l"),
+                options: Want {
+                    fragments: &["c"],
+                    flags: "must-exist strict names-config ",
+                    ..HOW_EACH
+                },
+            },
+        },
+    ),
+];
+
+#[test]
+fn a_question_may_be_asked_for_many_configurations(rt: HostRuntime) {
+    for (line, want) in EACH_QUESTIONS {
+        assert!(rt; gives_each_how(rt.alloc(), line, want), "{line}");
+    }
+}
+
+#[test]
+fn a_question_has_no_output_but_the_answer(rt: HostRuntime) {
+    for (line, want) in QUESTIONS {
+        assert!(rt; gives_how(rt.alloc(), line, want), "{line}");
     }
 }
 
@@ -501,6 +672,25 @@ const OTHERS: &[(&str, &str)] = &[
     ("--list-dead|f|--each-from|l|K", "bad"),
     ("--list-dead|f|--explain|A|K", "bad"),
     ("--list-dead|f|--prefix|9X|K", "bad"),
+    ("--how|K", "bad"),
+    ("K|--how", "bad"),
+    ("--how|A|K", "bad"),
+    ("--how==y|K", "bad"),
+    ("--how=|K", "bad"),
+    ("--how|-A=y|K", "bad"),
+    ("--how=A=y|--how=B=y|K", "bad"),
+    ("--how-steps=1|--how-steps=1|K", "bad"),
+    ("--how-steps=|K", "bad"),
+    ("--how-steps=-1|K", "bad"),
+    ("--how-steps=9223372036854775808|K", "bad"),
+    ("--how|A|--each|K", "bad"),
+    ("--how|A=y|--each|--config|a|K", "bad"),
+    ("--how|A=y|--each|--how-steps=x|K", "bad"),
+    ("--how|A=y|--explain|A|K", "bad"),
+    ("--how|A=y|--list-dead|f|K", "bad"),
+    ("--how|A=y|--check|--replace|K", "bad"),
+    ("--how|A=y|--diff|K", "bad"),
+    ("--how|A=y|--prefix|9X|K", "bad"),
     ("--depfile|K", "bad"),
     ("--depfile=a|--depfile=b|K", "bad"),
     ("--replace=1|K", "bad"),
@@ -589,6 +779,38 @@ const USAGES: &[(&str, &str)] = &[
     (
         "--each-from|l|K|--depfile|d|--prefix|9X",
         "error: the argument '--depfile <FILE>' needs '--out <FILE>' with '--each'\n",
+    ),
+    (
+        "--each|K|--depfile|d|--how=A",
+        "error: the argument '--depfile <FILE>' needs '--out <FILE>' with '--each'\n",
+    ),
+    (
+        "--each-from|l|K|--how=A",
+        "error: invalid value 'A' for '--how <NAME=VALUE>': NAME=VALUE is expected\n",
+    ),
+    (
+        "--each|K|--how=A=y|--explain|A",
+        "error: the argument '--explain <NAME>' cannot be used with '--each'\n",
+    ),
+    (
+        "--how=A=y|--explain|A|K|--how-steps=x",
+        "error: the argument '--how <NAME=VALUE>' cannot be used with '--explain'\n",
+    ),
+    (
+        "--how=A=y|--list-dead|f|K|--prefix|9X",
+        "error: the argument '--how <NAME=VALUE>' cannot be used with '--list-dead'\n",
+    ),
+    (
+        "--how|A|--explain-depth|x|K",
+        "invalid value 'x' for '--explain-depth <N>': a decimal number below 2^63\n",
+    ),
+    (
+        "--how|A|--how-steps|x|K",
+        "error: invalid value 'A' for '--how <NAME=VALUE>': NAME=VALUE is expected\n",
+    ),
+    (
+        "--how-steps|x|K",
+        "error: invalid value 'x' for '--how-steps <N>': a decimal number below 2^63\n",
     ),
 ];
 

@@ -36,6 +36,8 @@ fn role_of(option: &str) -> Role {
         | "--depfile"
         | "--explain"
         | "--explain-depth"
+        | "--how"
+        | "--how-steps"
         | "--fragment"
         | "--include" => Role::Dropped,
         "--flat" | "--raw-strings" => Role::Whole,

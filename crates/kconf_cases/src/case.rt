@@ -67,7 +67,9 @@ fn holds_on_outputs(
 ) -> io::Result<bool> {
     let is_written = has_file(before, "expect/.config") && !has_file(before, "expect/status");
     if !is_written
-        || text.lines().any(|line| line == "--out" || line == "--explain" || line == "--")
+        || text.lines().any(|line| {
+            line == "--out" || line == "--explain" || line == "--how" || line == "--"
+        })
     {
         return Ok(true);
     }
