@@ -1,5 +1,5 @@
 # Each target is one or two commands.
-.PHONY: build install example test case cases mutants bench shapes real refused replaced trials each explain lists make-names flatten-test docs clean
+.PHONY: build install example test case cases mutants bench shapes real refused replaced trials each explain how lists make-names flatten-test docs clean
 
 PREFIX ?= /usr/local
 
@@ -96,6 +96,11 @@ lists:
 # make explain KCONF=FILE
 explain:
 	bench/explain.py $(KCONF) 0 100
+
+# Asks what must be set, on random trees, and checks each answer. On tiny trees it tries every fragment. Any program: make how KCONF=FILE
+how:
+	bench/how.py $(KCONF) 0 350
+	bench/how_all.py $(KCONF) 0 2000
 
 # Asks GNU make which names it reads in a dependency file, and looks that kconf writes those and refuses the others.
 make-names: build

@@ -529,6 +529,11 @@ class Solution:
 
 
 # ---- Explanations
+
+
+def question(names):
+    """The last line of explanations: how to ask what must be set, for the first of the names."""
+    return [f"to see what to set: --how {name}=VALUE" for name in list(names)[:1]]
 class Explainer:
     """The lines of explanations. A fact is the location of an input line, its words, and the symbols that it names."""
 
@@ -716,7 +721,7 @@ class Explainer:
             called = self.worth(cause) if self.tree.kinds.get(cause) else cause
             lines.append(f"  {called} holds down {len(of_it)} of them: {', '.join(of_it)}")
             lines += [f"    {line}" for line in self.lines(cause)] if cause not in names else []
-        return lines
+        return [*lines, *(f"  {line}" for line in question(names))]
 
     def comments(self, name):
         """The definitions of a symbol as they are written."""
@@ -777,10 +782,10 @@ class Case:
         asked = [f"--explain={name}" for name in self.tree.mentioned]
         _, alone, _ = self.runner.run(*self.words, *asked, "--explain-depth", "0", *self.last)
         bodies = {name: self.explainer.lines(name) for name in self.tree.mentioned}
-        compare("--explain-depth 0", alone, "".join(f"{line}\n" for name in self.tree.mentioned for line in bodies[name]))
+        compare("--explain-depth 0", alone, "".join(f"{line}\n" for line in [*(line for body in bodies.values() for line in body), *question(self.tree.mentioned)]))
         _, text, _ = self.runner.run(*self.words, *asked, "--explain-depth", str(steps), *self.last)
         wanted = [line for name in self.tree.mentioned for line in self.explainer.explanation(steps, name)]
-        compare(f"--explain-depth {steps}", text, "".join(f"{line}\n" for line in wanted))
+        compare(f"--explain-depth {steps}", text, "".join(f"{line}\n" for line in [*wanted, *question(self.tree.mentioned)]))
         counts["explanations"] += len(self.tree.mentioned)
         counts["lines"] += len(alone.splitlines()) + len(text.splitlines())
         return self.printed(alone, bodies)

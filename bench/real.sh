@@ -1,5 +1,5 @@
 #!/usr/bin/env bash
-# Runs kconf and kconf-tree on real trees, beside the trees' own tools: bench/real.sh [TREE|road|boards ..]
+# Runs kconf and kconf-tree on real trees, beside the trees' own tools: bench/real.sh [TREE|road|boards|how ..]
 #
 # The trees come from Debian, by apt's own commands over the machine's own list of sources. Nothing is installed. KCONF_TREES names
 # the folder for the trees and for all that is built from them (default: kconf-trees in the folder for temporary files). A later run
@@ -24,6 +24,7 @@
 # - kconf-tree on four trees: what makes it read a tree again and what does not, its locations, status and time;
 # - road: kconf-tree on Linux 6.1 and 7.2 (x86 and arm64, gcc and clang, in the tree and with O=), U-Boot, coreboot and busybox: every
 #   value beside the tree's own `make olddefconfig`, which may then change no value of what kconf wrote (bench/real/road.py);
+# - how: questions to kconf --how about Linux 6.1 and 7.2, U-Boot, coreboot and busybox, and each answer checked (bench/real/how.py);
 # - boards: all boards of U-Boot by one run of kconf-tree --each: each minimal file has to be that of `savedefconfig` byte for byte.
 #
 # kconf is crates/kconf/out/kconf (make build), or the program that KCONF names. The status is 1 if

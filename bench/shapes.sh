@@ -322,6 +322,42 @@ def definitions_with_help(count):
     return config("A", 'bool "a"', "help", "  text") * count
 
 
+def how_along_a_chain(count):
+    """The same chain; what must be set for the first symbol is asked. That is a line for each."""
+    return a_chain_of_dependencies(count)
+
+
+def how_with_dependencies(count):
+    """One entry with so many dependencies, each with a prompt; what must be set for it is asked. That is a line for each."""
+    names = "".join(config(f"D_{i}", 'bool "d"') for i in range(count))
+    return names + config("A", 'bool "a"', *(f"depends on D_{i}" for i in range(count)))
+
+
+def how_selected(count):
+    """So many symbols that select one symbol without a prompt, which shall be y."""
+    return selects(count) + config("T", "bool")
+
+
+def how_no_longer_selected(count):
+    """So many symbols that are y and select one symbol, which shall be n. That is a line for each."""
+    return selects(count) + config("T", "bool"), "".join(f"CONFIG_S_{i}=y\n" for i in range(count))
+
+
+def how_chosen(count):
+    """A choice of so many members; what must be set for the last is asked."""
+    return 'choice\n\tprompt "c"\n\n' + "".join(config(f"M_{i}", 'bool "m"') for i in range(count)) + config("LAST", 'bool "l"') + "endchoice\n"
+
+
+def how_not_chosen(count):
+    """A choice of so many members, the first of which shall be n."""
+    return 'choice\n\tprompt "c"\n\n' + "".join(config(f"M_{i}", 'bool "m"') for i in range(count)) + "endchoice\n"
+
+
+def how_impossible(count):
+    """So many symbols without a prompt that depend on one that is not defined and select one symbol, which shall be y."""
+    return "".join(config(f"S_{i}", "bool", "depends on NEVER", "default y", "select T") for i in range(count)) + config("T", "bool")
+
+
 # Each shape with its least size. A tree has at most 65,535 symbols and 1,000,000 lines.
 SHAPES = [
     (loop_beside_a_chain, 16000),
@@ -364,9 +400,16 @@ SHAPES = [
     (defaults_that_do_not_apply, 8000),
     (selects_that_do_not_count, 8000),
     (definitions_with_help, 16000),
+    (how_along_a_chain, 2000),
+    (how_with_dependencies, 2000),
+    (how_selected, 2000),
+    (how_no_longer_selected, 2000),
+    (how_chosen, 2000),
+    (how_not_chosen, 2000),
+    (how_impossible, 2000),
 ]
-# Those that are refused, for their loop; and those whose run has more options.
-REFUSED = {loop_beside_a_chain, loop_beside_wide_conditions}
+# Those that are refused, for their loop, or since more tries would be needed than are allowed, or as no input works; and those whose run has more options.
+REFUSED = {loop_beside_a_chain, loop_beside_wide_conditions, how_along_a_chain, how_with_dependencies, how_no_longer_selected, how_impossible}
 MORE_OPTIONS = {
     hidden_members: ["--list-new", "new"],
     lost_symbols: ["--warn-lost", "--explain-lost"],
@@ -376,6 +419,13 @@ MORE_OPTIONS = {
     defaults_that_do_not_apply: ["--explain", "A"],
     selects_that_do_not_count: ["--explain", "A"],
     definitions_with_help: ["--list-new", "new", "--with-help"],
+    how_along_a_chain: ["--how", "S_0=y", "--how-steps", "20"],
+    how_with_dependencies: ["--how", "A=y", "--how-steps", "20"],
+    how_selected: ["--how", "T=y", "--how-steps", "20"],
+    how_no_longer_selected: ["--how", "T=n", "--how-steps", "20"],
+    how_chosen: ["--how", "LAST=y", "--how-steps", "20"],
+    how_not_chosen: ["--how", "M_0=n", "--how-steps", "20"],
+    how_impossible: ["--how", "T=y", "--how-steps", "20"],
 }
 
 

@@ -15,6 +15,7 @@ import os
 import pathlib
 import random
 import re
+import shlex
 import subprocess
 import sys
 import tempfile
@@ -253,9 +254,9 @@ class Explanation:
 
 
 def explanations(text):
-    """The lines about each symbol: those of a symbol that holds another one down lose two spaces."""
+    """The lines about each symbol: those of a symbol that holds another one down lose two spaces. The last line is about none."""
     made, is_inside = [], False
-    for line in text.splitlines():
+    for line in text.splitlines()[:-1]:
         is_head = re.fullmatch(r"(?:  )?(?:\w+=.* \((?:bool|tristate|string|int|hex)\): .*|\w+: (?:not a symbol, only mentioned|a symbol without a type))", line)
         if is_head:
             is_inside = line.startswith("  ")
@@ -319,7 +320,7 @@ def whole(kconf, flat, config):
         part = names[first : first + 4000]
         asks = [f"--explain={name}" for name in part]
         ran = subprocess.run([*command, "--explain-depth", "0", *asks], stdin=subprocess.DEVNULL, capture_output=True, check=True)
-        made = [line for name in part for line in explainer.lines(name)]
+        made = [line for name in part for line in explainer.lines(name)] + read.question(part)
         differing += ran.stdout.decode("latin1").splitlines() != made
         lines += len(made)
     print(f"  explanations, {config.name}: all {len(names)} names, {lines} lines, {len(wanted)} lines of lost values, {differing} runs that differ")
@@ -359,18 +360,32 @@ def all_of(kconf, flat, config, seed):
     return is_whole(kconf, flat, config) and not wrong and not more_wrong
 
 
-def story(tree, kconf, companion, config, work):
-    """Runs the last command of docs/why.md in the tree, and tells whether it prints what the page says."""
+def stories(tree, kconf, companion, configurations, work):
+    """Runs the commands of docs/why.md that ask about these configurations of the tree, and tells whether they print what the page says."""
     page = (pathlib.Path(__file__).resolve().parents[2] / "docs/why.md").read_text()
-    told = page.rpartition("--explain HYPERV_NET\n")[2].partition("```")[0]
+    settings = {**os.environ, "KCONF": str(kconf), "XDG_CACHE_HOME": str(work / "cache")}
+    differing = count = 0
+    for block in re.findall(r"(?s)```console\n\$ kconf-tree (.*?)```", page):
+        command, _, told = block.partition("\n")
+        words = shlex.split(command)
+        if "|" in command or words[words.index("--config") + 1] not in configurations:
+            continue
+        ran = subprocess.run([companion, *words], cwd=tree.folder, stdin=subprocess.DEVNULL, capture_output=True, text=True, env=settings, check=False)
+        count += 1
+        if ran.stdout != told or ran.returncode:
+            differing += 1
+            print(f"  docs/why.md, {command}: differs, status {ran.returncode}\n{ran.stdout}")
+    print(f"  docs/why.md: {count} commands, {differing} that print something else")
+    return count > 0 and not differing
+
+
+def story_of_linux(tree, kconf, companion, config, work):
+    """The same with a configuration of another tree."""
     copy = tree.folder / "config.amd64_none_amd64"
     copy.write_bytes(config.read_bytes())
-    settings = {**os.environ, "KCONF": str(kconf), "XDG_CACHE_HOME": str(work / "cache")}
-    ran = subprocess.run([companion, "Kconfig", "--config", copy.name, "--explain", "HYPERV_NET"], cwd=tree.folder, stdin=subprocess.DEVNULL,
-                         capture_output=True, text=True, env=settings, check=False)
+    is_right = stories(tree, kconf, companion, [copy.name], work)
     copy.unlink()
-    print("  docs/why.md: " + ("as it says" if ran.stdout == told and ran.returncode == 0 else f"differs, status {ran.returncode}\n{ran.stdout}"))
-    return ran.stdout == told and ran.returncode == 0
+    return is_right
 
 
 if __name__ == "__main__":

@@ -13,6 +13,7 @@ import builds
 import companion
 import each
 import explain
+import how
 import ignored
 import new
 import road
@@ -33,6 +34,9 @@ PROGRAMS = {
 }
 # The trees on which explanations are checked.
 EXPLAINED = ("linux-x86", "linux-7.2")
+
+# The configurations that docs/why.md asks about.
+STORIES = {"u-boot": ["configs/rpi_4_defconfig"], "coreboot": ["configs/config.emulation_qemu_x86_i440fx"]}
 BUILDS = {"seabios": builds.seabios_of, "toybox": builds.toybox_of}
 
 
@@ -91,6 +95,8 @@ def one_tree(name, place, kconf, known, causes, reasons):
     summary.faults += not lists.all(configurations, own, new.older(name, place), reasons)
     if name in EXPLAINED:
         summary.faults += not explained(tree, place, kconf, root / kconfig)
+    if name in STORIES:
+        summary.faults += not explain.stories(tree, kconf, kconf_tree(), STORIES[name], place.folder / "explain")
     print(f"  {time.monotonic() - began:.0f} s", flush=True)
     return summary
 
@@ -100,7 +106,7 @@ def explained(tree, place, kconf, flat_file):
     config = trees.linux_x86(place).starts["config.amd64_none_amd64"]
     is_right = explain.all_of(kconf, flat_file, config, 1)
     if tree.name == "linux-7.2":
-        is_right &= explain.story(tree, kconf, kconf_tree(), config, place.folder / "explain")
+        is_right &= explain.story_of_linux(tree, kconf, kconf_tree(), config, place.folder / "explain")
     return is_right
 
 
@@ -132,7 +138,7 @@ def main():
     programs(place)
     library(place)
     known, causes, reasons = Known(), Causes(), new.Reasons()
-    names = sys.argv[1:] or [*trees.TREES, "road", "boards"]
+    names = sys.argv[1:] or [*trees.TREES, "road", "boards", "how"]
     summaries = [one_tree(name, place, kconf, known, causes, reasons) for name in names if name in trees.TREES]
     table(summaries)
     for entry in known.unmet(names) + causes.unmet(names) + reasons.unmet(names):
@@ -148,6 +154,8 @@ def main():
     if "boards" in names:
         tree = trees.u_boot(place)
         done.append(boards.Boards(tree, kconf_tree(), kconf, place.folder / "boards").all())
+    if "how" in names:
+        done.append(how.all_of(place, kconf, flat))
     if "road" in names:
         done.append(road.all_of(place, kconf_tree(), kconf, known))
     sys.exit(not all(done) or any(it.faults or it.unknown_lines or it.differing > it.known for it in summaries))
