@@ -11,12 +11,12 @@ _kconf() {
         --prefix)
             COMPREPLY=($(compgen -W 'CONFIG_ BR2_' -- "$word"))
             return ;;
-        --explain | --explain-depth)
+        --explain | --explain-depth | --how | --how-steps)
             return ;;
     esac
     if [[ $word == -* ]]; then
         COMPREPLY=($(compgen -W \
-            '--root --flat --include --config --out --header --savedefconfig --list-new --with-help --list-gone --list-dead --depfile --prefix --raw-strings --must-exist --strict --strict-tree --quiet-tree --hints --warn-lost --explain-lost --explain --explain-depth --replace --check --diff --each --each-from --fragment --help --version' -- "$word"))
+            '--root --flat --include --config --out --header --savedefconfig --list-new --with-help --list-gone --list-dead --depfile --prefix --raw-strings --must-exist --strict --strict-tree --quiet-tree --hints --warn-lost --explain-lost --explain --explain-depth --how --how-steps --replace --check --diff --each --each-from --fragment --help --version' -- "$word"))
     else
         COMPREPLY=($(compgen -f -- "$word"))
     fi
