@@ -12,7 +12,7 @@ use Rattle.kc_language.specs.declared.expressions.SymbolType.{SymbolType}
 use Rattle.kc_language.specs.declared.expressions.SymbolType.TheVariants.{Undefined}
 use Rattle.kc_outcome.specs.Outcome.{Options, lead, refused_outcome}
 use Rattle.kc_possible.specs.Possible.{IsOff}
-use Rattle.kc_how.specs.FixTexts.{fix_text, impossible_text, loses_nothing, miss_text, no_value_text, not_found_text, reason_line, setting, type_word}
+use Rattle.kc_how.specs.FixTexts.{fix_text, impossible_text, loses_nothing, miss_text, no_value_text, not_found_text, reason_line, setting, type_words}
 use Rattle.kc_how.specs.How.{Goal, IsFix, IsOutOfReach, wanted_value, with_fragment}
 use Rattle.kc_how.specs.Questions.{goal_of}
 use Rattle.kc_how.specs.declared.answer.Miss.{Miss}
@@ -92,7 +92,7 @@ module _ (options : Options) (asked : Asked) (tree : TreeFacts) (input : UserInp
     solution_is = solves;
     told = no_value s is none (ap (λ t. refused_outcome (lead options ++ t)) e);
     ends = subst IsWholeEnd (sym e)
-        (ends-error (codes "E25: " ++ options.prefix.prefix ++ name tree s ++ codes " has the type " ++ type_word (type_in (facts tree s)) ++ codes ": not " ++ asked.value.now));
+        (ends-error (codes "E25: " ++ options.prefix.prefix ++ name tree s ++ codes " has " ++ type_words (type_in (facts tree s)) ++ codes ": not " ++ asked.value.now));
   }
 
 -- the reply to the question that is asked
