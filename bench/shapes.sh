@@ -358,6 +358,17 @@ def how_impossible(count):
     return "".join(config(f"S_{i}", "bool", "depends on NEVER", "default y", "select T") for i in range(count)) + config("T", "bool")
 
 
+def impossible_with_many_definitions(count):
+    """So many definitions of one symbol, each of which depends on a name that is not defined; it shall be y."""
+    return "".join(config("T", 'bool "t"', f"depends on NEVER_{i}") for i in range(count))
+
+
+def dead_in_a_menu(count):
+    """A menu with so many dependencies, none of which is met, around as many symbols, whose prompts are listed as dead."""
+    dependencies = "".join(f"\tdepends on NEVER_{i}\n" for i in range(count))
+    return 'menu "m"\n' + dependencies + "\n" + "".join(config(f"S_{i}", 'bool "s"') for i in range(count)) + "endmenu\n"
+
+
 # Each shape with its least size. A tree has at most 65,535 symbols and 1,000,000 lines.
 SHAPES = [
     (loop_beside_a_chain, 16000),
@@ -407,9 +418,14 @@ SHAPES = [
     (how_chosen, 2000),
     (how_not_chosen, 2000),
     (how_impossible, 2000),
+    (impossible_with_many_definitions, 8000),
+    (dead_in_a_menu, 8000),
 ]
 # Those that are refused, for their loop, or since more tries would be needed than are allowed, or as no input works; and those whose run has more options.
-REFUSED = {loop_beside_a_chain, loop_beside_wide_conditions, how_along_a_chain, how_with_dependencies, how_no_longer_selected, how_impossible}
+REFUSED = {
+    loop_beside_a_chain, loop_beside_wide_conditions, how_along_a_chain, how_with_dependencies, how_no_longer_selected, how_impossible,
+    impossible_with_many_definitions,
+}
 MORE_OPTIONS = {
     hidden_members: ["--list-new", "new"],
     lost_symbols: ["--warn-lost", "--explain-lost"],
@@ -426,6 +442,8 @@ MORE_OPTIONS = {
     how_chosen: ["--how", "LAST=y", "--how-steps", "20"],
     how_not_chosen: ["--how", "M_0=n", "--how-steps", "20"],
     how_impossible: ["--how", "T=y", "--how-steps", "20"],
+    impossible_with_many_definitions: ["--how", "T=y"],
+    dead_in_a_menu: ["--list-dead", "dead"],
 }
 
 
