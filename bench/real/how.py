@@ -46,6 +46,7 @@ class Facts:
     """What kconfiglib says of a flat file and a configuration."""
 
     def __init__(self, flat, config):
+        sys.path += [folder for folder in os.environ.get("PYTHONPATH", "").split(":") if folder not in sys.path]
         import kconfiglib
         self.library = kconfiglib
         os.environ["CONFIG_"] = "CONFIG_"
