@@ -6,8 +6,9 @@ use crate::needs::{Give, Need, Part, Way, Ways};
 use crate::penalties::{Blame, Step};
 use crate::prices::Prices;
 use crate::relations::Relation;
+use crate::texts::{BY_TEXT_DEFAULT, TextSource, TextWay};
 use crate::ways::ways_of;
-use kc_expr::expression::{Expr, Operand, SymId, Tri};
+use kc_expr::expression::{Expr, Operand, Operands, SymId, Tri};
 use kc_expr::values::{eval, tristate_constant};
 use std::alloc::{AllocError, Global};
 
@@ -49,6 +50,7 @@ pub(crate) fn needs_all(e: &Expr, aim: Aim) -> bool {
 /// The prices, and the costs of facts that are known at them.
 #[derive(Drop)]
 pub(crate) struct Costs<'a> {
+    pub alloc: Global,
     pub prices: Prices<'a>,
     pub memo: Memo,
 }
@@ -93,11 +95,11 @@ impl<'a> Costs<'a> {
     }
 
     // The cost of a relation.
-    fn relation(&mut self, e: &Expr, relation: &Relation, aim: Aim) -> Result<u32, AllocError> {
+    fn relation(&mut self, e: &Expr, operands: &Operands, relation: &Relation, aim: Aim) -> Result<u32, AllocError> {
         if aim.is_met(eval(e, self.prices.outcome.now)) {
             return Ok(0);
         }
-        let (cost, _) = self.making(relation)?;
+        let (cost, _) = self.making(relation, operands)?;
         Ok(cost)
     }
 
@@ -110,7 +112,7 @@ impl<'a> Costs<'a> {
             Expr::Module => self.module(aim),
             Expr::Rel(op, operands) => {
                 let relation = Relation::of(&self.prices.outcome, *op, operands, aim);
-                self.relation(e, &relation, aim)
+                self.relation(e, operands, &relation, aim)
             }
             Expr::All(parts) | Expr::Any(parts) => {
                 let are_needed = needs_all(e, aim);
@@ -163,12 +165,19 @@ impl<'a> Costs<'a> {
         self.prices.line(give).saturating_add(more)
     }
 
-    /// The cost of a line that gives a symbol a text.
-    pub(crate) fn text_line(&self, id: SymId) -> u32 {
-        plus(self.prices.text_line(id), self.penalty(Blame::Line(id)))
+    /// The cost of a way to a text of a symbol.
+    pub(crate) fn text_way(&mut self, id: SymId, way: &TextWay) -> Result<u32, AllocError> {
+        let mut cost = match way.source {
+            TextSource::Line => plus(self.prices.text_line(id), self.penalty(Blame::Line(id))),
+            TextSource::Default(_) => BY_TEXT_DEFAULT,
+        };
+        for fact in way.facts(id) {
+            cost = plus(cost, self.some_fact(fact)?);
+        }
+        Ok(cost)
     }
 
-    // The cost of a way to a fact, but for what all ways need.
+    // The cost of a way to a fact, but for what is lost with the fact.
     fn way(&mut self, fact: Fact, ways: &Ways<'a>, way: &Way) -> Result<u32, AllocError> {
         let step = Step {
             fact,
@@ -184,15 +193,6 @@ impl<'a> Costs<'a> {
         Ok(cost)
     }
 
-    // What all ways to a fact cost more.
-    fn common(&mut self, fact: Fact, ways: &Ways<'a>) -> Result<u32, AllocError> {
-        let mut cost = self.prices.loss(fact);
-        for need in ways.common.iter() {
-            cost = plus(cost, self.need(*need)?);
-        }
-        Ok(cost)
-    }
-
     // The cost of a fact, and the number of its cheapest way.
     fn cheapest_way(&mut self, fact: Fact, ways: &Ways<'a>) -> Result<(u32, usize), AllocError> {
         let mut least = IMPOSSIBLE;
@@ -204,14 +204,13 @@ impl<'a> Costs<'a> {
                 number = way.number;
             }
         }
-        let common = self.common(fact, ways)?;
-        Ok((plus(least, common), number))
+        Ok((plus(least, self.prices.loss(fact)), number))
     }
 
     // Finds the cost of an open fact, if that of all that its ways need is known. Otherwise these are open now.
-    fn find_cost(&mut self, alloc: Global, fact: Fact) -> Result<(), AllocError> {
+    fn find_cost(&mut self, fact: Fact) -> Result<(), AllocError> {
         let before = self.memo.open.len();
-        let ways = ways_of(alloc, &self.prices.outcome, fact)?;
+        let ways = ways_of(self.alloc, &self.prices.outcome, fact)?;
         let (cost, number) = self.cheapest_way(fact, &ways)?;
         if self.memo.open.len() == before {
             self.memo.note(fact, cost, number);
@@ -220,7 +219,7 @@ impl<'a> Costs<'a> {
     }
 
     /// Finds the costs of the open facts and of all that their ways need. No fact needs itself, so this ends.
-    pub(crate) fn find(&mut self, alloc: Global) -> Result<(), AllocError> {
+    pub(crate) fn find(&mut self) -> Result<(), AllocError> {
         for _ in 0..u32::MAX {
             let Some(fact) = self.memo.last_open() else {
                 break;
@@ -228,7 +227,7 @@ impl<'a> Costs<'a> {
             if self.memo.known(fact).is_some() {
                 self.memo.open.pop();
             } else {
-                self.find_cost(alloc, fact)?;
+                self.find_cost(fact)?;
             }
         }
         Ok(())

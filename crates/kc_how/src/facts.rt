@@ -2,6 +2,7 @@
 
 use crate::goal::Goal;
 use crate::question::Question;
+use crate::stated::Kind;
 use kc_expr::expression::{SymId, SymbolType, Tri};
 use kc_expr::values::{Values, greater, lesser, truth_of};
 use kc_possible::bounds::Bounds;
@@ -106,6 +107,8 @@ pub(crate) enum Fact {
     Dependency(ChoiceId, Aim),
     /// The mode of a choice.
     Mode(ChoiceId, Aim),
+    /// Of the lines of a kind the one with this number counts for a symbol: from 1 on, or 0 for none.
+    First(SymId, Kind, usize),
     /// The goal's symbol has the goal's text.
     GoalText,
 }
@@ -259,6 +262,7 @@ impl<'a> Outcome<'a> {
             Fact::Visible(id, aim) => aim.is_met(visible_context(table, id)),
             Fact::Dependency(id, aim) => aim.is_met(choice_dependency(table, id)),
             Fact::Mode(id, aim) => aim.is_met(mode_of(table, id)),
+            Fact::First(id, kind, number) => self.first_met(id, kind) == number,
             Fact::GoalText => self.has_goal_text(),
         }
     }

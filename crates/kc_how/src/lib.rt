@@ -8,7 +8,7 @@
 //! - [`shown`]: values of symbols. [`changes`]: what a fix changes.
 //! - [`lines`]: the lines of a fragment. [`merged`]: the user's values of two inputs. [`fix`]: the check of a fragment.
 //! - [`facts`]: what a goal needs. [`needs`] and [`ways`]: the ways to a fact, for values ([`truth_ways`]) and conditions
-//!   ([`condition_ways`]).
+//!   ([`condition_ways`]), for texts ([`texts`]) and for the defaults and ranges that count ([`stated`]).
 //! - [`costs`]: the cheapest way to a fact. [`memo`]: what is known of facts. [`prices`] and [`relations`]: what lines and relations cost.
 //! - [`plan`]: the cheapest lines that give a goal. [`search`]: the fragments that are tried.
 //! - [`tries`] and [`reached`]: what comes of lines. [`minimal`]: those that are needed. [`rank`]: what they cost the user.
@@ -35,7 +35,9 @@ mod reached;
 mod relations;
 mod search;
 mod shown;
+mod stated;
 pub mod text;
+mod texts;
 mod tries;
 mod truth_ways;
 mod ways;

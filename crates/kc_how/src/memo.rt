@@ -2,6 +2,8 @@
 
 use crate::facts::{Aim, Fact, Outcome};
 use crate::penalties::{Blame, Penalty};
+use crate::stated::{Kind, count};
+use kc_expr::expression::{SymId, SymbolType};
 use kc_tree::layout::Layout;
 use std::alloc::{AllocError, Global};
 
@@ -32,6 +34,13 @@ struct Best {
     penalty: usize,
 }
 
+// The places of the facts that none of the defaults of a symbol counts, and none of its ranges. Those of the lines follow.
+#[derive(Clone, Copy)]
+struct Firsts {
+    default: usize,
+    range: usize,
+}
+
 /// What is known of the facts about a tree, by number, and the facts whose cost is asked for.
 #[derive(Drop)]
 pub(crate) struct Memo {
@@ -42,8 +51,45 @@ pub(crate) struct Memo {
     places: usize,
     visibles: usize,
     choices: usize,
+    firsts: Vec<Firsts>,
     /// The facts whose cost is not known yet.
     pub open: Vec<Fact>,
+}
+
+// Whether a symbol has a text.
+fn has_text(symbol_type: SymbolType) -> bool {
+    match symbol_type {
+        SymbolType::Str | SymbolType::Int | SymbolType::Hex => true,
+        SymbolType::Bool | SymbolType::Tristate | SymbolType::Undefined => false,
+    }
+}
+
+// The places of the facts about the defaults and ranges of each symbol with a text, and the place behind them. The first is `start`.
+fn firsts_from(
+    alloc: Global,
+    layout: &Layout,
+    start: usize,
+) -> Result<(Vec<Firsts>, usize), AllocError> {
+    let mut end = start;
+    let mut firsts = Vec::with_capacity(alloc, layout.symbols().len())?;
+    for (number, row) in layout.symbols().iter().enumerate() {
+        let mut place = Firsts {
+            default: end,
+            range: end,
+        };
+        if has_text(row.symbol_type) {
+            let id = SymId(number);
+            place.range = end
+                .saturating_add(1)
+                .saturating_add(count(layout, id, Kind::Default));
+            end = place
+                .range
+                .saturating_add(1)
+                .saturating_add(count(layout, id, Kind::Range));
+        }
+        firsts.push(place)?;
+    }
+    Ok((firsts, end))
 }
 
 impl Memo {
@@ -64,13 +110,15 @@ impl Memo {
             way: NO_WAY,
             penalty: NO_PENALTY,
         };
+        let (firsts, end) = firsts_from(alloc, layout, count.saturating_mul(4))?;
         Ok(Memo {
-            best: vec![in alloc; unknown; count.saturating_mul(4)]?,
+            best: vec![in alloc; unknown; end]?,
             earlier: Vec::new(alloc),
             symbols,
             places,
             visibles,
             choices,
+            firsts,
             open: Vec::new(alloc),
         })
     }
@@ -82,6 +130,17 @@ impl Memo {
             .saturating_add(number)
             .saturating_mul(4)
             .saturating_add(aim.number())
+    }
+
+    // The place of the fact that a line of a kind counts for a symbol, or behind all if there is no such symbol.
+    fn first_place(&self, id: SymId, kind: Kind, number: usize) -> usize {
+        let Some(places) = self.firsts.get(id.0) else {
+            return usize::MAX;
+        };
+        match kind {
+            Kind::Default => places.default.saturating_add(number),
+            Kind::Range => places.range.saturating_add(number),
+        }
     }
 
     // The place of a fact.
@@ -102,6 +161,7 @@ impl Memo {
             Fact::Visible(id, aim) => self.place_with(visibles, id.0 as usize, aim),
             Fact::Dependency(id, aim) => self.place_with(dependencies, id.0 as usize, aim),
             Fact::Mode(id, aim) => self.place_with(modes, id.0 as usize, aim),
+            Fact::First(id, kind, number) => self.first_place(id, kind, number),
             Fact::GoalText => self.place_with(modes, self.choices, Aim::AtLeastM),
         }
     }

@@ -63,11 +63,9 @@ pub(crate) struct Ways<'a> {
     pub alloc: Global,
     /// The outcome that they start from.
     pub outcome: Outcome<'a>,
-    /// What each of them needs.
-    pub common: Vec<Need<'a>>,
     /// The ways.
     pub list: Vec<Way>,
-    /// What they need besides, way after way.
+    /// What they need, way after way.
     pub needs: Vec<Need<'a>>,
 }
 
@@ -147,16 +145,9 @@ impl<'a> Ways<'a> {
         Ways {
             alloc,
             outcome: *outcome,
-            common: Vec::new(alloc),
             list: Vec::new(alloc),
             needs: Vec::new(alloc),
         }
-    }
-
-    /// Adds what all ways need.
-    pub(crate) fn need_always(&mut self, need: Need<'a>) -> Result<(), AllocError> {
-        self.common.push(need)?;
-        Ok(())
     }
 
     /// Adds what the next way needs.
@@ -236,11 +227,6 @@ impl<'a> Ways<'a> {
     /// Whether all holds that a way needs.
     pub(crate) fn is_met(&self, way: &Way) -> bool {
         let outcome = &self.outcome;
-        for need in self.common.iter() {
-            if !need.holds(outcome) {
-                return false;
-            }
-        }
         for place in way.start..way.end {
             if let Some(need) = self.needs.get(place) {
                 if !need.holds(outcome) {

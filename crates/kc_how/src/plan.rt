@@ -11,12 +11,12 @@ use crate::penalties::{Penalty, Step};
 use crate::prices::Prices;
 use crate::question::Question;
 use crate::reached::add_dependencies;
-use crate::relations::{Making, Relation, Side, facts_of, picked, swapped};
+use crate::relations::{Making, Relation, Side, facts_of};
+use crate::texts::{TextSource, TextWay, Wanted};
 use crate::ways::ways_of;
-use kc_expr::expression::{Expr, Operand, Operands, Parts, SymId, Tri};
-use kc_expr::values::{eval, greater, text};
+use kc_expr::expression::{Expr, Operands, Parts, SymId, Tri};
+use kc_expr::values::{eval, greater};
 use kc_solve::solved::Solved;
-use kc_text::Op;
 use kc_user::value::UserValue;
 use std::alloc::{AllocError, Global};
 
@@ -91,10 +91,10 @@ fn is_needed(part: Option<usize>, number: usize) -> bool {
     }
 }
 
-// Whether a fact is about the value of a symbol. A condition with one way can't fail by itself.
+// Whether a fact is about the value of a symbol, or the line that gives it. A condition with one way can't fail by itself.
 fn is_value(fact: Fact) -> bool {
     match fact {
-        Fact::Truth(_, _) | Fact::GoalText => true,
+        Fact::Truth(_, _) | Fact::First(_, _, _) | Fact::GoalText => true,
         _ => false,
     }
 }
@@ -131,11 +131,11 @@ impl<'a> Draft<'a> {
     }
 
     // Adds a line that gives a symbol a text, if it has none yet.
-    fn give_text(&mut self, id: SymId, text: Vec<u8>) -> Result<(), AllocError> {
+    fn give_text(&mut self, id: SymId, value: UserValue) -> Result<(), AllocError> {
         if self.line_of(id).is_some() {
             return Ok(());
         }
-        self.add_line(id, UserValue::Text(text))
+        self.add_line(id, value)
     }
 
     // Adds the line that a way needs.
@@ -145,7 +145,7 @@ impl<'a> Draft<'a> {
             (Give::Truth(id, value), _) => self.give_truth(id, value),
             (Give::GoalText, UserValue::Text(text)) => {
                 let copy = Vec::from_slice(self.alloc, text)?;
-                self.give_text(goal.symbol, copy)
+                self.give_text(goal.symbol, UserValue::Text(copy))
             }
             _ => Ok(()),
         }
@@ -166,25 +166,36 @@ impl<'a> Draft<'a> {
         self.need(second)
     }
 
-    // Adds a line that gives a symbol a text in relation to another one, and that its prompt is visible.
-    fn add_text(&mut self, id: SymId, op: Op, other: &Operand) -> Result<(), AllocError> {
+    // Adds what a way to a text needs, and its line.
+    fn add_text(&mut self, wanted: &Wanted<'_>, way: &TextWay) -> Result<(), AllocError> {
+        for fact in way.facts(wanted.symbol) {
+            self.need(fact)?;
+        }
+        if way.source != TextSource::Line {
+            return Ok(());
+        }
         let outcome = self.costs.prices.outcome;
-        let other = text(other, outcome.now);
-        let picked = picked(self.alloc, outcome.type_of(id), op, other)?;
-        self.need(Some(Fact::Prompts(id, Aim::AtLeastM)))?;
-        self.give_text(id, picked)
+        match wanted.line_value(self.alloc, &outcome, way)? {
+            Some(value) => self.give_text(wanted.symbol, value),
+            None => Ok(()),
+        }
     }
 
     // Adds what makes a relation hold.
     fn add_relation(&mut self, relation: &Relation, operands: &Operands) -> Result<(), AllocError> {
-        let (_, making) = self.costs.making(relation)?;
+        let (_, making) = self.costs.making(relation, operands)?;
         match making {
             Making::Values(left, right) => {
                 self.add_side(relation.left, left)?;
                 self.add_side(relation.right, right)
             }
-            Making::LeftText(id) => self.add_text(id, relation.op, &operands.right),
-            Making::RightText(id) => self.add_text(id, swapped(relation.op), &operands.left),
+            Making::Text(hand, way) => {
+                let outcome = self.costs.prices.outcome;
+                match Wanted::beside(&outcome, relation, operands, hand) {
+                    Some(wanted) => self.add_text(&wanted, &way),
+                    None => Ok(()),
+                }
+            }
         }
     }
 
@@ -274,9 +285,6 @@ impl<'a> Draft<'a> {
             self.plan.steps.push(step)?;
         }
         self.give(way.give)?;
-        for need in ways.common.iter() {
-            self.add_need(*need)?;
-        }
         for place in way.start..way.end {
             if let Some(need) = ways.need_at(place) {
                 self.add_need(need)?;
@@ -320,11 +328,11 @@ fn goal_facts(alloc: Global, outcome: &Outcome<'_>) -> Result<Vec<Fact>, AllocEr
 }
 
 // The cost of all these facts.
-fn cost_of_all(alloc: Global, costs: &mut Costs<'_>, facts: &[Fact]) -> Result<u32, AllocError> {
+fn cost_of_all(costs: &mut Costs<'_>, facts: &[Fact]) -> Result<u32, AllocError> {
     for fact in facts {
         costs.fact(*fact)?;
     }
-    costs.find(alloc)?;
+    costs.find()?;
     let mut sum = 0;
     for fact in facts {
         sum = plus(sum, costs.memo.known(*fact).unwrap_or(IMPOSSIBLE));
@@ -337,11 +345,12 @@ fn plan_at(alloc: Global, prices: &Prices<'_>) -> Result<Option<Plan>, AllocErro
     let layout = prices.outcome.layout;
     let todo = goal_facts(alloc, &prices.outcome)?;
     let mut costs = Costs {
+        alloc,
         prices: *prices,
         memo: Memo::new(alloc, layout)?,
     };
     costs.memo.note_penalties(prices.penalties)?;
-    let cost = cost_of_all(alloc, &mut costs, &todo)?;
+    let cost = cost_of_all(&mut costs, &todo)?;
     if cost >= IMPOSSIBLE {
         return Ok(None);
     }

@@ -3,11 +3,11 @@
 use crate::costs::Costs;
 use crate::facts::{Aim, Fact, Outcome};
 use crate::memo::{IMPOSSIBLE, plus};
+use crate::texts::{Hand, TextWay, Wanted, text_ways};
 use kc_expr::expression::{Operand, Operands, SymId, SymbolType, Tri};
 use kc_expr::values::tristate_constant;
-use kc_text::{Op, has_hex_prefix, read_hex, read_int};
-use kc_values::numbers::number_text;
-use std::alloc::{AllocError, Global};
+use kc_text::Op;
+use std::alloc::AllocError;
 
 /// A side of a relation.
 #[derive(Clone, Copy)]
@@ -27,14 +27,12 @@ pub(crate) enum Side {
 pub(crate) enum Making {
     /// The sides have these values.
     Values(Tri, Tri),
-    /// The left side gets a text by a line.
-    LeftText(SymId),
-    /// The right side does.
-    RightText(SymId),
+    /// This side gets a text in this way.
+    Text(Hand, TextWay),
 }
 
-// The side that an operand is.
-fn side_of(outcome: &Outcome<'_>, operand: &Operand) -> Side {
+/// The side that an operand is.
+pub(crate) fn side_of(outcome: &Outcome<'_>, operand: &Operand) -> Side {
     match operand {
         Operand::TristateConstant(value) => Side::Constant(*value),
         Operand::Const(text) => match tristate_constant(text) {
@@ -71,17 +69,6 @@ pub(crate) fn negated(op: Op) -> Op {
         Op::Ge => Op::Lt,
         Op::Gt => Op::Le,
         Op::Le => Op::Gt,
-        other => other,
-    }
-}
-
-/// The relation with its sides swapped.
-pub(crate) fn swapped(op: Op) -> Op {
-    match op {
-        Op::Lt => Op::Gt,
-        Op::Gt => Op::Lt,
-        Op::Le => Op::Ge,
-        Op::Ge => Op::Le,
         other => other,
     }
 }
@@ -149,12 +136,6 @@ impl<'a> Costs<'a> {
         Ok(plus(cost, other))
     }
 
-    // The cost of another text of a symbol: a line under one of its prompts.
-    fn text(&mut self, id: SymId) -> Result<u32, AllocError> {
-        let shown = self.fact(Fact::Prompts(id, Aim::AtLeastM))?;
-        Ok(plus(shown, self.text_line(id)))
-    }
-
     // The cheapest truth values of the sides of a relation, and what they cost.
     fn values(&mut self, relation: &Relation) -> Result<(u32, Making), AllocError> {
         let mut best = IMPOSSIBLE;
@@ -175,66 +156,44 @@ impl<'a> Costs<'a> {
         Ok((best, making))
     }
 
+    // The cheapest way to the text of a side of a relation, if it has a text and costs less than this.
+    fn cheaper_text(
+        &mut self,
+        relation: &Relation,
+        operands: &Operands,
+        hand: Hand,
+        most: u32,
+    ) -> Result<Option<(u32, TextWay)>, AllocError> {
+        let outcome = self.prices.outcome;
+        let Some(wanted) = Wanted::beside(&outcome, relation, operands, hand) else {
+            return Ok(None);
+        };
+        let mut least = most;
+        let mut cheapest = None;
+        let ways = text_ways(self.alloc, &outcome, &wanted)?;
+        for way in &ways {
+            let cost = self.text_way(wanted.symbol, way)?;
+            if cost < least {
+                least = cost;
+                cheapest = Some((cost, *way));
+            }
+        }
+        Ok(cheapest)
+    }
+
     /// What makes a relation hold, and what it costs.
-    pub(crate) fn making(&mut self, relation: &Relation) -> Result<(u32, Making), AllocError> {
-        match (relation.left, relation.right) {
-            (Side::Text(id), _) => Ok((self.text(id)?, Making::LeftText(id))),
-            (_, Side::Text(id)) => Ok((self.text(id)?, Making::RightText(id))),
-            _ => self.values(relation),
+    pub(crate) fn making(
+        &mut self,
+        relation: &Relation,
+        operands: &Operands,
+    ) -> Result<(u32, Making), AllocError> {
+        let (mut least, mut making) = self.values(relation)?;
+        for hand in [Hand::Left, Hand::Right] {
+            if let Some((cost, way)) = self.cheaper_text(relation, operands, hand, least)? {
+                least = cost;
+                making = Making::Text(hand, way);
+            }
         }
+        Ok((least, making))
     }
-}
-
-// ---- texts
-
-// The greatest number of a symbol, without its sign.
-const MOST: u128 = 0xffff_ffff_ffff_ffff;
-
-// A number in this relation to another one.
-fn beside(op: Op, number: i128) -> i128 {
-    match op {
-        Op::Lt => number.saturating_sub(1),
-        Op::Gt | Op::Ne => number.saturating_add(1),
-        _ => number,
-    }
-}
-
-// The number of a text.
-fn number_of(text: &[u8]) -> Option<i128> {
-    if has_hex_prefix(text) {
-        read_hex(text)
-    } else {
-        read_int(text)
-    }
-}
-
-// A text in this relation to another one.
-fn other_text(alloc: Global, op: Op, text: &[u8]) -> Result<Vec<u8>, AllocError> {
-    match op {
-        Op::Gt => {
-            let mut longer = Vec::from_slice(alloc, text)?;
-            longer.push(b'0')?;
-            Ok(longer)
-        }
-        Op::Ne if text.is_empty() => Ok(Vec::from_slice(alloc, b"y")?),
-        Op::Ne | Op::Lt => Ok(Vec::new(alloc)),
-        _ => Ok(Vec::from_slice(alloc, text)?),
-    }
-}
-
-/// A text of a symbol that is in this relation to another text.
-pub(crate) fn picked(
-    alloc: Global,
-    symbol_type: SymbolType,
-    op: Op,
-    other: &[u8],
-) -> Result<Vec<u8>, AllocError> {
-    let number = match (symbol_type, number_of(other)) {
-        (SymbolType::Int | SymbolType::Hex, Some(number)) => beside(op, number),
-        _ => return other_text(alloc, op, other),
-    };
-    if number.unsigned_abs() > MOST {
-        return other_text(alloc, op, other);
-    }
-    number_text(alloc, symbol_type, number)
 }

@@ -13,7 +13,7 @@ use crate::plan::Plan;
 use crate::question::Question;
 use crate::rank::{LINE, lines_cost};
 use crate::reached::is_reached;
-use crate::tries::{Budget, Verdict, planned, tried, worth};
+use crate::tries::{Budget, Verdict, planned, settled, tried, worth};
 use kc_expr::expression::SymId;
 use kc_user::value::allowed;
 use std::alloc::{AllocError, Global};
@@ -83,6 +83,8 @@ struct Search {
     best: Option<Candidate>,
     found: usize,
     rounds_left: usize,
+    // Whether lines reached the goal that were more than the tries that were left.
+    were_too_many: bool,
     // What a plan costs more in this round.
     surcharge: u32,
     budget: Budget,
@@ -118,6 +120,7 @@ impl Search {
             best: None,
             found: 0,
             rounds_left: steps,
+            were_too_many: false,
             surcharge: 0,
             budget: Budget { left: steps },
         })
@@ -199,6 +202,7 @@ impl Search {
         requires { IsQuestion question.now }
     {
         if lines.len() > 1 && lines.len() > self.budget.left {
+            self.were_too_many = true;
             return Ok(());
         }
         let Some(needed) = minimal(alloc, question, lines, &mut self.budget)? else {
@@ -210,6 +214,34 @@ impl Search {
             }
             self.tried.push(copied(alloc, &needed)?)?;
         }
+        match worth(alloc, question, &needed)? {
+            Some(score) => {
+                self.take(needed, score);
+                Ok(())
+            }
+            None => self.offer_settled(alloc, question, &needed),
+        }
+    }
+
+    // The same for lines that do not count, with the values that their symbols get from them.
+    fn offer_settled(
+        &mut self,
+        alloc: Global,
+        question: &Question<'_, '_, '_, '_>,
+        lines: &[Line],
+    ) -> Result<(), AllocError>
+        requires { IsQuestion question.now }
+    {
+        let Some(settled) = settled(alloc, question, lines, &mut self.budget)? else {
+            return Ok(());
+        };
+        if self.was_tried(&settled) {
+            return Ok(());
+        }
+        self.tried.push(copied(alloc, &settled)?)?;
+        let Some(needed) = minimal(alloc, question, &settled, &mut self.budget)? else {
+            return Ok(());
+        };
         if let Some(score) = worth(alloc, question, &needed)? {
             self.take(needed, score);
         }
@@ -297,7 +329,7 @@ impl Search {
 
     // Why it found nothing.
     fn miss(&self) -> Miss {
-        if self.rounds_left == 0 || self.budget.left == 0 {
+        if self.rounds_left == 0 || self.budget.left == 0 || self.were_too_many {
             Miss::NoTryLeft
         } else {
             Miss::NoPlanLeft

@@ -2,14 +2,16 @@
 
 ghost use Rattle.kc_how.specs.Questions.{IsQuestion};
 
-use crate::lines::{Line, with_lines};
+use crate::lines::{Line, are_same, copied, with_lines};
 use crate::penalties::{Penalty, Step};
 use crate::plan::{Plan, cheapest, has_failed};
 use crate::question::Question;
 use crate::rank::{Trial, has_loss, is_taken, score};
 use crate::reached::is_reached;
+use kc_expr::values::Values;
 use kc_solve::solve::solve;
 use kc_solve::solved::Solved;
+use kc_user::value::UserValue;
 use std::alloc::{AllocError, Global};
 
 /// How often the tree may still be solved.
@@ -115,4 +117,30 @@ pub(crate) fn worth(
         return Ok(None);
     }
     Ok(Some(score(question, trial)))
+}
+
+/// The lines with the values that their symbols get from them, if these are others and the goal is reached with them too.
+pub(crate) fn settled(
+    alloc: Global,
+    question: &Question<'_, '_, '_, '_>,
+    lines: &[Line],
+    budget: &mut Budget,
+) -> Result<Option<Vec<Line>>, AllocError>
+    requires { IsQuestion question.now }
+{
+    let user = with_lines(alloc, question, lines)?;
+    let after = solve(alloc, question.laid, question.order, &user)?;
+    let mut settled = copied(alloc, lines)?;
+    for line in &mut settled {
+        if let UserValue::Tri(value) = &mut line.value {
+            *value = after.tri(line.symbol);
+        }
+    }
+    if are_same(&settled, lines) {
+        return Ok(None);
+    }
+    match tried(alloc, question, &settled, &[], budget)? {
+        Verdict::Reached => Ok(Some(settled)),
+        Verdict::Missed(_) | Verdict::Unknown => Ok(None),
+    }
 }

@@ -7,10 +7,10 @@ use kc_expr::expression::{SymId, Tri};
 use kc_tree::attributes::{condition, stated_default};
 use kc_tree::rows::{ChoiceId, EntryPlace, Symbol};
 use kc_user::value::UserValue;
-use kc_values::texts::single_text;
 use std::alloc::{AllocError, Global};
 
-// The numbers of the ways of a symbol. Those up have two kinds: without and with the modules symbol turned off.
+// The numbers of the ways of a symbol, each of two kinds: those up without and with the modules symbol turned off, those down without
+// and with it turned on.
 const USER: usize = 0;
 
 const SELECTED: usize = 2;
@@ -21,11 +21,11 @@ const IMPLIED: usize = 6;
 
 const CAPPED: usize = 8;
 
-const NO_DEFAULT: usize = 9;
+const NO_DEFAULT: usize = 10;
 
-const NO_DEPENDENCY: usize = 10;
+const NO_DEPENDENCY: usize = 12;
 
-const FIRST_DEFAULT: usize = 12;
+const FIRST_DEFAULT: usize = 14;
 
 // The numbers of the ways down of a member of a choice.
 const MODE_OFF: usize = 0;
@@ -43,8 +43,6 @@ const AGAINST_DEPENDENCY: u32 = 1500;
 const BY_IMPLY: u32 = 60;
 
 const BY_DEFAULT: u32 = 30;
-
-const BY_TEXT_DEFAULT: u32 = 20;
 
 const WITHOUT_MODULES: u32 = 500;
 
@@ -83,6 +81,15 @@ struct Reach {
 // The number of a way up.
 fn numbered(way: usize, reach: Reach) -> usize {
     if reach.is_lifted {
+        way.saturating_add(1)
+    } else {
+        way
+    }
+}
+
+// The number of a way down.
+fn numbered_down(way: usize, aim: Aim) -> usize {
+    if aim == Aim::AtMostM {
         way.saturating_add(1)
     } else {
         way
@@ -299,78 +306,94 @@ impl<'a> Ways<'a> {
     // ---- down
 
     // The line of the user that lowers a symbol.
-    fn lowering_line(&self, subject: &Subject<'a>) -> Give {
-        let value = match subject.aim {
+    fn lowering_line(&self, subject: &Subject<'a>, aim: Aim) -> Give {
+        let value = match aim {
             Aim::AtMostM => Tri::M,
             _ => Tri::N,
         };
-        self.line(subject, subject.aim, value)
+        self.line(subject, aim, value)
     }
 
-    // Adds what all ways down need: no line selects the symbol to more, and m is a value.
-    fn need_for_down(&mut self, subject: &Subject<'a>) -> Result<(), AllocError> {
+    // Adds what each way down needs: no line selects the symbol to more, and m is a value if it may be m.
+    fn need_for_down(&mut self, subject: &Subject<'a>, aim: Aim) -> Result<(), AllocError> {
         if subject.row.last_select.is_some() {
-            self.need_always(fact(Fact::Selected(subject.id, subject.aim)))?;
+            self.need_fact(Fact::Selected(subject.id, aim))?;
         }
-        if let (Aim::AtMostM, Some(modules)) = (subject.aim, self.outcome.layout.modules) {
-            let need = fact(self.outcome.truth(modules, Aim::AtLeastM));
-            self.need_always(need)?;
+        if let (Aim::AtMostM, Some(modules)) = (aim, self.outcome.layout.modules) {
+            let fact = self.outcome.truth(modules, Aim::AtLeastM);
+            self.need_fact(fact)?;
         }
         Ok(())
     }
 
     // Adds the ways by the user's value, or by the condition of the prompts.
-    fn user_down(&mut self, subject: &Subject<'a>) -> Result<(), AllocError> {
+    fn user_down(&mut self, subject: &Subject<'a>, aim: Aim) -> Result<(), AllocError> {
         if !subject.has_prompt {
             return Ok(());
         }
+        self.need_for_down(subject, aim)?;
         self.need_fact(Fact::Prompts(subject.id, Aim::AtLeastM))?;
-        let give = self.lowering_line(subject);
-        self.end(USER, 0, give)?;
-        if subject.aim == Aim::AtMostM {
-            self.need_fact(Fact::Prompts(subject.id, subject.aim))?;
+        let give = self.lowering_line(subject, aim);
+        self.end(numbered_down(USER, aim), 0, give)?;
+        if aim == Aim::AtMostM {
+            self.need_for_down(subject, aim)?;
+            self.need_fact(Fact::Prompts(subject.id, aim))?;
             self.end(CAPPED, BY_CAP, Give::Nothing)?;
         }
         Ok(())
     }
 
     // Adds that no user value counts, and that no line implies the symbol to more.
-    fn need_quiet(&mut self, subject: &Subject<'a>) -> Result<(), AllocError> {
+    fn need_quiet(&mut self, subject: &Subject<'a>, aim: Aim) -> Result<(), AllocError> {
+        self.need_for_down(subject, aim)?;
         self.need_hidden(subject)?;
         if subject.row.last_imply.is_some() {
-            self.need_fact(Fact::Implied(subject.id, subject.aim))?;
+            self.need_fact(Fact::Implied(subject.id, aim))?;
         }
         Ok(())
     }
 
     // Adds the ways by a default that is low, or by none.
-    fn defaults_down(&mut self, subject: &Subject<'a>) -> Result<(), AllocError> {
+    fn defaults_down(&mut self, subject: &Subject<'a>, aim: Aim) -> Result<(), AllocError> {
         let more = subject.if_prompt(UNASKED);
         let mut earlier = Vec::new(self.alloc);
-        let mut number = FIRST_DEFAULT;
+        let mut number = numbered_down(FIRST_DEFAULT, aim);
         for default in subject.defaults.iter() {
             self.need_all(&earlier)?;
             self.need(Need::Guard(condition_of(default), Aim::AtLeastM))?;
-            self.need(Need::Guard(*default, subject.aim))?;
-            self.need_quiet(subject)?;
+            self.need(Need::Guard(*default, aim))?;
+            self.need_quiet(subject, aim)?;
             self.end(number, more, Give::Nothing)?;
-            number = number.saturating_add(1);
+            number = number.saturating_add(2);
             if !self.add_earlier(default, &mut earlier)? {
                 return Ok(());
             }
         }
         self.need_all(&earlier)?;
-        self.need_quiet(subject)?;
-        self.end(NO_DEFAULT, more, Give::Nothing)
+        self.need_quiet(subject, aim)?;
+        self.end(numbered_down(NO_DEFAULT, aim), more, Give::Nothing)
     }
 
-    // Adds the ways down.
+    // Adds the ways down to what shall be.
+    fn ways_down_to(&mut self, subject: &Subject<'a>, aim: Aim) -> Result<(), AllocError> {
+        self.user_down(subject, aim)?;
+        self.defaults_down(subject, aim)?;
+        self.need_for_down(subject, aim)?;
+        self.need_fact(Fact::Direct(subject.id, aim))?;
+        let number = numbered_down(NO_DEPENDENCY, aim);
+        self.end(number, subject.if_prompt(UNASKED), Give::Nothing)
+    }
+
+    // Adds the ways down. While modules are off a tristate can be m only if they are turned on.
     fn ways_down(&mut self, subject: &Subject<'a>) -> Result<(), AllocError> {
-        self.need_for_down(subject)?;
-        self.user_down(subject)?;
-        self.defaults_down(subject)?;
-        self.need_fact(Fact::Direct(subject.id, subject.aim))?;
-        self.end(NO_DEPENDENCY, subject.if_prompt(UNASKED), Give::Nothing)
+        let may_be_m = subject.aim == Aim::AtMostM && self.outcome.layout.modules.is_some();
+        if !may_be_m || !self.outcome.is_tristate(subject.id) {
+            self.ways_down_to(subject, Aim::AtMostN)?;
+        }
+        if may_be_m {
+            self.ways_down_to(subject, Aim::AtMostM)?;
+        }
+        Ok(())
     }
 
     // ---- members
@@ -430,63 +453,16 @@ impl<'a> Ways<'a> {
                 self.member_down(choice, id)
             };
         }
+        if !aim.is_least() {
+            let subject = Subject::of(self.alloc, &self.outcome, id, row, aim)?;
+            return self.ways_down(&subject);
+        }
         let aim = if self.outcome.is_tristate(id) {
             aim
         } else {
             aim.without_m()
         };
         let subject = Subject::of(self.alloc, &self.outcome, id, row, aim)?;
-        if aim.is_least() {
-            self.ways_up(&subject)
-        } else {
-            self.ways_down(&subject)
-        }
-    }
-
-    // Adds the ways by a default that has the goal's text, or by none if that is empty.
-    fn text_defaults(&mut self, subject: &Subject<'a>, text: &[u8]) -> Result<(), AllocError> {
-        let mut earlier = Vec::new(self.alloc);
-        let mut number = FIRST_DEFAULT;
-        for default in subject.defaults.iter() {
-            if self.is_text(default, text) {
-                self.need_all(&earlier)?;
-                self.need(Need::Guard(condition_of(default), Aim::AtLeastM))?;
-                self.need_hidden(subject)?;
-                self.end(number, BY_TEXT_DEFAULT, Give::Nothing)?;
-            }
-            number = number.saturating_add(1);
-            if !self.add_earlier(default, &mut earlier)? {
-                return Ok(());
-            }
-        }
-        if text.is_empty() {
-            self.need_all(&earlier)?;
-            self.need_hidden(subject)?;
-            self.end(NO_DEFAULT, BY_TEXT_DEFAULT, Give::Nothing)?;
-        }
-        Ok(())
-    }
-
-    // Whether a default has this text now.
-    fn is_text(&self, default: &Guard<'a>, text: &[u8]) -> bool {
-        match default.value {
-            Some(e) => single_text(e, self.outcome.now) == text,
-            None => false,
-        }
-    }
-
-    /// Adds the ways to the goal's text. What ranges ask for is left to the check.
-    pub(crate) fn text_ways(&mut self) -> Result<(), AllocError> {
-        let id = self.outcome.goal.symbol;
-        let (Some(row), UserValue::Text(text)) = (
-            self.outcome.layout.symbol(id),
-            &self.outcome.goal.value,
-        ) else {
-            return Ok(());
-        };
-        self.need_fact(Fact::Prompts(id, Aim::AtLeastM))?;
-        self.end(USER, 0, Give::GoalText)?;
-        let subject = Subject::of(self.alloc, &self.outcome, id, row, Aim::AtLeastM)?;
-        self.text_defaults(&subject, text)
+        self.ways_up(&subject)
     }
 }

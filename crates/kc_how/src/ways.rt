@@ -32,7 +32,8 @@ pub(crate) fn ways_of<'a>(
         Fact::Visible(id, aim) => ways.visible_ways(id, aim)?,
         Fact::Dependency(id, aim) => ways.dependency_ways(id, aim)?,
         Fact::Mode(id, aim) => ways.mode_ways(id, aim)?,
-        Fact::GoalText => ways.text_ways()?,
+        Fact::First(id, kind, number) => ways.first_ways(id, kind, number)?,
+        Fact::GoalText => ways.goal_text_ways()?,
     }
     Ok(ways)
 }
