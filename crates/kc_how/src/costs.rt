@@ -95,7 +95,13 @@ impl<'a> Costs<'a> {
     }
 
     // The cost of a relation.
-    fn relation(&mut self, e: &Expr, operands: &Operands, relation: &Relation, aim: Aim) -> Result<u32, AllocError> {
+    fn relation(
+        &mut self,
+        e: &Expr,
+        operands: &Operands,
+        relation: &Relation,
+        aim: Aim,
+    ) -> Result<u32, AllocError> {
         if aim.is_met(eval(e, self.prices.outcome.now)) {
             return Ok(0);
         }

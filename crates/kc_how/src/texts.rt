@@ -137,11 +137,7 @@ fn moved_inside(bounds: Option<Interval>, number: i128) -> i128 {
 }
 
 // The text of a number, or an empty one if it is too great.
-fn text_of(
-    alloc: Global,
-    symbol_type: SymbolType,
-    number: i128,
-) -> Result<Vec<u8>, AllocError> {
+fn text_of(alloc: Global, symbol_type: SymbolType, number: i128) -> Result<Vec<u8>, AllocError> {
     if number.unsigned_abs() > MOST {
         return Ok(Vec::new(alloc));
     }
@@ -209,8 +205,8 @@ impl<'a> Wanted<'a> {
         };
         let symbol_type = outcome.type_of(symbol);
         let number = match side_of(outcome, other) {
-            Side::Text(id) if symbol_type == SymbolType::Str
-                && outcome.type_of(id) == SymbolType::Str => None,
+            Side::Text(id)
+                if symbol_type == SymbolType::Str && outcome.type_of(id) == SymbolType::Str => None,
             _ => operand_number(outcome, other),
         };
         Some(Wanted {
@@ -392,7 +388,11 @@ impl<'w, 'a> Finder<'w, 'a> {
     }
 
     // Adds the ways with this range, or without one.
-    fn add_ways(&mut self, range: Option<usize>, bounds: Option<Interval>) -> Result<(), AllocError> {
+    fn add_ways(
+        &mut self,
+        range: Option<usize>,
+        bounds: Option<Interval>,
+    ) -> Result<(), AllocError> {
         let mut way = TextWay {
             source: TextSource::Line,
             range,
