@@ -252,6 +252,15 @@ const CASES: &[Case] = &[
         expected: Expected::Impossible(b"GHOST\n"),
     },
     Case {
+        name: "a dependency that depends on what is not defined",
+        kconfig: b"config A\n\tbool \"a\"\n\tdepends on B\nconfig B\n\tbool\n\tdefault y\n\tdepends on GHOST\n",
+        config: b"",
+        symbol: b"A",
+        value: b"y",
+        is_strict: false,
+        expected: Expected::Impossible(b"B\nGHOST\n"),
+    },
+    Case {
         name: "the fix makes a value of the user lost",
         kconfig: b"config A\n\tbool \"a\"\nconfig B\n\tbool \"b\"\n\tdepends on !A\n",
         config: b"CONFIG_B=y\n",

@@ -1,7 +1,9 @@
 -- What a reply leaves.
 use Rattle.std.proofs.Common.{◌≡◌, ◌∙◌, ℕ, Bool, decimal, false, not, List, [], ◌∷◌, ◌++◌, refl, sym, ap, subst, append_assoc, append-nil, true, Option, None, Some, Vec, Global}
 use Rattle.std.specs.List.{flat_map}
-use Rattle.std.specs.Prelude.{All, ◌||◌, codes}
+use Rattle.std.proofs.lemmas.Grind.{flat_map-append}
+use Rattle.std.proofs.lemmas.List.Elements.{All-append, All-cons, All-nil}
+use Rattle.std.specs.Prelude.{All, ◌||◌, codes, map}
 use Rattle.kc_language.specs.ConfigFile.{Notation, UserInput}
 use Rattle.kc_language.specs.Statements.{error_line}
 use Rattle.kc_language.specs.Symbols.{TreeFacts}
@@ -10,15 +12,18 @@ use Rattle.kc_language.specs.Values.{GivenValue, facts, name, type_in}
 use Rattle.kc_language.specs.declared.expressions.SymId.{SymId}
 use Rattle.kc_language.specs.declared.expressions.SymbolType.{SymbolType}
 use Rattle.kc_language.specs.declared.expressions.SymbolType.TheVariants.{Undefined}
+use Rattle.kc_outcome.specs.Explanations.{Fact}
 use Rattle.kc_outcome.specs.Outcome.{Options, lead, refused_outcome}
 use Rattle.kc_possible.specs.Possible.{IsOff}
-use Rattle.kc_how.specs.FixTexts.{fix_text, impossible_text, loses_nothing, miss_text, no_value_text, not_found_text, reason_line, setting, type_words}
+use Rattle.kc_how.specs.FixTexts.{fix_text, impossible_line, loses_nothing, miss_text, no_value_text, not_found_text, reason_line, setting, type_words}
 use Rattle.kc_how.specs.How.{Goal, IsFix, IsOutOfReach, wanted_value, with_fragment}
-use Rattle.kc_how.specs.Questions.{goal_of}
+use Rattle.kc_how.specs.Questions.{IsQuestion, goal_of}
 use Rattle.kc_how.specs.declared.answer.Miss.{Miss}
 use Rattle.kc_how.specs.declared.question.Question.{Question}
-use Rattle.kc_conf.specs.How.{asked_first, fixed, impossible, no_value, not_found, told}
-use Rattle.kc_conf.specs.HowParts.{IsAsked, IsReply, Replies}
+use Rattle.kc_explain.specs.Fixed.{AreFixedOf, fixed_lines, fixed_words}
+use Rattle.kc_explain.specs.declared.teller.Teller.{Teller}
+use Rattle.kc_conf.specs.How.{IsReason, asked_first, fixed, impossible, impossible_text, no_value, not_found, reason_lines, told}
+use Rattle.kc_conf.specs.HowParts.{AddsReasons, IsAsked, IsReply, IsTellerOf, Replies}
 use Rattle.kc_conf.specs.Reads.{IsWholeEnd}
 use Rattle.kc_conf.specs.declared.reply.Asked.{Asked}
 use Rattle.kc_conf.specs.declared.reply.Reply.{Reply}
@@ -37,11 +42,27 @@ ends-reason tree s = ends-behind (codes "  " ++ name tree s) _ (by (type_in (fac
     by Undefined = (codes ": not defined", refl)
     by _ = (codes ": always n", refl)
 
-ends-reasons : (tree : TreeFacts) (reasons : List SymId) (front : List ℕ) → IsWholeEnd front → IsWholeEnd (front ++ flat_map (reason_line tree) reasons)
-ends-reasons tree [] front ends = subst IsWholeEnd (sym (append-nil front)) ends
-ends-reasons tree (s ∷ reasons) front ends =
-    subst IsWholeEnd (append_assoc front (reason_line tree s) (flat_map (reason_line tree) reasons))
-    (ends-reasons tree reasons (front ++ reason_line tree s) (ends-behind front (reason_line tree s) (ends-reason tree s)))
+-- parts that are whole lines
+ends-parts : {X : Type 0} (f : X → List ℕ) (each : (x : X) → IsWholeEnd (f x)) (xs : List X) (front : List ℕ) → IsWholeEnd front → IsWholeEnd (front ++ flat_map f xs)
+ends-parts f each [] front ends = subst IsWholeEnd (sym (append-nil front)) ends
+ends-parts f each (x ∷ xs) front ends =
+    subst IsWholeEnd (append_assoc front (f x) (flat_map f xs)) (ends-parts f each xs (front ++ f x) (ends-behind front (f x) (each x)))
+
+ends-fixed : (is_raw : Bool) (tree : TreeFacts) (lead : List ℕ) (facts : List Fact) (front : List ℕ) → IsWholeEnd front → IsWholeEnd (front ++ fixed_lines is_raw tree lead facts)
+ends-fixed is_raw tree lead facts front ends =
+    ends-parts (λ l. lead ++ l ++ codes "\n") (λ l. (lead ++ l, sym (append_assoc lead l (codes "\n")))) (map (fixed_words is_raw tree) facts) front ends
+
+ends-reason_lines : (notation : Notation) (tree : TreeFacts) (reason : SymId × List Fact) → IsWholeEnd (reason_lines notation tree reason)
+ends-reason_lines notation tree reason =
+    ends-fixed notation.is_raw tree (codes "    ") reason.1 (reason_line tree reason.0) (ends-reason tree reason.0)
+
+ends-impossible : (notation : Notation) (tree : TreeFacts) (goal : Goal) (facts : List Fact) (reasons : List (SymId × List Fact)) → IsWholeEnd (impossible_text notation tree goal facts reasons)
+ends-impossible notation tree goal facts reasons =
+    let first : List ℕ = impossible_line tree notation goal in
+    let second : List ℕ = fixed_lines notation.is_raw tree (codes "  ") facts in
+    subst IsWholeEnd (append_assoc first second (flat_map (reason_lines notation tree) reasons))
+    (ends-parts (reason_lines notation tree) (ends-reason_lines notation tree) reasons (first ++ second)
+    (ends-fixed notation.is_raw tree (codes "  ") facts first (ends-error (codes "E25: no input gives " ++ setting tree notation goal.symbol goal.value))))
 
 -- ---- replies to a question
 
@@ -64,11 +85,61 @@ module _ (q : Question) where
     ends = subst IsWholeEnd (sym e) (ends-error (codes "E26: no way to " ++ setting tree q.prefix.now goal.symbol goal.value ++ miss_text q.steps miss));
   }
 
-  pub Replies-impossible : (reasons : List SymId) (text : Vec ℕ Global) → IsOutOfReach tree goal → All (IsOff tree) reasons → text.items ≡ impossible_text tree q.prefix.now goal reasons → Replies q (Refusal text)
-  Replies-impossible reasons text out off e = record {
-    told = λ options asked is. impossible goal reasons is.goal out off (ap (λ t. refused_outcome (lead options ++ t)) (e ∙ ap (λ (p : Notation). impossible_text tree p goal reasons) is.prefix));
-    ends = subst IsWholeEnd (sym e) (ends-reasons tree reasons _ (ends-error (codes "E25: no input gives " ++ setting tree q.prefix.now goal.symbol goal.value)));
-  }
+  -- facts about a symbol that no line can change are added
+  abbrev AddsFacts : Teller → List ℕ → SymId → List ℕ → List ℕ → Type 0
+  AddsFacts t lead s old new = (facts : List Fact) × AreFixedOf t.input.now t.solved.now s facts × (new ≡ old ++ fixed_lines t.is_raw t.solved.now.tree lead facts)
+
+  -- the same, of the question
+  abbrev AddsOwn : List ℕ → SymId → List ℕ → List ℕ → Type 0
+  AddsOwn lead s old new = (facts : List Fact) × AreFixedOf q.input.now q.before.now s facts × (new ≡ old ++ fixed_lines q.prefix.now.is_raw tree lead facts)
+
+  own-facts : (t : Teller) (lead : List ℕ) (s : SymId) (old new : List ℕ) → IsQuestion q → IsTellerOf q t → AddsFacts t lead s old new → AddsOwn lead s old new
+  own-facts t lead s old new is tells adds = (
+    adds.0,
+    subst (λ (i : UserInput). AreFixedOf i q.before.now s adds.0) tells.input (subst (λ (solution : Solution). AreFixedOf t.input.now solution s adds.0) tells.solved adds.1),
+    adds.2 ∙ ap (λ (b : Bool). old ++ fixed_lines b t.solved.now.tree lead adds.0) tells.is_raw
+        ∙ ap (λ (r : TreeFacts). old ++ fixed_lines q.prefix.now.is_raw r lead adds.0) (ap (λ (solution : Solution). solution.tree) tells.solved ∙ is.before.tree_is),
+  )
+
+  pub adds_reason : (t : Teller) (s : SymId) (old middle new : List ℕ) → IsQuestion q → IsTellerOf q t → IsOff tree s → middle ≡ old ++ reason_line tree s →
+      AddsFacts t (codes "    ") s middle new → AddsReasons q old new
+  adds_reason t s old middle new is tells off e adds =
+      let own = own-facts t (codes "    ") s middle new is tells adds in
+      let lines : List ℕ = fixed_lines q.prefix.now.is_raw tree (codes "    ") own.0 in
+      record {
+        reasons = (s, own.0) ∷ [];
+        off = All-cons (IsReason q.input.now q.before.now) (s, own.0) [] (record { off = subst (λ (r : TreeFacts). IsOff r s) (sym is.before.tree_is) off; fixed = own.1 })
+            (All-nil (IsReason q.input.now q.before.now));
+        added = own.2 ∙ ap (λ r. r ++ lines) e ∙ append_assoc old (reason_line tree s) lines
+            ∙ ap (λ r. old ++ r) (sym (append-nil (reason_line tree s ++ lines)));
+      }
+
+  pub adds_no_reason : (text : List ℕ) → AddsReasons q text text
+  adds_no_reason text = record { reasons = []; off = All-nil (IsReason q.input.now q.before.now); added = sym (append-nil text) }
+
+  pub adds_more_reasons : (a b c : List ℕ) → AddsReasons q a b → AddsReasons q b c → AddsReasons q a c
+  adds_more_reasons a b c x y =
+      let lines : List (SymId × List Fact) → List ℕ = flat_map (reason_lines q.prefix.now tree) in
+      record {
+        reasons = x.reasons ++ y.reasons;
+        off = All-append (IsReason q.input.now q.before.now) x.reasons y.reasons x.off y.off;
+        added = y.added ∙ ap (λ r. r ++ lines y.reasons) x.added ∙ append_assoc a (lines x.reasons) (lines y.reasons)
+            ∙ ap (λ r. a ++ r) (sym (flat_map-append (reason_lines q.prefix.now tree) x.reasons y.reasons));
+      }
+
+  pub Replies-impossible : (t : Teller) (first middle : List ℕ) (text : Vec ℕ Global) → IsQuestion q → IsTellerOf q t → IsOutOfReach tree goal →
+      first ≡ impossible_line tree q.prefix.now goal → AddsFacts t (codes "  ") goal.symbol first middle → AddsReasons q middle text.items → Replies q (Refusal text)
+  Replies-impossible t first middle text is tells out e adds more =
+      let own = own-facts t (codes "  ") goal.symbol first middle is tells adds in
+      let lines : List ℕ = fixed_lines q.prefix.now.is_raw tree (codes "  ") own.0 in
+      let reasons : List ℕ = flat_map (reason_lines q.prefix.now tree) more.reasons in
+      let whole : text.items ≡ impossible_text q.prefix.now tree goal own.0 more.reasons =
+      more.added ∙ ap (λ r. r ++ reasons) (own.2 ∙ ap (λ r. r ++ lines) e) ∙ append_assoc (impossible_line tree q.prefix.now goal) lines reasons in
+      record {
+        told = λ options asked is_asked. impossible goal (record { facts = own.0; fixed = own.1; reasons = more.reasons; off = more.off }) is_asked.goal out
+            (ap (λ r. refused_outcome (lead options ++ r)) (whole ∙ ap (λ (p : Notation). impossible_text p tree goal own.0 more.reasons) is_asked.prefix));
+        ends = subst IsWholeEnd (sym whole) (ends-impossible q.prefix.now tree goal own.0 more.reasons);
+      }
 
   pub Replies-fixed : (lines : List (List ℕ)) (after : Solution) (text : Vec ℕ Global) → IsFix tree q.prefix.now q.input.now q.before.now goal lines →
       IsSolutionFor tree (with_fragment tree q.prefix.now q.input.now lines).places after → (not q.is_strict || loses_nothing tree q.prefix.now q.input.now q.before.now after lines) ≡ true →

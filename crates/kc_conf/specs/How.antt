@@ -1,11 +1,12 @@
 -- Trusted: A run that tells what must be set so that a symbol has a value.
 -- Our own. It reads the tree and the input files like any run, and ends in `HowRuns`; for many configurations, in `HowRunsEach`; and for the tree of a
 -- folder, in `FolderHowRuns`.
-use Rattle.std.specs.Prelude.{All, Bool, Err, List, None, Option, Some, [], codes, if◌then◌else◌, map, string_bytes, true, ℕ, ◌++◌, ◌∷◌, ◌≡◌, ◌⊎◌}
-use Rattle.kc_language.specs.{ConfigFile.{ReadResult, StreamLocation, UserInput}, Expansion.{AreOpened, Files, Refused}, Statements.{error_at, error_line, run_error_text}, Symbols.TreeFacts, Texts.{IsSolutionFor, Solution}, Values.{facts, type_in}, declared.{diagnostics.RunError.{RunError}, expressions.SymId.SymId}}
-use Rattle.kc_outcome.specs.{Explanations.asked_symbol, Outcome.{IsAcceptedTree, IsRefusedTree, Options, Outcome, first_line, lead, lines_text, near_text, read_of, refusal_line, refused_outcome, reported, root_file, strictly, unknown_name, unreadable_name}, declared.outcome.Status.{Status}}
-use Rattle.kc_how.specs.{FixTexts.{fix_text, impossible_text, loses_nothing, no_value_text, not_found_text}, How.{Goal, IsFix, IsOutOfReach, wanted_value, with_fragment}, declared.answer.Miss.{Miss}}
+use Rattle.std.specs.{List.flat_map, Prelude.{All, Bool, Err, List, None, Option, Some, [], codes, if◌then◌else◌, map, string_bytes, true, ℕ, ◌++◌, ◌∷◌, ◌≡◌, ◌⊎◌}}
+use Rattle.kc_language.specs.{ConfigFile.{Notation, ReadResult, StreamLocation, UserInput}, Expansion.{AreOpened, Files, Refused}, Statements.{error_at, error_line, run_error_text}, Symbols.TreeFacts, Texts.{IsSolutionFor, Solution}, Values.{facts, type_in}, declared.{diagnostics.RunError.{RunError}, expressions.SymId.SymId}}
+use Rattle.kc_outcome.specs.{Explanations.{Fact, asked_symbol}, Outcome.{IsAcceptedTree, IsRefusedTree, Options, Outcome, first_line, lead, lines_text, near_text, read_of, refusal_line, refused_outcome, reported, root_file, strictly, unknown_name, unreadable_name}, declared.outcome.Status.{Status}}
+use Rattle.kc_how.specs.{FixTexts.{fix_text, impossible_line, loses_nothing, no_value_text, not_found_text, reason_line}, How.{Goal, IsFix, IsOutOfReach, wanted_value, with_fragment}, declared.answer.Miss.{Miss}}
 use Rattle.kc_possible.specs.Possible.{IsOff}
+use Rattle.kc_explain.specs.Fixed.{AreFixedOf, fixed_lines}
 use Rattle.kc_io.specs.{Inputs.{AreInputs, InputFile, bytes_of, still_told}, Log.{Log, TriesToSay}}
 use Rattle.kc_load.specs.{Folder.{AreFilesOf, FolderState, IsLoadFault, Leads as FolderLeads, failed_load, files_told}, declared.fault.LoadFault.LoadFault}
 use Rattle.kc_conf.specs.{Faults.{Broken, Completes, load_line, refused_name_of}, Many.{EndsTurn, RunsAll}, declared.reply.Asked.{Asked}}
@@ -22,6 +23,27 @@ heading options = if options.names_config then codes "# " ++ (first_line (string
 -- This text is told, for each output.
 abbrev pub told : Options → List ℕ → Outcome
 told options text = record { texts = map (λ wanted. heading options ++ text) options.outputs.items; warned = []; refusal = []; status = Status.Done }
+
+-- ---- Why no input reaches the goal
+-- A symbol that is off under every input, and facts about it that no line can change.
+pub record IsReason (input : UserInput) (solution : Solution) (reason : SymId × List Fact) : Type 0 where
+  pub off : IsOff solution.tree reason.0
+  pub fixed : AreFixedOf input solution reason.0 reason.1
+
+-- What no line can change: such facts about the symbol of the goal, and such symbols.
+pub record Obstacles (input : UserInput) (solution : Solution) (goal : Goal) : Type 0 where
+  pub facts : List Fact
+  pub fixed : AreFixedOf input solution goal.symbol facts
+  pub reasons : List (SymId × List Fact)
+  pub off : All (IsReason input solution) reasons
+
+-- E25: each symbol has two blanks in front, and each fact as many as what it is about, and two more.
+abbrev pub reason_lines : Notation → TreeFacts → SymId × List Fact → List ℕ
+reason_lines notation tree reason = reason_line tree reason.0 ++ fixed_lines notation.is_raw tree (codes "    ") reason.1
+
+abbrev pub impossible_text : Notation → TreeFacts → Goal → List Fact → List (SymId × List Fact) → List ℕ
+impossible_text notation tree goal facts reasons =
+    impossible_line tree notation goal ++ fixed_lines notation.is_raw tree (codes "  ") facts ++ flat_map (reason_lines notation tree) reasons
 
 module _ (options : Options) (asked : Asked) (tree : TreeFacts) where
   -- This symbol shall have this value: the one that the text asks for, for a symbol of its type.
@@ -40,8 +62,8 @@ module _ (options : Options) (asked : Asked) (tree : TreeFacts) where
         IsSolutionFor tree (with_fragment tree options.prefix input lines).places after →
         (options.strict ≡ true → loses_nothing tree options.prefix input solution after lines ≡ true) →
         outcome ≡ told options (fix_text tree options.prefix input solution after lines goal) → IsToldOf input solution outcome
-    impossible : (goal : Goal) (reasons : List SymId) → IsGoal goal → IsOutOfReach tree goal → All (IsOff tree) reasons →
-        outcome ≡ refused_outcome (lead options ++ impossible_text tree options.prefix goal reasons) → IsToldOf input solution outcome
+    impossible : (goal : Goal) (why : Obstacles input solution goal) → IsGoal goal → IsOutOfReach tree goal →
+        outcome ≡ refused_outcome (lead options ++ impossible_text options.prefix tree goal why.facts why.reasons) → IsToldOf input solution outcome
     not_found : (goal : Goal) (miss : Miss) → IsGoal goal → outcome ≡ refused_outcome (lead options ++ not_found_text tree options.prefix goal asked.steps miss) →
         IsToldOf input solution outcome
 

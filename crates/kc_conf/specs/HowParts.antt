@@ -1,11 +1,15 @@
 -- For proofs: Parts of a run that tells what must be set so that a symbol has a value.
-use Rattle.std.specs.Prelude.{◌&&◌, ◌++◌, ◌||◌, ◌≡◌, Bool, List, None, Option, Some, if◌then◌else◌, map, string_bytes, ℕ}
+use Rattle.std.specs.List.{flat_map}
+use Rattle.std.specs.Prelude.{◌&&◌, ◌++◌, ◌||◌, ◌≡◌, All, Bool, List, None, Option, Some, if◌then◌else◌, map, string_bytes, ℕ}
 use Rattle.kc_language.specs.{ConfigFile.UserInput, Symbols.TreeFacts, Texts.{IsSolutionFor, Solution}}
+use Rattle.kc_language.specs.declared.expressions.SymId.{SymId}
+use Rattle.kc_outcome.specs.Explanations.{Fact}
 use Rattle.kc_outcome.specs.{Outcome.{Options, Outcome, is_not_empty, lead, refused_outcome}, declared.outcome.WantedOutput.{WantedOutput}}
 use Rattle.kc_how.specs.{Questions.goal_of, declared.question.Question.{Question}}
 use Rattle.kc_possible.specs.Possible.{IsSound}
+use Rattle.kc_explain.specs.declared.teller.Teller.{Teller}
 use Rattle.kc_io.specs.Delivery.{NamedText}
-use Rattle.kc_conf.specs.{Accepted.IsReady, How.{IsGoal, IsToldOf, heading, told}, Reads.IsWholeEnd, declared.accepted.OrderedTree.OrderedTree, declared.reply.{Asked.{Asked}, Inquiry.{Inquiry}, Reply.{Reply, TheVariants.{Refusal, Text}}}}
+use Rattle.kc_conf.specs.{Accepted.IsReady, How.{IsGoal, IsReason, IsToldOf, heading, reason_lines, told}, Reads.IsWholeEnd, declared.accepted.OrderedTree.OrderedTree, declared.reply.{Asked.{Asked}, Inquiry.{Inquiry}, Reply.{Reply, TheVariants.{Refusal, Text}}}}
 
 -- what such a reply leaves: its text for each output, or a refusal
 abbrev pub outcome_by : Options → Reply → Outcome
@@ -29,6 +33,18 @@ pub record IsAsked (options : Options) (asked : Asked) (q : Question) : Type 0 w
   pub goal : IsGoal options asked q.laid.now.tree.now (goal_of q.goal.now)
   pub steps : q.steps ≡ asked.steps
   pub strict : q.is_strict ≡ options.strict
+
+-- the teller tells of the solution before
+pub record IsTellerOf (q : Question) (t : Teller) : Type 0 where
+  pub solved : t.solved.now ≡ q.before.now
+  pub input : t.input.now ≡ q.input.now
+  pub is_raw : t.is_raw ≡ q.prefix.now.is_raw
+
+-- the lines of such reasons are added
+pub record AddsReasons (q : Question) (old new : List ℕ) : Type 0 where
+  pub reasons : List (SymId × List Fact)
+  pub off : All (IsReason q.input.now q.before.now) reasons
+  pub added : new ≡ old ++ flat_map (reason_lines q.prefix.now q.laid.now.tree.now) reasons
 
 -- the reply to a question
 pub record Replies (q : Question) (reply : Reply) : Type 0 where

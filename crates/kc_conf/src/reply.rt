@@ -1,5 +1,5 @@
 //! What a run replies that is asked what must be set so that a symbol has a value.
-ghost use Rattle.std.specs.Prelude.{All, IfOk, Some, map, not, ◌<◌, ◌||◌, ◌≡◌};
+ghost use Rattle.std.specs.Prelude.{All, IfOk, OnOk, Some, map, not, ◌<◌, ◌||◌, ◌≡◌};
 ghost use Rattle.kc_language.specs.ConfigFile.{ArePlacesOf};
 ghost use Rattle.kc_language.specs.Values.{name_count};
 ghost use Rattle.kc_language.specs.declared.expressions.SymId.{SymId};
@@ -8,17 +8,19 @@ ghost use Rattle.kc_how.specs.How.{IsFix, IsOutOfReach};
 ghost use Rattle.kc_how.specs.FixTexts as spec;
 ghost use Rattle.kc_how.specs.Questions.{IsQuestion, IsWith, goal_of};
 ghost use Rattle.kc_conf.specs.How.{asked_first};
-ghost use Rattle.kc_conf.specs.HowParts.{IsInquiry, IsReply, Replies};
+ghost use Rattle.kc_conf.specs.HowParts.{AddsReasons, IsInquiry, IsReply, IsTellerOf, Replies};
 
 use crate::accepted::OrderedTree;
-use kc_explain::asked_symbol;
+use kc_explain::{Teller, add_fixed, asked_symbol};
 use kc_expr::expression::SymId;
 use kc_expr::values::Values;
 use kc_how::answer::{Answer, Miss, answered};
 use kc_how::fix::{fragment_alone, with_fragment};
 use kc_how::goal::{Goal, wanted_value};
 use kc_how::question::Question;
-use kc_how::text::{Fix, fix_text, impossible_text, loses_nothing, no_value_text, not_found_text};
+use kc_how::text::{
+    Fix, add_reason, fix_text, impossible_line, loses_nothing, no_value_text, not_found_text,
+};
 use kc_input::user_input::UserInput;
 use kc_options::Options;
 use kc_possible::possible::Possible;
@@ -72,22 +74,65 @@ fn not_found(
     Ok(Reply::Refusal(text))
 }
 
+// Adds the lines of a symbol that is off: that, and what no line can change.
+fn add_reason_lines(
+    alloc: Global,
+    question: &Question<'_, '_, '_, '_>,
+    teller: &Teller<'_, '_, '_>,
+    reason: SymId,
+    text: &mut Vec<u8>,
+) -> Result<(), AllocError>
+    requires question { IsQuestion question.now }
+    requires teller { IsTellerOf question.now teller.now }
+    requires off { IsOff question.now.laid.now.tree.now reason }
+    ensures { OnOk result (AddsReasons question.now text.old.items text.new.items) }
+{
+    add_reason(question.laid.tree, reason, text)?;
+    add_fixed(alloc, teller, question.possible, b"    ", reason, text)
+}
+
+// The same for all of these symbols.
+fn add_reasons(
+    alloc: Global,
+    question: &Question<'_, '_, '_, '_>,
+    teller: &Teller<'_, '_, '_>,
+    reasons: &[SymId],
+    text: &mut Vec<u8>,
+) -> Result<(), AllocError>
+    requires question { IsQuestion question.now }
+    requires teller { IsTellerOf question.now teller.now }
+    requires off { All (IsOff question.now.laid.now.tree.now) reasons.now }
+    ensures { OnOk result (AddsReasons question.now text.old.items text.new.items) }
+{
+    for reason in reasons {
+        add_reason_lines(alloc, question, teller, *reason, text)?;
+    }
+    Ok(())
+}
+
 // No input reaches the goal, and these symbols are off.
 fn impossible(
     alloc: Global,
     question: &Question<'_, '_, '_, '_>,
     reasons: &[SymId],
 ) -> Result<Reply, AllocError>
-    requires { IsOutOfReach question.now.laid.now.tree.now (goal_of question.now.goal.now) × All (IsOff question.now.laid.now.tree.now) reasons.now }
+    requires question { IsQuestion question.now }
+    requires out { IsOutOfReach question.now.laid.now.tree.now (goal_of question.now.goal.now) }
+    requires off { All (IsOff question.now.laid.now.tree.now) reasons.now }
     ensures { IfOk result (Replies question.now) }
 {
-    let text = impossible_text(
+    let goal = question.goal;
+    let teller = Teller::new(question.before, question.input, question.prefix.is_raw());
+    let mut text = impossible_line(alloc, question.laid.tree, question.prefix, goal)?;
+    add_fixed(
         alloc,
-        question.laid.tree,
-        question.prefix,
-        question.goal,
-        reasons,
+        &teller,
+        question.possible,
+        b"  ",
+        goal.symbol,
+        &mut text,
     )?;
+    add_reasons(alloc, question, &teller, reasons, &mut text)?;
     Ok(Reply::Refusal(text))
 }
 

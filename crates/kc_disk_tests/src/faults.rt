@@ -35,7 +35,7 @@ const REFUSALS: &[Case] = &[
         name: "a value that no input gives",
         arguments: "--how A=y Kconfig",
         tree: &[("./Kconfig", b"config A\n\tbool \"a\"\n\tdepends on NONE\n")],
-        diagnostics: b"error E25: no input gives CONFIG_A=y\n  NONE: not defined\n",
+        diagnostics: b"error E25: no input gives CONFIG_A=y\n  Kconfig:3: depends on NONE: n\n  NONE: not defined\n",
         ..REFUSED
     },
 ];

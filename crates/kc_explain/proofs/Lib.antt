@@ -2,6 +2,7 @@ pub mod ChoiceFactLemmas
 pub mod DependencyLemmas
 pub mod ExcerptLemmas
 pub mod FactLemmas
+pub mod FixedLemmas
 pub mod HoldingLemmas
 pub mod LineLemmas
 pub mod NearLemmas

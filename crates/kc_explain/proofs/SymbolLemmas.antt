@@ -45,7 +45,7 @@ word-at (Some l) = by l.statement
     by _ = refl
 
 module _ (is_raw : Bool) (tree : TreeFacts) where
-  asked-as : (i : ℕ) (asks : rules.Asked) → asked_text is_raw tree (slice_get tree.lines i) asks ≡ rules.part_text is_raw tree (record { at = i; asks = asks })
+  pub asked-as : (i : ℕ) (asks : rules.Asked) → asked_text is_raw tree (slice_get tree.lines i) asks ≡ rules.part_text is_raw tree (record { at = i; asks = asks })
   asked-as i (rules.Worth e) =
       ap (λ w. w ++ form_text is_raw tree e) (word-at (slice_get tree.lines i)
       ∙ ap (λ (o : Option Numbered). elim o [ Some (DependsLine d) ↦ codes "depends on " | Some (VisibleLine d) ↦ codes "visible if " | _ ↦ codes "if " ])

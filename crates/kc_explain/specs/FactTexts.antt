@@ -48,8 +48,11 @@ module _ (is_raw : Bool) (tree : TreeFacts) where
   abbrev pub asked_text : Option (Located Numbered) → rules.Asked → List ℕ
   asked_text line asks = elim asks [ rules.ModeOf k ↦ codes "choice" | rules.Worth e ↦ word_in line ++ form_text e ]
 
+  abbrev pub own_part_words : Part → Tri → List ℕ
+  own_part_words p t = location_text p.line ++ asked_text p.line p.asks ++ ending t
+
   abbrev pub part_words : Part → Tri → List ℕ
-  part_words p t = codes "  " ++ location_text p.line ++ asked_text p.line p.asks ++ ending t
+  part_words p t = codes "  " ++ own_part_words p t
 
   abbrev pub if_text : Option Form → List ℕ
   if_text w = elim w [ None ↦ [] | Some e ↦ codes " if " ++ form_text e ]
@@ -122,3 +125,11 @@ module _ (is_raw : Bool) (tree : TreeFacts) where
 
   abbrev pub facts_text : List ℕ → List FactView → List ℕ
   facts_text lead fs = flat_map (fact_text lead) fs
+
+  -- the words of a fact that no line can change, and its line
+  abbrev pub fixed_words : FactView → List ℕ
+  fixed_words (fact.PartIs p t) = own_part_words p t
+  fixed_words f = words f
+
+  abbrev pub fixed_text : List ℕ → FactView → List ℕ
+  fixed_text lead f = lead ++ fixed_words f ++ codes "\n"

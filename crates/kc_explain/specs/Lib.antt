@@ -3,6 +3,8 @@ pub mod Excerpts
 pub mod FactLists
 pub mod FactTexts
 pub mod FactViews
+pub mod Fixed
+pub mod FixedViews
 pub mod Holding
 pub mod LineViews
 pub mod NearNames

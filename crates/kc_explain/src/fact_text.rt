@@ -332,6 +332,18 @@ fn add_part(
     ensures { OnOk result (text.new.items ≡ text.old.items ++ told.part_words t.now.is_raw t.now.solved.now.tree (part_view part.now) value) }
 {
     text.extend_from_slice(b"  ")?;
+    add_own_part(t, part, value, text)
+}
+
+// Appends a part of a condition without the blanks.
+fn add_own_part(
+    t: &Teller<'_, '_, '_>,
+    part: &ConditionPart<'_>,
+    value: Tri,
+    text: &mut Vec<u8>,
+) -> Result<(), AllocError>
+    ensures { OnOk result (text.new.items ≡ text.old.items ++ told.own_part_words t.now.is_raw t.now.solved.now.tree (part_view part.now) value) }
+{
     add_location(part.line, text)?;
     add_asked(t, part, text)?;
     add_ending(value, text)
@@ -745,5 +757,34 @@ pub(crate) fn add_fact(
     text.extend_from_slice(b"  ")?;
     add_input_place(fact, text)?;
     add_words(t, fact, text)?;
+    text.extend_from_slice(b"\n")
+}
+
+// Appends the words of a fact; those of a part of a condition without the blanks.
+fn add_fixed_words(
+    t: &Teller<'_, '_, '_>,
+    fact: &Fact<'_>,
+    text: &mut Vec<u8>,
+) -> Result<(), AllocError>
+    ensures { OnOk result (text.new.items ≡ text.old.items ++ told.fixed_words t.now.is_raw t.now.solved.now.tree (fact_view t.now.solved.now fact.now)) }
+{
+    match *fact {
+        Fact::Part { part, value } => add_own_part(t, &part, value, text),
+        _ => add_words(t, fact, text),
+    }
+}
+
+/// Appends the line of a fact that no line can change after the lead.
+pub(crate) fn add_fixed_fact(
+    t: &Teller<'_, '_, '_>,
+    lead: &[u8],
+    fact: &Fact<'_>,
+    text: &mut Vec<u8>,
+) -> Result<(), AllocError>
+    ensures { OnOk result (text.new.items ≡ text.old.items
+        ++ told.fixed_text t.now.is_raw t.now.solved.now.tree lead.now (fact_view t.now.solved.now fact.now)) }
+{
+    text.extend_from_slice(lead)?;
+    add_fixed_words(t, fact, text)?;
     text.extend_from_slice(b"\n")
 }

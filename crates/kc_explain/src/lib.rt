@@ -4,6 +4,7 @@
 //! - [`Teller`]: what explanations are made from.
 //! - [`add_explanation`], [`add_symbol_lines`], [`add_value_words`]: append the lines that explain a symbol, or a part of them.
 //! - [`held`]: what holds a symbol down.
+//! - [`add_fixed`]: appends the facts about a symbol that no line can change.
 //! - [`DefinitionReader`]: gives the definitions of symbols as they are written.
 //! - [`Seen`]: symbols in the order in which they were seen.
 //! - [`asked_symbol`], [`near_text`]: the symbol of a name, and names that differ from one by one letter ([`differs_by_one`]).
@@ -13,6 +14,7 @@ pub mod excerpt;
 mod fact;
 mod fact_text;
 mod facts;
+pub mod fixed;
 mod holders;
 pub mod laws;
 mod lines;
@@ -29,6 +31,7 @@ pub mod teller;
 pub mod text;
 
 pub use excerpt::DefinitionReader;
+pub use fixed::add_fixed;
 pub use holders::held;
 pub use names::{asked_symbol, differs_by_one, near_text};
 pub use seen::Seen;

@@ -3,3 +3,4 @@ pub mod MergedLemmas
 pub mod FragmentLemmas
 pub mod LeftOutLemmas
 pub mod ReachLemmas
+pub mod ReasonLemmas

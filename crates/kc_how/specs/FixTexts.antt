@@ -71,16 +71,15 @@ module _ (tree : TreeFacts) (notation : Notation) (input : UserInput) (before af
     | Some old ↦ elim (own_value s) [ None ↦ is_loss s old | Some new ↦ false ]
   ]) tree.defined) == 0
 
--- E25: no input reaches the goal, and these symbols are always n; or the text is no value of the type. E26: no fix was found.
+-- E25: no input reaches the goal; below it a symbol that is always n. Or the text is no value of the type. E26: no fix was found.
+abbrev pub impossible_line : TreeFacts → Notation → Goal → List ℕ
+impossible_line tree notation goal = error_line (codes "E25: no input gives " ++ setting tree notation goal.symbol goal.value)
+
 abbrev pub reason_text : SymbolType → List ℕ
 reason_text kind = elim kind [ Undefined ↦ codes ": not defined\n" | _ ↦ codes ": always n\n" ]
 
 abbrev pub reason_line : TreeFacts → SymId → List ℕ
 reason_line tree s = codes "  " ++ name tree s ++ reason_text (type_in (facts tree s))
-
-abbrev pub impossible_text : TreeFacts → Notation → Goal → List SymId → List ℕ
-impossible_text tree notation goal reasons =
-    error_line (codes "E25: no input gives " ++ setting tree notation goal.symbol goal.value) ++ flat_map (reason_line tree) reasons
 
 abbrev pub type_words : SymbolType → List ℕ
 type_words Undefined = codes "no type"

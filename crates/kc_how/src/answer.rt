@@ -1,8 +1,9 @@
 //! The answer to a question.
 
-ghost use Rattle.std.specs.Prelude.{◌≡◌, IfOk, true};
+ghost use Rattle.std.specs.Prelude.{◌≡◌, All, IfOk, OnOk, true};
 ghost use Rattle.kc_how.specs.How.{IsOutOfReach};
 ghost use Rattle.kc_how.specs.Questions.{Answers, IsQuestion, goal_of};
+ghost use Rattle.kc_possible.specs.Possible.{IsOff, IsSound};
 
 use crate::fix::is_fix;
 use crate::lines::line_text;
@@ -11,9 +12,14 @@ use crate::search::best;
 use crate::shown::has_value;
 use kc_expr::expression::SymId;
 use kc_possible::dead::{may_be, may_have_text};
-use kc_possible::reason::reasons;
+use kc_possible::possible::Possible;
+use kc_possible::reason::shared_reasons;
+use kc_possible::shared::SharedReasons;
 use kc_user::value::UserValue;
 use std::alloc::{AllocError, Global};
+
+// How many symbols that stand in the way are listed.
+const MOST_REASONS: usize = 16;
 
 /// Why a search ended without an answer (our own).
 #[derive(Clone, Copy, Debug, PartialEq, Eq)]
@@ -29,7 +35,8 @@ pub enum Miss {
 pub enum Answer {
     /// The lines of a fragment, without their line ends, in the order of the tree. There is none if the goal is reached already.
     Found(Vec<Vec<u8>>),
-    /// No input reaches the goal. These symbols, which stand in its way, are n whatever the user gives.
+    /// No input reaches the goal. These symbols are n whatever the user gives. The first ones stand in its way, and the others in
+    /// that of those before them. There are at most 16, each once.
     Impossible(Vec<SymId>),
     /// The search ended without an answer.
     NotFound(Miss),
@@ -78,13 +85,65 @@ fn suggested(
     Ok(Ok(texts))
 }
 
+// Whether this symbol is among these.
+fn is_among(found: &[SymId], id: SymId) -> bool {
+    for symbol in found {
+        if symbol.0 == id.0 {
+            return true;
+        }
+    }
+    false
+}
+
+// Adds a symbol that is off, unless it is there or there are enough.
+#[tactic(auto, using(crate::proofs::ReasonLemmas::off_more))]
+fn add_new(p: &Possible<'_>, id: SymId, found: &mut Vec<SymId>) -> Result<(), AllocError>
+    requires off { IsOff p.now.laid.tree.now id }
+    requires found { All (IsOff p.now.laid.tree.now) found.old.items }
+    ensures { OnOk result (All (IsOff p.now.laid.tree.now) found.new.items) }
+{
+    if found.len() < MOST_REASONS && !is_among(found, id) {
+        found.push(id)?;
+    }
+    Ok(())
+}
+
+// The same for each of these.
+fn add_all_new(p: &Possible<'_>, more: &[SymId], found: &mut Vec<SymId>) -> Result<(), AllocError>
+    requires more { All (IsOff p.now.laid.tree.now) more.now }
+    requires found { All (IsOff p.now.laid.tree.now) found.old.items }
+    ensures { OnOk result (All (IsOff p.now.laid.tree.now) found.new.items) }
+{
+    for id in more {
+        add_new(p, *id, found)?;
+    }
+    Ok(())
+}
+
+// The symbols that stand in the way of a symbol, and those that stand in the way of these.
+fn all_reasons(alloc: Global, p: &Possible<'_>, id: SymId) -> Result<Vec<SymId>, AllocError>
+    requires { IsSound p.now }
+    ensures { IfOk result (λ found. All (IsOff p.now.laid.tree.now) found.items) }
+{
+    let mut shared = SharedReasons::new(alloc, p)?;
+    let mut found = shared_reasons(p, id, &mut shared)?;
+    'reasons: for next in 0..MOST_REASONS {
+        let Some(reason) = found.get(next).copied() else {
+            break;
+        };
+        let more = shared_reasons(p, reason, &mut shared)?;
+        add_all_new(p, &more, &mut found)?;
+    }
+    Ok(found)
+}
+
 /// Searches a fix for the question (our own). The only error is that memory runs out.
 pub fn answered(alloc: Global, question: &Question<'_, '_, '_, '_>) -> Result<Answer, AllocError>
     requires { IsQuestion question.now }
     ensures { IfOk result (Answers question.now) }
 {
     if is_excluded(question) {
-        let found = reasons(alloc, question.possible, question.goal.symbol)?;
+        let found = all_reasons(alloc, question.possible, question.goal.symbol)?;
         return Ok(Answer::Impossible(found));
     }
     let lines = match suggested(alloc, question)? {

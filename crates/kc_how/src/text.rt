@@ -1,6 +1,6 @@
 //! The text of a fix, with its cost as comments, and the errors E25 and E26.
 
-ghost use Rattle.std.specs.Prelude.{◌≡◌, ◌++◌, codes, decimal, flat_map, IfOk, OnOk, map};
+ghost use Rattle.std.specs.Prelude.{◌≡◌, ◌++◌, codes, decimal, IfOk, OnOk, map};
 ghost use Rattle.kc_how.specs.FixCosts.{is_lost};
 ghost use Rattle.kc_how.specs.FixTexts as spec;
 ghost use Rattle.kc_how.specs.How.{fragment_text};
@@ -94,7 +94,7 @@ pub fn loses_nothing(question: &Question<'_, '_, '_, '_>, fix: &Fix<'_, '_>) -> 
     true
 }
 
-// Why no input reaches a goal, of a symbol of this type.
+// Why a symbol of this type is always n.
 fn reason_text(symbol_type: SymbolType) -> &'static [u8]
     ensures { result.now ≡ spec.reason_text symbol_type }
 {
@@ -104,8 +104,8 @@ fn reason_text(symbol_type: SymbolType) -> &'static [u8]
     }
 }
 
-// Adds why no input reaches a goal: this symbol is always n.
-fn add_reason(tree: &Tree, id: SymId, text: &mut Vec<u8>) -> Result<(), AllocError>
+/// Adds a line: this symbol, which stands in the way of a goal, is always n (our own).
+pub fn add_reason(tree: &Tree, id: SymId, text: &mut Vec<u8>) -> Result<(), AllocError>
     ensures { OnOk result (text.new.items ≡ text.old.items ++ spec.reason_line tree.now id) }
 {
     text.extend_from_slice(b"  ")?;
@@ -113,30 +113,18 @@ fn add_reason(tree: &Tree, id: SymId, text: &mut Vec<u8>) -> Result<(), AllocErr
     text.extend_from_slice(reason_text(type_of(tree, id)))
 }
 
-// Adds why no input reaches a goal: these symbols are always n.
-fn add_reasons(tree: &Tree, reasons: &[SymId], text: &mut Vec<u8>) -> Result<(), AllocError>
-    ensures { OnOk result (text.new.items ≡ text.old.items ++ flat_map (spec.reason_line tree.now) reasons.now) }
-{
-    for id in reasons {
-        add_reason(tree, *id, text)?;
-    }
-    Ok(())
-}
-
-/// E25: no input reaches the goal, since these symbols are always n (our own).
-pub fn impossible_text(
+/// E25: no input reaches the goal (our own).
+pub fn impossible_line(
     alloc: Global,
     tree: &Tree,
     prefix: &Prefix,
     goal: &Goal,
-    reasons: &[SymId],
 ) -> Result<Vec<u8>, AllocError>
-    ensures { IfOk result (λ text. text.items ≡ spec.impossible_text tree.now prefix.now (goal_of goal.now) reasons.now) }
+    ensures { IfOk result (λ text. text.items ≡ spec.impossible_line tree.now prefix.now (goal_of goal.now)) }
 {
     let mut text = Vec::from_slice(alloc, b"error E25: no input gives ")?;
     add_setting(tree, prefix, goal.symbol, &goal.value, &mut text)?;
     text.push(b'\n')?;
-    add_reasons(tree, reasons, &mut text)?;
     Ok(text)
 }
 

@@ -26,8 +26,8 @@ pub(crate) fn type_of(p: &Possible<'_>, id: SymId) -> SymbolType
     }
 }
 
-/// What a symbol may be as a truth value.
-pub(crate) fn symbol(p: &Possible<'_>, id: SymId) -> Bounds
+/// What a symbol may be as a truth value (our own).
+pub fn symbol(p: &Possible<'_>, id: SymId) -> Bounds
     ensures low { result.low ≡ lowest p.now id }
     ensures covers { Covers p.now result (λ known. truth_of_value (known id)) }
 {
@@ -58,8 +58,8 @@ fn module(p: &Possible<'_>) -> Bounds
     }
 }
 
-/// What an expression may be.
-pub(crate) fn expression(p: &Possible<'_>, e: &Expr) -> Bounds
+/// What an expression may be (our own).
+pub fn expression(p: &Possible<'_>, e: &Expr) -> Bounds
     ensures { Covers p.now result (λ known. spec.value known p.now.laid.tree.now.modules (form_of e.now)) }
 {
     match e {

@@ -12,7 +12,7 @@
 pub mod bounds;
 mod conditions;
 pub mod dead;
-mod expression;
+pub mod expression;
 pub mod possible;
 mod ranges;
 pub mod reason;

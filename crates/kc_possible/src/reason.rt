@@ -14,7 +14,7 @@ use kc_entries::statement::{Head, Prompt};
 use kc_expr::expression::{Expr, Operand, SymId, SymbolType, Tri};
 use kc_tree::attributes::{depends_of, stated_default, visible_of};
 use kc_tree::rows::{EntryId, EntryPlace, Selector, SelectorId, Symbol, VisibleId};
-use std::alloc::{AllocError, Global};
+use std::alloc::AllocError;
 use std::rc::Rc;
 
 // How many reasons are listed, and how many of the blocks around a line are looked at.
@@ -391,13 +391,4 @@ pub fn shared_reasons(
         }
     }
     Ok(found)
-}
-
-/// The same for one symbol alone.
-pub fn reasons(alloc: Global, p: &Possible<'_>, id: SymId) -> Result<Vec<SymId>, AllocError>
-    requires { IsSound p.now }
-    ensures { IfOk result (λ found. All (IsOff p.now.laid.tree.now) found.items) }
-{
-    let mut shared = SharedReasons::new(alloc, p)?;
-    shared_reasons(p, id, &mut shared)
 }
