@@ -15,17 +15,11 @@ Prints what was compared. Keeps the files of the first difference in a folder th
 
 import collections
 import difflib
-import itertools
-import os
 import pathlib
-import random
 import re
-import shutil
-import subprocess
-import sys
-import tempfile
 
 import fuzz
+from random_trees import Differs, check_trees
 
 N, M, Y = 0, 1, 2
 LETTER = "nmy"
@@ -741,25 +735,10 @@ class Explainer:
 
 
 # ---- Comparing
-class Differs(Exception):
-    """What KCONF prints is not what was computed."""
-
-
 def compare(what, found, wanted):
     if found != wanted:
         lines = difflib.unified_diff(wanted.splitlines(), found.splitlines(), "computed", "kconf", lineterm="")
         raise Differs(f"{what}:\n" + "\n".join(lines))
-
-
-class Runner:
-    """The runs on one folder."""
-
-    def __init__(self, kconf, folder):
-        self.kconf, self.folder = kconf, folder
-
-    def run(self, *words):
-        ran = subprocess.run([self.kconf, *words], cwd=self.folder, stdin=subprocess.DEVNULL, capture_output=True, check=False)
-        return ran.returncode, ran.stdout.decode("latin1"), ran.stderr.decode("latin1")
 
 
 class Case:
@@ -879,30 +858,5 @@ def check_tree(runner, pick, counts):
                 raise Differs(f"{seen[key]} and {value} have the same lines:\n{words}")
 
 
-def main():
-    if not 2 <= len(sys.argv) <= 4:
-        sys.exit(__doc__)
-    kconf = os.path.abspath(sys.argv[1])
-    seed, trees = int(sys.argv[2]) if len(sys.argv) > 2 else 0, int(sys.argv[3]) if len(sys.argv) > 3 else 100
-    counts = collections.Counter()
-    with tempfile.TemporaryDirectory() as folder:
-        for case in itertools.count():
-            if counts["trees"] == trees:
-                break
-            for name in os.listdir(folder):
-                os.unlink(f"{folder}/{name}")
-            try:
-                check_tree(Runner(kconf, folder), random.Random(f"{seed} {case}"), counts)
-            except Exception as fault:
-                kept = f"{tempfile.gettempdir()}/explain-{seed}-{case}"
-                shutil.copytree(folder, kept, dirs_exist_ok=True)
-                if not isinstance(fault, Differs):
-                    print(f"tree {case} of seed {seed}, its files are in {kept}", file=sys.stderr)
-                    raise
-                print(f"tree {case} of seed {seed} differs, its files are in {kept}\n{fault}")
-                sys.exit(1)
-    print(f"seed {seed}: " + ", ".join(f"{count} {what}" for what, count in counts.items()) + ", no difference")
-
-
 if __name__ == "__main__":
-    main()
+    check_trees(__doc__, "explain", check_tree, (" differs", "no difference"))

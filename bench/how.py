@@ -12,18 +12,13 @@ which shares no code with kconf:
 Prints what was asked. Keeps the files of the first wrong answer in a folder that is named, and then ends with status 1.
 """
 
-import collections
 import itertools
-import os
 import pathlib
-import random
 import re
-import shutil
-import sys
-import tempfile
 
 import fuzz
-from explain import M, N, TEXTS, Differs, Input, Runner, Solution, Tree, Y, compare, escaped
+from explain import M, N, TEXTS, Input, Solution, Tree, Y, compare, escaped
+from random_trees import Differs, check_trees
 
 QUESTIONS = 6
 ALL = 3000
@@ -176,30 +171,5 @@ def check_tree(runner, pick, counts):
         ask(runner, pick, Question(tree, streams, bool(flags), name, value), ["--config", "dot.config", *flags], counts)
 
 
-def main():
-    if not 2 <= len(sys.argv) <= 4:
-        sys.exit(__doc__)
-    kconf = os.path.abspath(sys.argv[1])
-    seed, trees = int(sys.argv[2]) if len(sys.argv) > 2 else 0, int(sys.argv[3]) if len(sys.argv) > 3 else 100
-    counts = collections.Counter()
-    with tempfile.TemporaryDirectory() as folder:
-        for case in itertools.count():
-            if counts["trees"] == trees:
-                break
-            for name in os.listdir(folder):
-                os.unlink(f"{folder}/{name}")
-            try:
-                check_tree(Runner(kconf, folder), random.Random(f"{seed} {case}"), counts)
-            except Exception as fault:
-                kept = f"{tempfile.gettempdir()}/how-{seed}-{case}"
-                shutil.copytree(folder, kept, dirs_exist_ok=True)
-                if not isinstance(fault, Differs):
-                    print(f"tree {case} of seed {seed}, its files are in {kept}", file=sys.stderr)
-                    raise
-                print(f"tree {case} of seed {seed}: a wrong answer, its files are in {kept}\n{fault}")
-                sys.exit(1)
-    print(f"seed {seed}: " + ", ".join(f"{count} {what}" for what, count in counts.items()) + ", none is wrong")
-
-
 if __name__ == "__main__":
-    main()
+    check_trees(__doc__, "how", check_tree, (": a wrong answer", "none is wrong"))

@@ -12,20 +12,18 @@ Strings and numbers have the values that the tree names, and a few more. Prints 
 that is named, and then ends with status 1. SHOW in the environment prints each question that is left open although there is an answer.
 """
 
-import collections
 import itertools
 import math
 import os
 import pathlib
-import random
 import re
 import shutil
-import sys
 import tempfile
 
 import fuzz
-from explain import M, N, Differs, Input, Runner, Solution, Tree, Y
+from explain import M, N, Input, Solution, Tree, Y
 from how import Question
+from random_trees import Differs, check_trees
 
 MOST = 3000  # fragments of a tree
 SYMBOLS = [3, 4, 5, 5, 6]
@@ -153,30 +151,5 @@ def check_tree(runner, pick, counts):
             ask(runner, question, ["--config", "dot.config"], reached, counts)
 
 
-def main():
-    if not 2 <= len(sys.argv) <= 4:
-        sys.exit(__doc__)
-    kconf = os.path.abspath(sys.argv[1])
-    seed, trees = int(sys.argv[2]) if len(sys.argv) > 2 else 0, int(sys.argv[3]) if len(sys.argv) > 3 else 100
-    counts = collections.Counter()
-    with tempfile.TemporaryDirectory() as folder:
-        for case in itertools.count():
-            if counts["trees"] == trees:
-                break
-            for name in os.listdir(folder):
-                os.unlink(f"{folder}/{name}")
-            try:
-                check_tree(Runner(kconf, folder), random.Random(f"{seed} {case}"), counts)
-            except Exception as fault:
-                kept = f"{tempfile.gettempdir()}/how-all-{seed}-{case}"
-                shutil.copytree(folder, kept, dirs_exist_ok=True)
-                if not isinstance(fault, Differs):
-                    print(f"tree {case} of seed {seed}, its files are in {kept}", file=sys.stderr)
-                    raise
-                print(f"tree {case} of seed {seed}: a wrong answer, its files are in {kept}\n{fault}")
-                sys.exit(1)
-    print(f"seed {seed}: " + ", ".join(f"{count} {what}" for what, count in counts.items()) + ", none is wrong")
-
-
 if __name__ == "__main__":
-    main()
+    check_trees(__doc__, "how-all", check_tree, (": a wrong answer", "none is wrong"))
