@@ -50,7 +50,7 @@ ends-parts f each (x ∷ xs) front ends =
 
 ends-fixed : (is_raw : Bool) (tree : TreeFacts) (lead : List ℕ) (facts : List Fact) (front : List ℕ) → IsWholeEnd front → IsWholeEnd (front ++ fixed_lines is_raw tree lead facts)
 ends-fixed is_raw tree lead facts front ends =
-    ends-parts (λ l. lead ++ l ++ codes "\n") (λ l. (lead ++ l, sym (append_assoc lead l (codes "\n")))) (map (fixed_words is_raw tree) facts) front ends
+    ends-parts (λ l. lead ++ l ++ codes "\n") (λ l. (lead ++ l, refl)) (map (fixed_words is_raw tree) facts) front ends
 
 ends-reason_lines : (notation : Notation) (tree : TreeFacts) (reason : SymId × List Fact) → IsWholeEnd (reason_lines notation tree reason)
 ends-reason_lines notation tree reason =
@@ -59,10 +59,8 @@ ends-reason_lines notation tree reason =
 ends-impossible : (notation : Notation) (tree : TreeFacts) (goal : Goal) (facts : List Fact) (reasons : List (SymId × List Fact)) → IsWholeEnd (impossible_text notation tree goal facts reasons)
 ends-impossible notation tree goal facts reasons =
     let first : List ℕ = impossible_line tree notation goal in
-    let second : List ℕ = fixed_lines notation.is_raw tree (codes "  ") facts in
-    subst IsWholeEnd (append_assoc first second (flat_map (reason_lines notation tree) reasons))
-    (ends-parts (reason_lines notation tree) (ends-reason_lines notation tree) reasons (first ++ second)
-    (ends-fixed notation.is_raw tree (codes "  ") facts first (ends-error (codes "E25: no input gives " ++ setting tree notation goal.symbol goal.value))))
+    ends-parts (reason_lines notation tree) (ends-reason_lines notation tree) reasons (first ++ fixed_lines notation.is_raw tree (codes "  ") facts)
+    (ends-fixed notation.is_raw tree (codes "  ") facts first (ends-error (codes "E25: no input gives " ++ setting tree notation goal.symbol goal.value)))
 
 -- ---- replies to a question
 
@@ -134,7 +132,7 @@ module _ (q : Question) where
       let lines : List ℕ = fixed_lines q.prefix.now.is_raw tree (codes "  ") own.0 in
       let reasons : List ℕ = flat_map (reason_lines q.prefix.now tree) more.reasons in
       let whole : text.items ≡ impossible_text q.prefix.now tree goal own.0 more.reasons =
-      more.added ∙ ap (λ r. r ++ reasons) (own.2 ∙ ap (λ r. r ++ lines) e) ∙ append_assoc (impossible_line tree q.prefix.now goal) lines reasons in
+      more.added ∙ ap (λ r. r ++ reasons) (own.2 ∙ ap (λ r. r ++ lines) e) in
       record {
         told = λ options asked is_asked. impossible goal (record { facts = own.0; fixed = own.1; reasons = more.reasons; off = more.off }) is_asked.goal out
             (ap (λ r. refused_outcome (lead options ++ r)) (whole ∙ ap (λ (p : Notation). impossible_text p tree goal own.0 more.reasons) is_asked.prefix));
