@@ -64,9 +64,12 @@ fn is_fixed(p: &Possible<'_>, fact: &Fact<'_>) -> bool
     }
 }
 
-// Whether this line is among these.
+// Among how many of the last lines one is looked for.
+const MOST_LINES: usize = 64;
+
+// Whether this line is among the last of these.
 fn is_among(lines: &[Line<'_>], line: Line<'_>) -> bool {
-    for other in lines {
+    for other in &lines[lines.len().saturating_sub(MOST_LINES)..] {
         if other.number == line.number && other.file == line.file {
             return true;
         }
