@@ -96,7 +96,6 @@ fn is_among(found: &[SymId], id: SymId) -> bool {
 }
 
 // Adds a symbol that is off, unless it is there or there are enough.
-#[tactic(auto, using(crate::proofs::ReasonLemmas::off_more))]
 fn add_new(p: &Possible<'_>, id: SymId, found: &mut Vec<SymId>) -> Result<(), AllocError>
     requires off { IsOff p.now.laid.tree.now id }
     requires found { All (IsOff p.now.laid.tree.now) found.old.items }
