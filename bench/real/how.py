@@ -227,14 +227,15 @@ def asked(runner, name, value):
 
 
 def asked_all(runner, wanted):
-    """Asks all questions; those that are in the file of answers are not asked again."""
-    path = pathlib.Path(os.environ.get("ANSWERS", os.devnull))
-    known = [Answer(**json.loads(line)) for line in path.read_text().splitlines()] if path.is_file() else []
-    known = {(answer.name, answer.value): answer for answer in known}
+    """Asks all questions; those that are in the file of answers, of this tree and configuration, are not asked again."""
+    path, place = pathlib.Path(os.environ.get("ANSWERS", os.devnull)), f"{runner.flat} {runner.config}"
+    kept = [json.loads(line) for line in path.read_text().splitlines()] if path.is_file() else []
+    answers = [Answer(**line["answer"]) for line in kept if line["place"] == place]
+    known = {(answer.name, answer.value): answer for answer in answers}
     with concurrent.futures.ThreadPoolExecutor(int(os.environ.get("JOBS", "2"))) as pool, path.open("a") as file:
         for pair, answer in zip(wanted, pool.map(lambda pair: known.get(pair) or asked(runner, *pair), wanted)):
             if pair not in known:
-                file.write(json.dumps(dataclasses.asdict(answer)) + "\n")
+                file.write(json.dumps({"place": place, "answer": dataclasses.asdict(answer)}) + "\n")
                 file.flush()
             yield answer
 
