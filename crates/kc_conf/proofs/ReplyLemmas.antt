@@ -3,11 +3,11 @@ use Rattle.std.proofs.Common.{◌≡◌, ◌∙◌, ℕ, Bool, decimal, false, n
 use Rattle.std.specs.List.{flat_map}
 use Rattle.std.proofs.lemmas.Grind.{flat_map-append}
 use Rattle.std.proofs.lemmas.List.Elements.{All-append, All-cons, All-nil}
-use Rattle.std.specs.Prelude.{All, ◌||◌, codes, map}
+use Rattle.std.specs.Prelude.{All, ◌||◌, codes, if◌then◌else◌, map}
 use Rattle.kc_language.specs.ConfigFile.{Notation, UserInput}
 use Rattle.kc_language.specs.Statements.{error_line}
-use Rattle.kc_language.specs.Symbols.{TreeFacts}
-use Rattle.kc_language.specs.Texts.{IsSolutionFor, Solution}
+use Rattle.kc_language.specs.Symbols.{SymbolFacts, TreeFacts, same_type}
+use Rattle.kc_language.specs.Texts.{IsSolutionFor, Solution, has_prompt}
 use Rattle.kc_language.specs.Values.{GivenValue, facts, name, type_in}
 use Rattle.kc_language.specs.declared.expressions.SymId.{SymId}
 use Rattle.kc_language.specs.declared.expressions.SymbolType.{SymbolType}
@@ -22,7 +22,7 @@ use Rattle.kc_how.specs.declared.answer.Miss.{Miss}
 use Rattle.kc_how.specs.declared.question.Question.{Question}
 use Rattle.kc_explain.specs.Fixed.{AreFixedOf, fixed_lines, fixed_words}
 use Rattle.kc_explain.specs.declared.teller.Teller.{Teller}
-use Rattle.kc_conf.specs.How.{IsReason, asked_first, fixed, impossible, impossible_text, no_value, not_found, reason_lines, told}
+use Rattle.kc_conf.specs.How.{IsReason, asked_first, fixed, impossible, impossible_text, no_value, not_found, prompt_line, prompt_of, reason_lines, told}
 use Rattle.kc_conf.specs.HowParts.{AddsReasons, IsAsked, IsReply, IsTellerOf, Replies}
 use Rattle.kc_conf.specs.Reads.{IsWholeEnd}
 use Rattle.kc_conf.specs.declared.reply.Asked.{Asked}
@@ -52,15 +52,25 @@ ends-fixed : (is_raw : Bool) (tree : TreeFacts) (lead : List ℕ) (facts : List 
 ends-fixed is_raw tree lead facts front ends =
     ends-parts (λ l. lead ++ l ++ codes "\n") (λ l. (lead ++ l, refl)) (map (fixed_words is_raw tree) facts) front ends
 
+ends-prompt : (lead front : List ℕ) → IsWholeEnd front → (of : Option SymbolFacts) → IsWholeEnd (front ++ prompt_of lead of)
+ends-prompt lead front ends None = subst IsWholeEnd (sym (append-nil front)) ends
+ends-prompt lead front ends (Some f) = by (same_type f.symbol_type Undefined || has_prompt f.prompts)
+  where
+    by : (is_told : Bool) → IsWholeEnd (front ++ (if is_told then [] else lead ++ codes "no prompt" ++ codes "\n"))
+    by true = subst IsWholeEnd (sym (append-nil front)) ends
+    by false = ends-behind front (lead ++ codes "no prompt" ++ codes "\n") (lead ++ codes "no prompt", refl)
+
 ends-reason_lines : (notation : Notation) (tree : TreeFacts) (reason : SymId × List Fact) → IsWholeEnd (reason_lines notation tree reason)
 ends-reason_lines notation tree reason =
-    ends-fixed notation.is_raw tree (codes "    ") reason.1 (reason_line tree reason.0) (ends-reason tree reason.0)
+    ends-fixed notation.is_raw tree (codes "    ") reason.1 (reason_line tree reason.0 ++ prompt_line (codes "    ") tree reason.0)
+    (ends-prompt (codes "    ") (reason_line tree reason.0) (ends-reason tree reason.0) (facts tree reason.0))
 
-ends-impossible : (notation : Notation) (tree : TreeFacts) (goal : Goal) (facts : List Fact) (reasons : List (SymId × List Fact)) → IsWholeEnd (impossible_text notation tree goal facts reasons)
-ends-impossible notation tree goal facts reasons =
-    let first : List ℕ = impossible_line tree notation goal in
-    ends-parts (reason_lines notation tree) (ends-reason_lines notation tree) reasons (first ++ fixed_lines notation.is_raw tree (codes "  ") facts)
-    (ends-fixed notation.is_raw tree (codes "  ") facts first (ends-error (codes "E25: no input gives " ++ setting tree notation goal.symbol goal.value)))
+ends-impossible : (notation : Notation) (tree : TreeFacts) (goal : Goal) (told : List Fact) (reasons : List (SymId × List Fact)) → IsWholeEnd (impossible_text notation tree goal told reasons)
+ends-impossible notation tree goal told reasons =
+    let first : List ℕ = impossible_line tree notation goal ++ prompt_line (codes "  ") tree goal.symbol in
+    ends-parts (reason_lines notation tree) (ends-reason_lines notation tree) reasons (first ++ fixed_lines notation.is_raw tree (codes "  ") told)
+    (ends-fixed notation.is_raw tree (codes "  ") told first (ends-prompt (codes "  ") (impossible_line tree notation goal)
+    (ends-error (codes "E25: no input gives " ++ setting tree notation goal.symbol goal.value)) (facts tree goal.symbol)))
 
 -- ---- replies to a question
 
@@ -99,17 +109,19 @@ module _ (q : Question) where
         ∙ ap (λ (r : TreeFacts). old ++ fixed_lines q.prefix.now.is_raw r lead adds.0) (ap (λ (solution : Solution). solution.tree) tells.solved ∙ is.before.tree_is),
   )
 
-  pub adds_reason : (t : Teller) (s : SymId) (old middle new : List ℕ) → IsQuestion q → IsTellerOf q t → IsOff tree s → middle ≡ old ++ reason_line tree s →
-      AddsFacts t (codes "    ") s middle new → AddsReasons q old new
-  adds_reason t s old middle new is tells off e adds =
+  pub adds_reason : (t : Teller) (s : SymId) (old called middle new : List ℕ) → IsQuestion q → IsTellerOf q t → IsOff tree s → called ≡ old ++ reason_line tree s →
+      middle ≡ called ++ prompt_line (codes "    ") tree s → AddsFacts t (codes "    ") s middle new → AddsReasons q old new
+  adds_reason t s old called middle new is tells off e shown adds =
       let own = own-facts t (codes "    ") s middle new is tells adds in
       let lines : List ℕ = fixed_lines q.prefix.now.is_raw tree (codes "    ") own.0 in
+      let prompt : List ℕ = prompt_line (codes "    ") tree s in
+      let first : List ℕ = reason_line tree s ++ prompt in
+      let begins : middle ≡ old ++ first = shown ∙ ap (λ r. r ++ prompt) e ∙ append_assoc old (reason_line tree s) prompt in
       record {
         reasons = (s, own.0) ∷ [];
         off = All-cons (IsReason q.input.now q.before.now) (s, own.0) [] (record { off = subst (λ (r : TreeFacts). IsOff r s) (sym is.before.tree_is) off; fixed = own.1 })
             (All-nil (IsReason q.input.now q.before.now));
-        added = own.2 ∙ ap (λ r. r ++ lines) e ∙ append_assoc old (reason_line tree s) lines
-            ∙ ap (λ r. old ++ r) (sym (append-nil (reason_line tree s ++ lines)));
+        added = own.2 ∙ ap (λ r. r ++ lines) begins ∙ append_assoc old first lines ∙ ap (λ r. old ++ r) (sym (append-nil (first ++ lines)));
       }
 
   pub adds_no_reason : (text : List ℕ) → AddsReasons q text text
@@ -125,14 +137,15 @@ module _ (q : Question) where
             ∙ ap (λ r. a ++ r) (sym (flat_map-append (reason_lines q.prefix.now tree) x.reasons y.reasons));
       }
 
-  pub Replies-impossible : (t : Teller) (first middle : List ℕ) (text : Vec ℕ Global) → IsQuestion q → IsTellerOf q t → IsOutOfReach tree goal →
-      first ≡ impossible_line tree q.prefix.now goal → AddsFacts t (codes "  ") goal.symbol first middle → AddsReasons q middle text.items → Replies q (Refusal text)
-  Replies-impossible t first middle text is tells out e adds more =
-      let own = own-facts t (codes "  ") goal.symbol first middle is tells adds in
+  pub Replies-impossible : (t : Teller) (first shown middle : List ℕ) (text : Vec ℕ Global) → IsQuestion q → IsTellerOf q t → IsOutOfReach tree goal →
+      first ≡ impossible_line tree q.prefix.now goal → shown ≡ first ++ prompt_line (codes "  ") tree goal.symbol →
+      AddsFacts t (codes "  ") goal.symbol shown middle → AddsReasons q middle text.items → Replies q (Refusal text)
+  Replies-impossible t first shown middle text is tells out e prompt adds more =
+      let own = own-facts t (codes "  ") goal.symbol shown middle is tells adds in
       let lines : List ℕ = fixed_lines q.prefix.now.is_raw tree (codes "  ") own.0 in
       let reasons : List ℕ = flat_map (reason_lines q.prefix.now tree) more.reasons in
       let whole : text.items ≡ impossible_text q.prefix.now tree goal own.0 more.reasons =
-      more.added ∙ ap (λ r. r ++ reasons) (own.2 ∙ ap (λ r. r ++ lines) e) in
+      more.added ∙ ap (λ r. r ++ reasons) (own.2 ∙ ap (λ r. r ++ lines) (prompt ∙ ap (λ r. r ++ prompt_line (codes "  ") tree goal.symbol) e)) in
       record {
         told = λ options asked is_asked. impossible goal (record { facts = own.0; fixed = own.1; reasons = more.reasons; off = more.off }) is_asked.goal out
             (ap (λ r. refused_outcome (lead options ++ r)) (whole ∙ ap (λ (p : Notation). impossible_text p tree goal own.0 more.reasons) is_asked.prefix));

@@ -1,8 +1,8 @@
 -- Trusted: A run that tells what must be set so that a symbol has a value.
 -- Our own. It reads the tree and the input files like any run, and ends in `HowRuns`; for many configurations, in `HowRunsEach`; and for the tree of a
 -- folder, in `FolderHowRuns`.
-use Rattle.std.specs.{List.flat_map, Prelude.{All, Bool, Err, List, None, Option, Some, [], codes, if◌then◌else◌, map, string_bytes, true, ℕ, ◌++◌, ◌∷◌, ◌≡◌, ◌⊎◌}}
-use Rattle.kc_language.specs.{ConfigFile.{Notation, ReadResult, StreamLocation, UserInput}, Expansion.{AreOpened, Files, Refused}, Statements.{error_at, error_line, run_error_text}, Symbols.TreeFacts, Texts.{IsSolutionFor, Solution}, Values.{facts, type_in}, declared.{diagnostics.RunError.{RunError}, expressions.SymId.SymId}}
+use Rattle.std.specs.{List.flat_map, Prelude.{All, Bool, Err, List, None, Option, Some, [], codes, if◌then◌else◌, map, string_bytes, true, ℕ, ◌++◌, ◌||◌, ◌∷◌, ◌≡◌, ◌⊎◌}}
+use Rattle.kc_language.specs.{ConfigFile.{Notation, ReadResult, StreamLocation, UserInput}, Expansion.{AreOpened, Files, Refused}, Statements.{error_at, error_line, run_error_text}, Symbols.{SymbolFacts, TreeFacts, same_type}, Texts.{IsSolutionFor, Solution, has_prompt}, Values.{facts, type_in}, declared.{diagnostics.RunError.{RunError}, expressions.{SymId.SymId, SymbolType.TheVariants.{Undefined}}}}
 use Rattle.kc_outcome.specs.{Explanations.{Fact, asked_symbol}, Outcome.{IsAcceptedTree, IsRefusedTree, Options, Outcome, first_line, lead, lines_text, near_text, read_of, refusal_line, refused_outcome, reported, root_file, strictly, unknown_name, unreadable_name}, declared.outcome.Status.{Status}}
 use Rattle.kc_how.specs.{FixTexts.{fix_text, impossible_line, loses_nothing, no_value_text, not_found_text, reason_line}, How.{Goal, IsFix, IsOutOfReach, wanted_value, with_fragment}, declared.answer.Miss.{Miss}}
 use Rattle.kc_possible.specs.Possible.{IsOff}
@@ -37,13 +37,25 @@ pub record Obstacles (input : UserInput) (solution : Solution) (goal : Goal) : T
   pub reasons : List (SymId × List Fact)
   pub off : All (IsReason input solution) reasons
 
+-- A symbol that has a type and no prompt takes no value from a line.
+abbrev pub prompt_of : List ℕ → Option SymbolFacts → List ℕ
+prompt_of lead of = elim of [
+  | None ↦ []
+  | Some f ↦ if same_type f.symbol_type Undefined || has_prompt f.prompts then [] else lead ++ codes "no prompt" ++ codes "\n"
+]
+
+abbrev pub prompt_line : List ℕ → TreeFacts → SymId → List ℕ
+prompt_line lead tree s = prompt_of lead (facts tree s)
+
 -- E25: each symbol has two blanks in front, and each fact as many as what it is about, and two more.
 abbrev pub reason_lines : Notation → TreeFacts → SymId × List Fact → List ℕ
-reason_lines notation tree reason = reason_line tree reason.0 ++ fixed_lines notation.is_raw tree (codes "    ") reason.1
+reason_lines notation tree reason =
+    reason_line tree reason.0 ++ prompt_line (codes "    ") tree reason.0 ++ fixed_lines notation.is_raw tree (codes "    ") reason.1
 
 abbrev pub impossible_text : Notation → TreeFacts → Goal → List Fact → List (SymId × List Fact) → List ℕ
 impossible_text notation tree goal facts reasons =
-    impossible_line tree notation goal ++ fixed_lines notation.is_raw tree (codes "  ") facts ++ flat_map (reason_lines notation tree) reasons
+    impossible_line tree notation goal ++ prompt_line (codes "  ") tree goal.symbol ++ fixed_lines notation.is_raw tree (codes "  ") facts
+    ++ flat_map (reason_lines notation tree) reasons
 
 module _ (options : Options) (asked : Asked) (tree : TreeFacts) where
   -- This symbol shall have this value: the one that the text asks for, for a symbol of its type.

@@ -127,8 +127,8 @@ fn lost_by(
     Ok(Some(line))
 }
 
-// Whether a symbol has a prompt.
-fn has_prompt(layout: &Layout, id: SymId, symbol: &Symbol) -> bool
+/// Whether a symbol has a prompt.
+pub(crate) fn has_prompt(layout: &Layout, id: SymId, symbol: &Symbol) -> bool
     requires { slice_get layout.now.symbols.items id.0 ≡ Some symbol.now }
     ensures { result ≡ spec.has_prompt (facts_of layout.now id.0 symbol.now).prompts }
 {

@@ -1,5 +1,5 @@
 //! What a run replies that is asked what must be set so that a symbol has a value.
-ghost use Rattle.std.specs.Prelude.{All, IfOk, OnOk, Some, map, not, ◌<◌, ◌||◌, ◌≡◌};
+ghost use Rattle.std.specs.Prelude.{All, IfOk, OnOk, Some, map, not, ◌<◌, ◌||◌, ◌++◌, ◌≡◌};
 ghost use Rattle.kc_language.specs.ConfigFile.{ArePlacesOf};
 ghost use Rattle.kc_language.specs.Values.{name_count};
 ghost use Rattle.kc_language.specs.declared.expressions.SymId.{SymId};
@@ -7,12 +7,13 @@ ghost use Rattle.kc_possible.specs.Possible.{IsOff};
 ghost use Rattle.kc_how.specs.How.{IsFix, IsOutOfReach};
 ghost use Rattle.kc_how.specs.FixTexts as spec;
 ghost use Rattle.kc_how.specs.Questions.{IsQuestion, IsWith, goal_of};
-ghost use Rattle.kc_conf.specs.How.{asked_first};
+ghost use Rattle.kc_conf.specs.How.{asked_first, prompt_line};
 ghost use Rattle.kc_conf.specs.HowParts.{AddsReasons, IsInquiry, IsReply, IsTellerOf, Replies};
 
 use crate::accepted::OrderedTree;
+use crate::lost::has_prompt;
 use kc_explain::{Teller, add_fixed, asked_symbol};
-use kc_expr::expression::SymId;
+use kc_expr::expression::{SymId, SymbolType};
 use kc_expr::values::Values;
 use kc_how::answer::{Answer, Miss, answered};
 use kc_how::fix::{fragment_alone, with_fragment};
@@ -26,6 +27,7 @@ use kc_options::Options;
 use kc_possible::possible::Possible;
 use kc_solve::solve::solve;
 use kc_tree::tree::Tree;
+use kc_values::laws::rows_tell_facts;
 use std::alloc::{AllocError, Global};
 
 /// What is asked of the symbol of the first name to be explained (our own).
@@ -74,6 +76,27 @@ fn not_found(
     Ok(Reply::Refusal(text))
 }
 
+// Adds a line, after the lead, if a symbol has a type and no prompt.
+fn add_prompt_line(
+    tree: &Tree,
+    lead: &[u8],
+    id: SymId,
+    text: &mut Vec<u8>,
+) -> Result<(), AllocError>
+    ensures { OnOk result (text.new.items ≡ text.old.items ++ prompt_line lead.now tree.now id) }
+{
+    rows_tell_facts();
+    let layout = tree.layout();
+    let Some(symbol) = layout.symbol(id) else {
+        return Ok(());
+    };
+    if symbol.symbol_type == SymbolType::Undefined || has_prompt(layout, id, symbol) {
+        return Ok(());
+    }
+    text.extend_from_slice(lead)?;
+    text.extend_from_slice(b"no prompt\n")
+}
+
 // Adds the lines of a symbol that is off: that, and what no line can change.
 fn add_reason_lines(
     alloc: Global,
@@ -88,6 +111,7 @@ fn add_reason_lines(
     ensures { OnOk result (AddsReasons question.now text.old.items text.new.items) }
 {
     add_reason(question.laid.tree, reason, text)?;
+    add_prompt_line(question.laid.tree, b"    ", reason, text)?;
     add_fixed(alloc, teller, question.possible, b"    ", reason, text)
 }
 
@@ -124,6 +148,7 @@ fn impossible(
     let goal = question.goal;
     let teller = Teller::new(question.before, question.input, question.prefix.is_raw());
     let mut text = impossible_line(alloc, question.laid.tree, question.prefix, goal)?;
+    add_prompt_line(question.laid.tree, b"  ", goal.symbol, &mut text)?;
     add_fixed(
         alloc,
         &teller,

@@ -13,5 +13,5 @@ add_fixed-requires-clause-tree c =
 
 pub returns : goal.returns
 returns c =
-    on_ok_weaker c.add_fixed.result (λ adds. adds_reason c.args.question.now c.args.teller.now c.args.reason c.args.text.now.items _ _ c.requires.question c.requires.teller c.requires.off
-    c.in_ok-add_reason.ensures adds) c.add_fixed.ensures
+    on_ok_weaker c.add_fixed.result (λ adds. adds_reason c.args.question.now c.args.teller.now c.args.reason c.args.text.now.items _ _ _ c.requires.question c.requires.teller c.requires.off
+    c.in_ok-add_reason.ensures c.in_ok-add_prompt_line.ensures adds) c.add_fixed.ensures
