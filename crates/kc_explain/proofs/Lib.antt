@@ -1,3 +1,4 @@
+pub mod AlwaysLemmas
 pub mod ChoiceFactLemmas
 pub mod DependencyLemmas
 pub mod ExcerptLemmas
@@ -8,6 +9,7 @@ pub mod LineLemmas
 pub mod NearLemmas
 pub mod PartLemmas
 pub mod PlaceLemmas
+pub mod PlacedFacts
 pub mod RaiseLemmas
 pub mod SourceLineLemmas
 pub mod StatedLemmas

@@ -1,24 +1,29 @@
 //! The facts about a symbol that no line can change.
 
 ghost use Rattle.std.specs.Prelude.{◌≡◌, ◌++◌, ◌∷◌, [], List, OnOk, map, true};
-ghost use Rattle.kc_language.specs.Texts.{Solution};
+ghost use Rattle.kc_language.specs.Texts.{Solution, known};
 ghost use Rattle.kc_language.specs.declared.expressions.Tri.{Tri};
 ghost use Rattle.kc_outcome.specs.Explanations as rules;
 ghost use Rattle.kc_possible.specs.Bounds.{IsWithin};
 ghost use Rattle.kc_possible.specs.PartsOfPossible.{Covers};
-ghost use Rattle.kc_possible.specs.Possible.{IsSound};
-ghost use Rattle.kc_explain.specs.FactViews.{fact_view};
+ghost use Rattle.kc_possible.specs.Possible.{Allows, IsSound};
+ghost use Rattle.kc_tree.specs.LineParts.{default_said, range_said};
+ghost use Rattle.kc_explain.specs.FactViews.{bounds_by, fact_view, given_by_default};
 ghost use Rattle.kc_explain.specs.Fixed.{AreFixedOf, fixed_lines};
 ghost use Rattle.kc_explain.specs.FixedViews as told;
 ghost use Rattle.kc_explain.specs.PartViews.{asked_view};
 
+use crate::always::{
+    gives_the_same, has_fixed_bounds, has_value, is_exactly, is_unraised, raises_to,
+};
 use crate::fact::Fact;
 use crate::fact_text::add_fixed_fact;
 use crate::facts::facts_of;
 use crate::lines::Line;
 use crate::parts::{Asked, ConditionPart};
 use crate::teller::Teller;
-use kc_expr::expression::{SymId, Tri};
+use kc_entries::statement::{SymbolDefault, SymbolRange};
+use kc_expr::expression::{SymId, SymbolType, Tri};
 use kc_possible::bounds::Bounds;
 use kc_possible::expression::{expression, symbol};
 use kc_possible::possible::Possible;
@@ -48,18 +53,89 @@ fn part_bounds(p: &Possible<'_>, part: &ConditionPart<'_>) -> Bounds
 fn is_only(bounds: Bounds, value: Tri) -> bool
     ensures { result ≡ true → (t : Tri) → IsWithin bounds t → t ≡ value }
 {
-    value != Tri::Y && bounds.low == value && bounds.high == value
+    value != Tri::Y && is_exactly(bounds, value)
 }
 
-// Whether the bounds show that a fact holds under every input. Only of a condition and of the modules symbol that is looked at,
-// and not of what is y.
-fn is_fixed(p: &Possible<'_>, fact: &Fact<'_>) -> bool
-    requires { IsSound p.now }
-    ensures { (solution : Solution) → result ≡ true → told.IsFixed p.now.laid.tree.now (fact_view solution fact.now) }
+/// A symbol, and what the symbols may be whatever the user gives (our own).
+#[derive(Clone, Copy)]
+struct Subject<'p, 't> {
+    id: SymId,
+    possible: &'p Possible<'t>,
+}
+
+// Whether a default of the symbol has this condition under every input, and gives the same if it counts.
+fn is_fixed_default(
+    of: &Subject<'_, '_>,
+    symbol_type: SymbolType,
+    what: &SymbolDefault,
+    value: Tri,
+    counts: bool,
+) -> bool
+    requires { IsSound of.now.possible.now }
+    ensures { (solution : Solution) → Allows of.now.possible.now (known solution) → of.now.possible.now.laid.tree.now ≡ solution.tree → result ≡ true →
+        told.IsFixedDefault of.now.possible.now.laid.tree.now of.now.id symbol_type (default_said what.now) value (given_by_default solution counts symbol_type (default_said what.now)) }
 {
+    if !gives_the_same(of.possible, symbol_type, &what.value, counts) {
+        return false;
+    }
+    has_value(of.possible, of.id, &what.when, value)
+}
+
+// Whether a range of the symbol counts and has this condition under every input, with the same bounds.
+fn is_fixed_range(
+    of: &Subject<'_, '_>,
+    symbol_type: SymbolType,
+    what: &SymbolRange,
+    value: Tri,
+    counts: bool,
+) -> bool
+    requires { IsSound of.now.possible.now }
+    ensures { (solution : Solution) → Allows of.now.possible.now (known solution) → of.now.possible.now.laid.tree.now ≡ solution.tree → result ≡ true →
+        told.IsFixedRange of.now.possible.now.laid.tree.now of.now.id symbol_type (range_said what.now) value (bounds_by solution counts symbol_type (range_said what.now).0) }
+{
+    if !counts {
+        return false;
+    }
+    if !has_fixed_bounds(of.possible, symbol_type, what) {
+        return false;
+    }
+    has_value(of.possible, of.id, &what.when, value)
+}
+
+// Whether the bounds show that a fact about the symbol holds under every input. A condition that is y is of no interest, nor is a
+// range that does not count, or a line that raises to m.
+fn is_fixed(t: &Teller<'_, '_, '_>, of: &Subject<'_, '_>, fact: &Fact<'_>) -> bool
+    requires sound { IsSound of.now.possible.now }
+    requires tree { of.now.possible.now.laid.tree.now ≡ t.now.solved.now.tree }
+    ensures { result ≡ true → told.IsFixed of.now.possible.now.laid.tree.now of.now.id (fact_view t.now.solved.now fact.now) }
+{
+    t.solved.is_solution();
+    let p = of.possible;
     match *fact {
         Fact::Part { part, value } => is_only(part_bounds(p, &part), value),
         Fact::Modules { symbol: id, value } => is_only(symbol(p, id), value),
+        Fact::Default {
+            symbol_type,
+            what,
+            value,
+            counts,
+            ..
+        } => is_fixed_default(of, symbol_type, what, value, counts),
+        Fact::Range {
+            symbol_type,
+            what,
+            value,
+            counts,
+            ..
+        } => is_fixed_range(of, symbol_type, what, value, counts),
+        Fact::NotRaised { word, .. } => is_unraised(p, word, of.id),
+        Fact::Raised {
+            by,
+            by_value,
+            when,
+            value,
+            ..
+        } => raises_to(p, by, by_value, when, value),
         _ => false,
     }
 }
@@ -96,14 +172,14 @@ fn is_new<'t>(fact: &Fact<'t>, said: &mut Vec<Line<'t>>) -> Result<bool, AllocEr
 #[tactic(auto, using(crate::proofs::FixedLemmas::adds_one, crate::proofs::FixedLemmas::adds_none))]
 fn add_once<'t>(
     t: &Teller<'t, '_, '_>,
-    p: &Possible<'_>,
+    of: &Subject<'_, '_>,
     lead: &[u8],
     fact: &Fact<'t>,
     said: &mut Vec<Line<'t>>,
     text: &mut Vec<u8>,
 ) -> Result<(), AllocError>
-    requires { told.IsFixed p.now.laid.tree.now (fact_view t.now.solved.now fact.now) }
-    ensures { OnOk result (told.AddsFixed t.now p.now.laid.tree.now lead.now (fact_view t.now.solved.now fact.now ∷ []) text.old.items text.new.items) }
+    requires { told.IsFixed of.now.possible.now.laid.tree.now of.now.id (fact_view t.now.solved.now fact.now) }
+    ensures { OnOk result (told.AddsFixed t.now of.now.possible.now.laid.tree.now of.now.id lead.now (fact_view t.now.solved.now fact.now ∷ []) text.old.items text.new.items) }
 {
     let is_first = is_new(fact, said)?;
     if is_first {
@@ -118,17 +194,18 @@ fn add_once<'t>(
 #[tactic(auto, using(crate::proofs::FixedLemmas::adds_none))]
 fn add_if_fixed<'t>(
     t: &Teller<'t, '_, '_>,
-    p: &Possible<'_>,
+    of: &Subject<'_, '_>,
     lead: &[u8],
     fact: &Fact<'t>,
     said: &mut Vec<Line<'t>>,
     text: &mut Vec<u8>,
 ) -> Result<(), AllocError>
-    requires { IsSound p.now }
-    ensures { OnOk result (told.AddsFixed t.now p.now.laid.tree.now lead.now (fact_view t.now.solved.now fact.now ∷ []) text.old.items text.new.items) }
+    requires sound { IsSound of.now.possible.now }
+    requires tree { of.now.possible.now.laid.tree.now ≡ t.now.solved.now.tree }
+    ensures { OnOk result (told.AddsFixed t.now of.now.possible.now.laid.tree.now of.now.id lead.now (fact_view t.now.solved.now fact.now ∷ []) text.old.items text.new.items) }
 {
-    if is_fixed(p, fact) {
-        add_once(t, p, lead, fact, said, text)
+    if is_fixed(t, of, fact) {
+        add_once(t, of, lead, fact, said, text)
     } else {
         Ok(())
     }
@@ -138,23 +215,25 @@ fn add_if_fixed<'t>(
 fn add_all_fixed<'t>(
     alloc: Global,
     t: &Teller<'t, '_, '_>,
-    p: &Possible<'_>,
+    of: &Subject<'_, '_>,
     lead: &[u8],
     facts: &[Fact<'t>],
     text: &mut Vec<u8>,
 ) -> Result<(), AllocError>
-    requires { IsSound p.now }
-    ensures { OnOk result (told.AddsFixed t.now p.now.laid.tree.now lead.now (map (fact_view t.now.solved.now) facts.now) text.old.items text.new.items) }
+    requires sound { IsSound of.now.possible.now }
+    requires tree { of.now.possible.now.laid.tree.now ≡ t.now.solved.now.tree }
+    ensures { OnOk result (told.AddsFixed t.now of.now.possible.now.laid.tree.now of.now.id lead.now (map (fact_view t.now.solved.now) facts.now) text.old.items text.new.items) }
 {
     let mut said = Vec::new(alloc);
     for fact in facts {
-        add_if_fixed(t, p, lead, fact, &mut said, text)?;
+        add_if_fixed(t, of, lead, fact, &mut said, text)?;
     }
     Ok(())
 }
 
 /// Appends facts about a symbol that hold whatever the user gives, each after the lead (our own): what is not y of that on which it
-/// depends, as far as the bounds of the symbols show it. The only error is that memory runs out.
+/// depends, its defaults and ranges, and whether lines raise it, as far as the bounds of the symbols show it. The only error is that
+/// memory runs out.
 pub fn add_fixed(
     alloc: Global,
     t: &Teller<'_, '_, '_>,
@@ -169,5 +248,6 @@ pub fn add_fixed(
         × (text.new.items ≡ text.old.items ++ fixed_lines t.now.is_raw t.now.solved.now.tree lead.now facts)) }
 {
     let facts = facts_of(alloc, t, id)?;
-    add_all_fixed(alloc, t, p, lead, &facts, text)
+    let of = Subject { id, possible: p };
+    add_all_fixed(alloc, t, &of, lead, &facts, text)
 }

@@ -9,6 +9,7 @@
 //! - [`Seen`]: symbols in the order in which they were seen.
 //! - [`asked_symbol`], [`near_text`]: the symbol of a name, and names that differ from one by one letter ([`differs_by_one`]).
 
+mod always;
 mod choice_facts;
 pub mod excerpt;
 mod fact;

@@ -194,8 +194,8 @@ pub(crate) fn mode_bounds(p: &Possible<'_>, id: ChoiceId) -> Bounds
     }
 }
 
-/// What a line may be worth that depends on a context and on its own `if`.
-pub(crate) fn line_bounds(p: &Possible<'_>, within: EntryId, when: &Option<Rc<Expr>>) -> Bounds
+/// What a line may be worth that depends on a context and on its own `if` (our own).
+pub fn line_bounds(p: &Possible<'_>, within: EntryId, when: &Option<Rc<Expr>>) -> Bounds
     ensures { Covers p.now result (λ known. condition p.now.laid.tree.now known (with_when (condition_at p.now.laid.layout.now within.0) (when_view when.now))) }
 {
     context(p, within).lesser(if_bounds(p, when))

@@ -10,12 +10,12 @@
 //! - [`reason`]: the symbols that stand in the way of a dead prompt; [`shared`] keeps those that many prompts share.
 
 pub mod bounds;
-mod conditions;
+pub mod conditions;
 pub mod dead;
 pub mod expression;
 pub mod possible;
 mod ranges;
 pub mod reason;
 pub mod shared;
-mod texts;
-mod truths;
+pub mod texts;
+pub mod truths;

@@ -30,7 +30,7 @@ fn name_of<'e>(p: &'e Possible<'_>, id: SymId) -> Option<&'e [u8]>
 }
 
 /// The text of an operand that is a constant, or a name without a type.
-pub(crate) fn fixed_operand<'e>(p: &'e Possible<'_>, o: &'e Operand) -> Option<&'e [u8]>
+pub fn fixed_operand<'e>(p: &'e Possible<'_>, o: &'e Operand) -> Option<&'e [u8]>
     ensures { IfSome result (λ fixed. (known : SymId → SymbolValue) → Allows p.now known → spec.text known (leaf_of o.now) ≡ fixed.now) }
 {
     match o {
@@ -40,8 +40,8 @@ pub(crate) fn fixed_operand<'e>(p: &'e Possible<'_>, o: &'e Operand) -> Option<&
     }
 }
 
-// The text of an expression that is a constant, or a name without a type.
-fn fixed_text<'e>(p: &'e Possible<'_>, e: &'e Expr) -> Option<&'e [u8]>
+/// The text of an expression that is a constant, or a name without a type (our own).
+pub fn fixed_text<'e>(p: &'e Possible<'_>, e: &'e Expr) -> Option<&'e [u8]>
     ensures { IfSome result (λ text. (known : SymId → SymbolValue) → Allows p.now known → values.single_text known (form_of e.now) ≡ text.now) }
 {
     match e {

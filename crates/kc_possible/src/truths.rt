@@ -141,16 +141,16 @@ fn selectors_bounds(p: &Possible<'_>, last: SelectorId) -> Bounds
     greatest
 }
 
-// What a symbol may be selected to.
-fn selected_bounds(p: &Possible<'_>, id: SymId, row: &Symbol) -> Bounds
+/// What a symbol may be selected to (our own).
+pub fn selected_bounds(p: &Possible<'_>, id: SymId, row: &Symbol) -> Bounds
     requires { IsRowOf p.now id row.now }
     ensures { Covers p.now result (λ known. values.selected_to p.now.laid.tree.now known (facts_in p.now id row.now)) }
 {
     upgraded(p, row.symbol_type, selectors_bounds(p, row.last_select))
 }
 
-// What a symbol may be implied to.
-fn implied_to_bounds(p: &Possible<'_>, id: SymId, row: &Symbol) -> Bounds
+/// What a symbol may be implied to (our own).
+pub fn implied_to_bounds(p: &Possible<'_>, id: SymId, row: &Symbol) -> Bounds
     requires { IsRowOf p.now id row.now }
     ensures { Covers p.now result (λ known. values.implied_to p.now.laid.tree.now known (facts_in p.now id row.now)) }
 {

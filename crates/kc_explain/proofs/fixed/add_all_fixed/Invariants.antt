@@ -5,4 +5,4 @@ use Rattle.kc_explain.specs.FixedViews.{AddsFixed}
 use Rattle.kc_explain.proofs.fixed.add_all_fixed.Given as goal
 
 abbrev pub invariant-loop-fact : goal.invariant-loop-fact
-invariant-loop-fact l = AddsFixed l.t l.p.laid.tree.now l.lead (map (fact_view l.t.solved.now) (take l.fact-index l.facts)) l.fn.text.items l.text.items
+invariant-loop-fact l = AddsFixed l.t l.of.possible.now.laid.tree.now l.of.id l.lead (map (fact_view l.t.solved.now) (take l.fact-index l.facts)) l.fn.text.items l.text.items
