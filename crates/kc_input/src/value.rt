@@ -20,6 +20,7 @@ use std::alloc::{AllocError, Global};
 ///
 /// # Errors
 /// Fails if there is not enough memory.
+#[inline(always)]
 pub fn line_value(
     alloc: Global,
     symbol_type: SymbolType,

@@ -76,6 +76,7 @@ impl<T: Drop> SparseVec<T> {
 
     /// Sets an entry to a value or to no value. All other entries are unchanged. The only error is that memory runs out. Then
     /// all entries are unchanged.
+    #[inline(always)]
     pub fn set(&mut self, place: usize, value: Option<T>) -> Result<(), AllocError>
         requires { place < length self.old }
         ensures done { OnOk result (self.new ≡ slice_set self.old place value) }

@@ -43,6 +43,7 @@ impl User {
     /// Sets the user value of a symbol. All other user values are unchanged. The laws of the minimal file and of a rerun require
     /// a value that `allowed` accepts. The only error is that memory runs out. Then all user values are
     /// unchanged.
+    #[inline(always)]
     pub fn set(&mut self, id: SymId, value: UserValue) -> Result<(), AllocError>
         requires { id.0 < length self.old.symbols }
         ensures done { OnOk result (self.new ≡ record self.old { symbols = slice_set self.old.symbols id.0 (Some (given_of_value value)) }) }
