@@ -1,6 +1,7 @@
 //! What each symbol needs, directly or through groups.
 
-ghost use Rattle.std.specs.Prelude.{◌≡◌, [], ◌∷◌, ◌++◌, ◌↔◌, length, IfOk, OnOk, OnErr, IsTrue};
+ghost use Rattle.std.specs.Prelude.{◌≡◌, ◌<◌, [], ◌∷◌, ◌++◌, ◌↔◌, length, IfOk, OnOk, OnErr, IsTrue};
+ghost use Rattle.kc_language.specs.Needs.{needs_in};
 ghost use Rattle.kc_order.specs.Graph.{IsGraph};
 
 use crate::rows::Rows;
@@ -46,6 +47,14 @@ impl Graph {
         ensures { result ≡ self.now.symbols }
     {
         self.symbols
+    }
+
+    /// The nodes that a node needs.
+    pub fn row(&self, node: usize) -> &[u32]
+        requires { node < length self.now.rows }
+        ensures { result.now ≡ needs_in self.now.rows node }
+    {
+        self.rows.row(node)
     }
 
     /// Whether each node of a row exists, all symbols exist, and a group needs only groups before it.
