@@ -8,11 +8,12 @@ use Rattle.kc_language.specs.ConfigFile.{Notation, UserInput}
 use Rattle.kc_language.specs.Statements.{error_line}
 use Rattle.kc_language.specs.Symbols.{SymbolFacts, TreeFacts, same_type}
 use Rattle.kc_language.specs.Texts.{IsSolutionFor, Solution, has_prompt}
-use Rattle.kc_language.specs.Values.{GivenValue, facts, name, type_in}
+use Rattle.kc_language.specs.Values.{GivenText, GivenTruth, GivenValue, Member, facts, name, type_in}
 use Rattle.kc_language.specs.declared.expressions.SymId.{SymId}
 use Rattle.kc_language.specs.declared.expressions.SymbolType.{SymbolType}
 use Rattle.kc_language.specs.declared.expressions.SymbolType.TheVariants.{Undefined}
-use Rattle.kc_outcome.specs.Explanations.{Fact}
+use Rattle.kc_language.specs.declared.expressions.Tri.TheVariants.{M, N, Y}
+use Rattle.kc_outcome.specs.Explanations.{Fact, text_of_lines}
 use Rattle.kc_outcome.specs.Outcome.{Options, lead, refused_outcome}
 use Rattle.kc_possible.specs.Possible.{IsOff}
 use Rattle.kc_how.specs.FixTexts.{fix_text, impossible_line, loses_nothing, miss_text, no_value_text, not_found_text, reason_line, setting, type_words}
@@ -21,8 +22,9 @@ use Rattle.kc_how.specs.Questions.{IsQuestion, goal_of}
 use Rattle.kc_how.specs.declared.answer.Miss.{Miss}
 use Rattle.kc_how.specs.declared.question.Question.{Question}
 use Rattle.kc_explain.specs.Fixed.{AreFixedOf, fixed_lines, fixed_words}
+use Rattle.kc_explain.specs.RangeLines.{holds_number, range_lines}
 use Rattle.kc_explain.specs.declared.teller.Teller.{Teller}
-use Rattle.kc_conf.specs.How.{IsReason, asked_first, fixed, impossible, impossible_text, no_value, not_found, prompt_line, prompt_of, reason_lines, told}
+use Rattle.kc_conf.specs.How.{IsReason, asked_first, fixed, impossible, impossible_text, modules_line, modules_of, no_value, not_found, prompt_line, prompt_of, goal_range_lines, reason_lines, told}
 use Rattle.kc_conf.specs.HowParts.{AddsReasons, IsAsked, IsReply, IsTellerOf, Replies}
 use Rattle.kc_conf.specs.Reads.{IsWholeEnd}
 use Rattle.kc_conf.specs.declared.reply.Asked.{Asked}
@@ -48,9 +50,35 @@ ends-parts f each [] front ends = subst IsWholeEnd (sym (append-nil front)) ends
 ends-parts f each (x ∷ xs) front ends =
     subst IsWholeEnd (append_assoc front (f x) (flat_map f xs)) (ends-parts f each xs (front ++ f x) (ends-behind front (f x) (each x)))
 
+ends-lines : (lead : List ℕ) (lines : List (List ℕ)) (front : List ℕ) → IsWholeEnd front → IsWholeEnd (front ++ text_of_lines lead lines)
+ends-lines lead lines front ends = ends-parts (λ l. lead ++ l ++ codes "\n") (λ l. (lead ++ l, refl)) lines front ends
+
 ends-fixed : (is_raw : Bool) (tree : TreeFacts) (lead : List ℕ) (facts : List Fact) (front : List ℕ) → IsWholeEnd front → IsWholeEnd (front ++ fixed_lines is_raw tree lead facts)
-ends-fixed is_raw tree lead facts front ends =
-    ends-parts (λ l. lead ++ l ++ codes "\n") (λ l. (lead ++ l, refl)) (map (fixed_words is_raw tree) facts) front ends
+ends-fixed is_raw tree lead facts front ends = ends-lines lead (map (fixed_words is_raw tree) facts) front ends
+
+ends-nothing : (front : List ℕ) → IsWholeEnd front → IsWholeEnd (front ++ [])
+ends-nothing front ends = subst IsWholeEnd (sym (append-nil front)) ends
+
+ends-range_lines : (is_raw : Bool) (tree : TreeFacts) (lead : List ℕ) (s : SymId) (number front : List ℕ) → IsWholeEnd front → IsWholeEnd (front ++ range_lines is_raw tree lead s number)
+ends-range_lines is_raw tree lead s number front ends = by _ (holds_number (type_in (facts tree s)))
+  where
+    by : (lines : List (List ℕ)) (are_told : Bool) → IsWholeEnd (front ++ (if are_told then text_of_lines lead lines else []))
+    by lines true = ends-lines lead lines front ends
+    by lines false = ends-nothing front ends
+
+ends-ranges : (is_raw : Bool) (tree : TreeFacts) (lead : List ℕ) (s : SymId) (front : List ℕ) → IsWholeEnd front → (value : GivenValue) →
+    IsWholeEnd (front ++ goal_range_lines is_raw tree lead (record { symbol = s; value = value }))
+ends-ranges is_raw tree lead s front ends (GivenText number) = ends-range_lines is_raw tree lead s number front ends
+ends-ranges is_raw tree lead s front ends (GivenTruth t) = ends-nothing front ends
+ends-ranges is_raw tree lead s front ends (Member m) = ends-nothing front ends
+
+ends-modules : (lead front : List ℕ) → IsWholeEnd front → (modules : Option SymId) (value : GivenValue) → IsWholeEnd (front ++ modules_of lead modules value)
+ends-modules lead front ends None (GivenTruth M) = ends-behind front (lead ++ codes "no modules symbol" ++ codes "\n") (lead ++ codes "no modules symbol", refl)
+ends-modules lead front ends None (GivenTruth N) = ends-nothing front ends
+ends-modules lead front ends None (GivenTruth Y) = ends-nothing front ends
+ends-modules lead front ends None (GivenText number) = ends-nothing front ends
+ends-modules lead front ends None (Member m) = ends-nothing front ends
+ends-modules lead front ends (Some s) value = ends-nothing front ends
 
 ends-prompt : (lead front : List ℕ) → IsWholeEnd front → (of : Option SymbolFacts) → IsWholeEnd (front ++ prompt_of lead of)
 ends-prompt lead front ends None = subst IsWholeEnd (sym (append-nil front)) ends
@@ -67,10 +95,13 @@ ends-reason_lines notation tree reason =
 
 ends-impossible : (notation : Notation) (tree : TreeFacts) (goal : Goal) (told : List Fact) (reasons : List (SymId × List Fact)) → IsWholeEnd (impossible_text notation tree goal told reasons)
 ends-impossible notation tree goal told reasons =
-    let first : List ℕ = impossible_line tree notation goal ++ prompt_line (codes "  ") tree goal.symbol in
-    ends-parts (reason_lines notation tree) (ends-reason_lines notation tree) reasons (first ++ fixed_lines notation.is_raw tree (codes "  ") told)
-    (ends-fixed notation.is_raw tree (codes "  ") told first (ends-prompt (codes "  ") (impossible_line tree notation goal)
-    (ends-error (codes "E25: no input gives " ++ setting tree notation goal.symbol goal.value)) (facts tree goal.symbol)))
+    let prompted : List ℕ = impossible_line tree notation goal ++ prompt_line (codes "  ") tree goal.symbol in
+    let modular : List ℕ = prompted ++ modules_line (codes "  ") tree goal in
+    let ranged : List ℕ = modular ++ goal_range_lines notation.is_raw tree (codes "  ") goal in
+    ends-parts (reason_lines notation tree) (ends-reason_lines notation tree) reasons (ranged ++ fixed_lines notation.is_raw tree (codes "  ") told)
+    (ends-fixed notation.is_raw tree (codes "  ") told ranged (ends-ranges notation.is_raw tree (codes "  ") goal.symbol modular (ends-modules (codes "  ") prompted
+    (ends-prompt (codes "  ") (impossible_line tree notation goal) (ends-error (codes "E25: no input gives " ++ setting tree notation goal.symbol goal.value)) (facts tree goal.symbol))
+    tree.modules goal.value) goal.value))
 
 -- ---- replies to a question
 
@@ -137,15 +168,27 @@ module _ (q : Question) where
             ∙ ap (λ r. a ++ r) (sym (flat_map-append (reason_lines q.prefix.now tree) x.reasons y.reasons));
       }
 
-  pub Replies-impossible : (t : Teller) (first shown middle : List ℕ) (text : Vec ℕ Global) → IsQuestion q → IsTellerOf q t → IsOutOfReach tree goal →
-      first ≡ impossible_line tree q.prefix.now goal → shown ≡ first ++ prompt_line (codes "  ") tree goal.symbol →
-      AddsFacts t (codes "  ") goal.symbol shown middle → AddsReasons q middle text.items → Replies q (Refusal text)
-  Replies-impossible t first shown middle text is tells out e prompt adds more =
-      let own = own-facts t (codes "  ") goal.symbol shown middle is tells adds in
+  -- the ranges that the teller tells are those of the question
+  own-ranges : (t : Teller) (lead : List ℕ) → IsQuestion q → IsTellerOf q t →
+      goal_range_lines t.is_raw t.solved.now.tree lead goal ≡ goal_range_lines q.prefix.now.is_raw tree lead goal
+  own-ranges t lead is tells =
+      ap (λ (b : Bool). goal_range_lines b t.solved.now.tree lead goal) tells.is_raw
+      ∙ ap (λ (r : TreeFacts). goal_range_lines q.prefix.now.is_raw r lead goal) (ap (λ (solution : Solution). solution.tree) tells.solved ∙ is.before.tree_is)
+
+  pub Replies-impossible : (t : Teller) (first prompted modular ranged middle : List ℕ) (text : Vec ℕ Global) → IsQuestion q → IsTellerOf q t → IsOutOfReach tree goal →
+      first ≡ impossible_line tree q.prefix.now goal → prompted ≡ first ++ prompt_line (codes "  ") tree goal.symbol → modular ≡ prompted ++ modules_line (codes "  ") tree goal →
+      ranged ≡ modular ++ goal_range_lines t.is_raw t.solved.now.tree (codes "  ") goal → AddsFacts t (codes "  ") goal.symbol ranged middle → AddsReasons q middle text.items →
+      Replies q (Refusal text)
+  Replies-impossible t first prompted modular ranged middle text is tells out e prompt modules ranges adds more =
+      let own = own-facts t (codes "  ") goal.symbol ranged middle is tells adds in
+      let range_lines : List ℕ = goal_range_lines q.prefix.now.is_raw tree (codes "  ") goal in
+      let begins : ranged ≡ impossible_line tree q.prefix.now goal ++ prompt_line (codes "  ") tree goal.symbol ++ modules_line (codes "  ") tree goal ++ range_lines =
+      ranges ∙ ap (λ r. modular ++ r) (own-ranges t (codes "  ") is tells)
+      ∙ ap (λ r. r ++ range_lines) (modules ∙ ap (λ r. r ++ modules_line (codes "  ") tree goal) (prompt ∙ ap (λ r. r ++ prompt_line (codes "  ") tree goal.symbol) e)) in
       let lines : List ℕ = fixed_lines q.prefix.now.is_raw tree (codes "  ") own.0 in
       let reasons : List ℕ = flat_map (reason_lines q.prefix.now tree) more.reasons in
       let whole : text.items ≡ impossible_text q.prefix.now tree goal own.0 more.reasons =
-      more.added ∙ ap (λ r. r ++ reasons) (own.2 ∙ ap (λ r. r ++ lines) (prompt ∙ ap (λ r. r ++ prompt_line (codes "  ") tree goal.symbol) e)) in
+      more.added ∙ ap (λ r. r ++ reasons) (own.2 ∙ ap (λ r. r ++ lines) begins) in
       record {
         told = λ options asked is_asked. impossible goal (record { facts = own.0; fixed = own.1; reasons = more.reasons; off = more.off }) is_asked.goal out
             (ap (λ r. refused_outcome (lead options ++ r)) (whole ∙ ap (λ (p : Notation). impossible_text p tree goal own.0 more.reasons) is_asked.prefix));

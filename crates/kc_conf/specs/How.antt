@@ -2,11 +2,11 @@
 -- Our own. It reads the tree and the input files like any run, and ends in `HowRuns`; for many configurations, in `HowRunsEach`; and for the tree of a
 -- folder, in `FolderHowRuns`.
 use Rattle.std.specs.{List.flat_map, Prelude.{All, Bool, Err, List, None, Option, Some, [], codes, if◌then◌else◌, map, string_bytes, true, ℕ, ◌++◌, ◌||◌, ◌∷◌, ◌≡◌, ◌⊎◌}}
-use Rattle.kc_language.specs.{ConfigFile.{Notation, ReadResult, StreamLocation, UserInput}, Expansion.{AreOpened, Files, Refused}, Statements.{error_at, error_line, run_error_text}, Symbols.{SymbolFacts, TreeFacts, same_type}, Texts.{IsSolutionFor, Solution, has_prompt}, Values.{facts, type_in}, declared.{diagnostics.RunError.{RunError}, expressions.{SymId.SymId, SymbolType.TheVariants.{Undefined}}}}
+use Rattle.kc_language.specs.{ConfigFile.{Notation, ReadResult, StreamLocation, UserInput}, Expansion.{AreOpened, Files, Refused}, Statements.{error_at, error_line, run_error_text}, Symbols.{SymbolFacts, TreeFacts, same_type}, Texts.{IsSolutionFor, Solution, has_prompt}, Values.{GivenText, GivenTruth, GivenValue, facts, type_in}, declared.{diagnostics.RunError.{RunError}, expressions.{SymId.SymId, SymbolType.TheVariants.{Undefined}, Tri.TheVariants.{M}}}}
 use Rattle.kc_outcome.specs.{Explanations.{Fact, asked_symbol}, Outcome.{IsAcceptedTree, IsRefusedTree, Options, Outcome, first_line, lead, lines_text, near_text, read_of, refusal_line, refused_outcome, reported, root_file, strictly, unknown_name, unreadable_name}, declared.outcome.Status.{Status}}
 use Rattle.kc_how.specs.{FixTexts.{fix_text, impossible_line, loses_nothing, no_value_text, not_found_text, reason_line}, How.{Goal, IsFix, IsOutOfReach, wanted_value, with_fragment}, declared.answer.Miss.{Miss}}
 use Rattle.kc_possible.specs.Possible.{IsOff}
-use Rattle.kc_explain.specs.Fixed.{AreFixedOf, fixed_lines}
+use Rattle.kc_explain.specs.{Fixed.{AreFixedOf, fixed_lines}, RangeLines.range_lines}
 use Rattle.kc_io.specs.{Inputs.{AreInputs, InputFile, bytes_of, still_told}, Log.{Log, TriesToSay}}
 use Rattle.kc_load.specs.{Folder.{AreFilesOf, FolderState, IsLoadFault, Leads as FolderLeads, failed_load, files_told}, declared.fault.LoadFault.LoadFault}
 use Rattle.kc_conf.specs.{Faults.{Broken, Completes, load_line, refused_name_of}, Many.{EndsTurn, RunsAll}, declared.reply.Asked.{Asked}}
@@ -47,6 +47,18 @@ prompt_of lead of = elim of [
 abbrev pub prompt_line : List ℕ → TreeFacts → SymId → List ℕ
 prompt_line lead tree s = prompt_of lead (facts tree s)
 
+-- Without a modules symbol no tristate is m.
+abbrev pub modules_of : List ℕ → Option SymId → GivenValue → List ℕ
+modules_of lead None (GivenTruth M) = lead ++ codes "no modules symbol" ++ codes "\n"
+modules_of lead modules value = []
+
+abbrev pub modules_line : List ℕ → TreeFacts → Goal → List ℕ
+modules_line lead tree goal = modules_of lead tree.modules goal.value
+
+-- The ranges that do not always allow the number.
+abbrev pub goal_range_lines : Bool → TreeFacts → List ℕ → Goal → List ℕ
+goal_range_lines is_raw tree lead goal = elim goal.value [ GivenText number ↦ range_lines is_raw tree lead goal.symbol number | _ ↦ [] ]
+
 -- E25: each symbol has two blanks in front, and each fact as many as what it is about, and two more.
 abbrev pub reason_lines : Notation → TreeFacts → SymId × List Fact → List ℕ
 reason_lines notation tree reason =
@@ -54,8 +66,8 @@ reason_lines notation tree reason =
 
 abbrev pub impossible_text : Notation → TreeFacts → Goal → List Fact → List (SymId × List Fact) → List ℕ
 impossible_text notation tree goal facts reasons =
-    impossible_line tree notation goal ++ prompt_line (codes "  ") tree goal.symbol ++ fixed_lines notation.is_raw tree (codes "  ") facts
-    ++ flat_map (reason_lines notation tree) reasons
+    impossible_line tree notation goal ++ prompt_line (codes "  ") tree goal.symbol ++ modules_line (codes "  ") tree goal
+    ++ goal_range_lines notation.is_raw tree (codes "  ") goal ++ fixed_lines notation.is_raw tree (codes "  ") facts ++ flat_map (reason_lines notation tree) reasons
 
 module _ (options : Options) (asked : Asked) (tree : TreeFacts) where
   -- This symbol shall have this value: the one that the text asks for, for a symbol of its type.

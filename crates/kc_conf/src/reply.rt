@@ -7,13 +7,13 @@ ghost use Rattle.kc_possible.specs.Possible.{IsOff};
 ghost use Rattle.kc_how.specs.How.{IsFix, IsOutOfReach};
 ghost use Rattle.kc_how.specs.FixTexts as spec;
 ghost use Rattle.kc_how.specs.Questions.{IsQuestion, IsWith, goal_of};
-ghost use Rattle.kc_conf.specs.How.{asked_first, prompt_line};
+ghost use Rattle.kc_conf.specs.How.{asked_first, modules_line, prompt_line, goal_range_lines};
 ghost use Rattle.kc_conf.specs.HowParts.{AddsReasons, IsInquiry, IsReply, IsTellerOf, Replies};
 
 use crate::accepted::OrderedTree;
 use crate::lost::has_prompt;
-use kc_explain::{Teller, add_fixed, asked_symbol};
-use kc_expr::expression::{SymId, SymbolType};
+use kc_explain::{Teller, add_fixed, add_range_lines, asked_symbol};
+use kc_expr::expression::{SymId, SymbolType, Tri};
 use kc_expr::values::Values;
 use kc_how::answer::{Answer, Miss, answered};
 use kc_how::fix::{fragment_alone, with_fragment};
@@ -27,6 +27,7 @@ use kc_options::Options;
 use kc_possible::possible::Possible;
 use kc_solve::solve::solve;
 use kc_tree::tree::Tree;
+use kc_user::value::UserValue;
 use kc_values::laws::rows_tell_facts;
 use std::alloc::{AllocError, Global};
 
@@ -97,6 +98,42 @@ fn add_prompt_line(
     text.extend_from_slice(b"no prompt\n")
 }
 
+// Adds a line, after the lead, if the goal is m and the tree has no modules symbol.
+fn add_modules_line(
+    tree: &Tree,
+    lead: &[u8],
+    goal: &Goal,
+    text: &mut Vec<u8>,
+) -> Result<(), AllocError>
+    ensures { OnOk result (text.new.items ≡ text.old.items ++ modules_line lead.now tree.now (goal_of goal.now)) }
+{
+    match (tree.modules_symbol(), &goal.value) {
+        (None, UserValue::Tri(Tri::M)) => {
+            text.extend_from_slice(lead)?;
+            text.extend_from_slice(b"no modules symbol\n")
+        }
+        _ => Ok(()),
+    }
+}
+
+// Adds the ranges that do not allow the number of the goal, each in a line after the lead.
+fn add_ranges(
+    alloc: Global,
+    teller: &Teller<'_, '_, '_>,
+    lead: &[u8],
+    goal: &Goal,
+    text: &mut Vec<u8>,
+) -> Result<(), AllocError>
+    ensures { OnOk result (text.new.items ≡ text.old.items ++ goal_range_lines teller.now.is_raw teller.now.solved.now.tree lead.now (goal_of goal.now)) }
+{
+    match &goal.value {
+        UserValue::Text(number) => {
+            add_range_lines(alloc, teller, lead, goal.symbol, number, text)
+        }
+        UserValue::Tri(_) => Ok(()),
+    }
+}
+
 // Adds the lines of a symbol that is off: that, and what no line can change.
 fn add_reason_lines(
     alloc: Global,
@@ -149,6 +186,8 @@ fn impossible(
     let teller = Teller::new(question.before, question.input, question.prefix.is_raw());
     let mut text = impossible_line(alloc, question.laid.tree, question.prefix, goal)?;
     add_prompt_line(question.laid.tree, b"  ", goal.symbol, &mut text)?;
+    add_modules_line(question.laid.tree, b"  ", goal, &mut text)?;
+    add_ranges(alloc, &teller, b"  ", goal, &mut text)?;
     add_fixed(
         alloc,
         &teller,

@@ -8,7 +8,7 @@ use Rattle.std.specs.List.{AllByRecursion, flat_map}
 use Rattle.kc_language.specs.ConfigFile.{UserInput, place_at}
 use Rattle.kc_language.specs.Expressions.{Form, SymbolValue, lesser, truth_of_value}
 use Rattle.kc_language.specs.Statements.{Numbered, statements}
-use Rattle.kc_language.specs.Symbols.{Bounds as RangeBounds, StatedDefault, TreeFacts, definitions_of}
+use Rattle.kc_language.specs.Symbols.{StatedDefault, TreeFacts, definitions_of}
 use Rattle.kc_language.specs.Texts.{IsSolution, Solution, known, value_of}
 use Rattle.kc_language.specs.Values.{GivenValue, known_from}
 use Rattle.kc_language.specs.declared.expressions.{SymId.{SymId}, SymbolType.{SymbolType}, Tri.{TheVariants.{N, Y}, Tri}}
@@ -22,9 +22,9 @@ use Rattle.kc_possible.specs.Possible.{Allows, IsSound, IsUnder}
 use Rattle.kc_possible.specs.declared.{bounds.Bounds.{Bounds}, possible.Possible.{Possible}}
 use Rattle.kc_explain.specs.FactTexts.{fixed_text, location_text}
 use Rattle.kc_explain.specs.FactTexts as told
-use Rattle.kc_explain.specs.FactViews.{FactView, bounds_by, fact_in, given_by_default}
+use Rattle.kc_explain.specs.FactViews.{FactView, fact_in, given_by_default}
 use Rattle.kc_explain.specs.Fixed as spec
-use Rattle.kc_explain.specs.FixedViews.{AddsFixed, Always, AreFixed, HasValue, IsAlways, IsFixed, IsFixedDefault, IsFixedRange, line_value}
+use Rattle.kc_explain.specs.FixedViews.{AddsFixed, Always, AreFixed, HasValue, IsAlways, IsFixed, IsFixedDefault, line_value}
 use Rattle.kc_explain.specs.declared.fact.Fact.{Fact}
 use Rattle.kc_explain.specs.declared.teller.Teller.{Teller}
 use Rattle.kc_explain.proofs.PlacedFacts.{In, IsPlaced, are_placed, of_all, raised_in}
@@ -48,7 +48,7 @@ solution_allowed p solution sound e is =
     (sound (place_at solution.places) (value_of solution)
     (subst (λ (r : TreeFacts). IsUnder r (place_at solution.places) (value_of solution)) (sym e) is.solves))
 
--- ---- defaults and ranges
+-- ---- defaults
 module _ (p : Possible) (s : SymId) (kind : SymbolType) (t : Tri) (solution : Solution) (sound : IsSound p) (mine : Allows p (known solution)) (e : p.laid.tree.now ≡ solution.tree) where
   abbrev tree_of : TreeFacts
   tree_of = p.laid.tree.now
@@ -64,15 +64,6 @@ module _ (p : Possible) (s : SymId) (kind : SymbolType) (t : Tri) (solution : So
             (same refl k (known solution) allows mine),
       )
   fixed_default d false has same = λ input V under. (has (known_from tree_of V) (sound (place_at input.places) V under), tt)
-
-  pub fixed_range : (r : RangeBounds × Option Form) (counts : Bool) → ((known : SymId → SymbolValue) → Allows p known → HasValue tree_of known s r.1 t) →
-      ((a b : SymId → SymbolValue) → Allows p a → Allows p b → rules.bound_texts tree_of a kind r.0 ≡ rules.bound_texts tree_of b kind r.0) →
-      IsFixedRange tree_of s kind r t (bounds_by solution counts kind r.0)
-  fixed_range r true has same = λ input V under.
-      let k = known_from tree_of V in
-      let allows = sound (place_at input.places) V under in
-      (has k allows, same k (known solution) allows mine)
-  fixed_range r false has same = λ input V under. (has (known_from tree_of V) (sound (place_at input.places) V under), tt)
 
 -- ---- lists that grow
 abbrev Kept : TreeFacts → SymId → List FactView → FactView → List FactView → Type 0
@@ -140,9 +131,6 @@ module _ (tree : TreeFacts) (input : UserInput) (known : SymId → SymbolValue) 
   fixed-in (rules.DefaultIs kind d t given) m h = λ at V under.
       let so = h at V under in
       (of_all (λ i. line_value tree (known_from tree V) i (d.what).when ≡ t) d.entry (definitions_of ss s) m so.0, so.1)
-  fixed-in (rules.RangeIs kind r t bounds) m h = λ at V under.
-      let so = h at V under in
-      (of_all (λ i. line_value tree (known_from tree V) i (r.what).1 ≡ t) r.entry (definitions_of ss s) m so.0, so.1)
   fixed-in (rules.RaisedBy word r t u) m h = λ at V under.
       let so = h at V under in
       let there = of_all (λ (q : SymId × rules.Said (Option Form)). In (q.1).entry (definitions_of ss q.0)) r (rules.raising_lines ss word s) m (raised_in ss word s) in
@@ -153,6 +141,7 @@ module _ (tree : TreeFacts) (input : UserInput) (known : SymId → SymbolValue) 
       (changed (λ r. In r (rules.raising_lines ss word s)) Unraised rs (λ r there. of_all Unraised r (rules.raising_lines ss word s) there (h at V under)) m)
   fixed-in (rules.UserGave at place given) m h = absurd h
   fixed-in (rules.NotAllowed t line) m h = absurd h
+  fixed-in (rules.RangeIs kind r t bounds) m h = absurd h
   fixed-in (rules.DependencyIs i t) m h = absurd h
   fixed-in (rules.PromptIs p t) m h = absurd h
   fixed-in (rules.ModeIs j k t) m h = absurd h

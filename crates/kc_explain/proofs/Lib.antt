@@ -11,6 +11,7 @@ pub mod PartLemmas
 pub mod PlaceLemmas
 pub mod PlacedFacts
 pub mod RaiseLemmas
+pub mod RangeLemmas
 pub mod SourceLineLemmas
 pub mod StatedLemmas
 pub mod StatementLineLemmas

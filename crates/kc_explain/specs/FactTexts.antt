@@ -67,12 +67,16 @@ module _ (is_raw : Bool) (tree : TreeFacts) where
   abbrev pub refused_words : SymId → List ℕ → List ℕ
   refused_words s value = refused_text (type_in (facts tree s)) value
 
-  -- a default and what it gives; a range and its bounds
+  -- a default and what it gives; a range, with the value of its condition, and its bounds
   abbrev pub default_words : Said StatedDefault → Tri → List ℕ
   default_words d t = location_text d.line ++ codes "default " ++ form_text (d.what).value ++ if_text (d.what).when ++ ending t
 
   abbrev pub value_words : SymbolType → Option GivenValue → List ℕ
   value_words kind given = flat_map (λ g. codes ", value " ++ value_text is_raw kind g) (listed given)
+
+  abbrev pub plain_range_words : Said (Bounds × Option Form) → List ℕ
+  plain_range_words r = let bound = operand_text tree.names in
+      location_text r.line ++ codes "range " ++ bound (r.what).0.low ++ codes " " ++ bound (r.what).0.high ++ if_text (r.what).1
 
   abbrev pub range_words : Said (Bounds × Option Form) → Tri → List ℕ
   range_words r t = let bound = operand_text tree.names in

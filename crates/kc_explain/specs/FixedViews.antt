@@ -1,13 +1,13 @@
 -- For proofs: What no line can change, without its layout in memory.
 use Rattle.std.specs.List.{AllByRecursion, flat_map}
 use Rattle.std.specs.Prelude.{IfSome, List, Option, [], ℕ, ◌++◌, ◌∷◌, ◌≡◌, ◌⊎◌}
-use Rattle.kc_language.specs.{ConfigFile.{UserInput, place_at}, Expressions.{Form, SymbolValue, lesser, truth_of_value, value}, Statements.statements, Symbols.{Bounds, StatedDefault, TreeFacts, definitions_of, dependency}, Values.{GivenValue, choice_at, condition, known_from, mode_of}}
+use Rattle.kc_language.specs.{ConfigFile.{UserInput, place_at}, Expressions.{Form, SymbolValue, lesser, truth_of_value, value}, Statements.statements, Symbols.{StatedDefault, TreeFacts, definitions_of, dependency}, Values.{GivenValue, choice_at, condition, known_from, mode_of}}
 use Rattle.kc_language.specs.declared.{expressions.{SymId.SymId, SymbolType.SymbolType, Tri.{TheVariants.{N}, Tri}}, symbols.SelectOrImply.SelectOrImply}
 use Rattle.kc_outcome.specs.Explanations as rules
 use Rattle.kc_tree.specs.Layouts.{with_when}
 use Rattle.kc_possible.specs.Possible.{IsUnder}
 use Rattle.kc_explain.specs.FactTexts.{fixed_text}
-use Rattle.kc_explain.specs.FactViews.{DefaultIs, FactView, ModulesAre, NotRaised, PartIs, RaisedBy, RangeIs}
+use Rattle.kc_explain.specs.FactViews.{DefaultIs, FactView, ModulesAre, NotRaised, PartIs, RaisedBy}
 use Rattle.kc_explain.specs.declared.teller.Teller.{Teller}
 
 -- the value of a part of a condition where the symbols have these values
@@ -38,19 +38,15 @@ module _ (tree : TreeFacts) (known : SymId → SymbolValue) where
   IsUnraised word s = AllByRecursion (λ r. rules.raised_to (statements tree.lines) tree known r ≡ N) (rules.raising_lines (statements tree.lines) word s)
 
 module _ (tree : TreeFacts) (s : SymId) where
-  -- the condition of a default of the symbol, and what it gives, are these under every input; those of a range
+  -- the condition of a default of the symbol, and what it gives, are these under every input
   abbrev pub IsFixedDefault : SymbolType → StatedDefault → Tri → Option GivenValue → Type 0
   IsFixedDefault kind d t given = Always tree (λ known. HasValue tree known s d.when t × IfSome given (λ g. rules.default_given tree known kind d.value ≡ g))
-
-  abbrev pub IsFixedRange : SymbolType → Bounds × Option Form → Tri → Option (List ℕ × List ℕ) → Type 0
-  IsFixedRange kind r t bounds = Always tree (λ known. HasValue tree known s r.1 t × IfSome bounds (λ b. rules.bound_texts tree known kind r.0 ≡ b))
 
   -- the fact about the symbol holds under every input, and is of a kind for which that is looked at
   abbrev pub IsFixed : FactView → Type 0
   IsFixed (PartIs p t) = IsAlways tree (asked_under tree p.asks) t
   IsFixed (ModulesAre m t) = IsAlways tree (λ known. truth_of_value (known m)) t
   IsFixed (DefaultIs kind d t given) = IsFixedDefault kind d.what t given
-  IsFixed (RangeIs kind r t bounds) = IsFixedRange kind r.what t bounds
   IsFixed (RaisedBy word by l t u) = Always tree (λ known. (truth_of_value (known by) ≡ t) × RaisesTo tree known by l.what u)
   IsFixed (NotRaised word n) = Always tree (λ known. IsUnraised tree known word s)
   IsFixed _ = ⊥

@@ -12,6 +12,8 @@ pub mod PartViews
 pub mod PartsOfExplanations
 pub mod Places
 pub mod RaiseFacts
+pub mod RangeLines
+pub mod RangeViews
 pub mod SourceLines
 pub mod StatedFacts
 pub mod SymbolTexts

@@ -1,9 +1,9 @@
 //! What the lines of a symbol are worth under every input.
 
 ghost use Rattle.std.specs.Prelude.{◌≡◌, true};
-ghost use Rattle.kc_expr.specs.Form.{form_of, leaf_of};
+ghost use Rattle.kc_expr.specs.Form.{form_of};
 ghost use Rattle.kc_expr.specs.When.{when_view};
-ghost use Rattle.kc_language.specs.Expressions.{SymbolValue, text as text_in, truth_of_value, value};
+ghost use Rattle.kc_language.specs.Expressions.{SymbolValue, truth_of_value, value};
 ghost use Rattle.kc_language.specs.Values.{single_text};
 ghost use Rattle.kc_language.specs.declared.expressions.SymId.{SymId};
 ghost use Rattle.kc_language.specs.declared.expressions.Tri.{Tri, TheVariants.{Y}};
@@ -11,17 +11,15 @@ ghost use Rattle.kc_outcome.specs.Explanations as rules;
 ghost use Rattle.kc_possible.specs.Bounds.{IsWithin};
 ghost use Rattle.kc_possible.specs.PartsOfPossible.{IsRowOf};
 ghost use Rattle.kc_possible.specs.Possible.{Allows};
-ghost use Rattle.kc_tree.specs.LineParts.{range_said};
 ghost use Rattle.kc_explain.specs.FixedViews as told;
 
-use kc_entries::statement::SymbolRange;
-use kc_expr::expression::{Expr, Operand, SymId, SymbolType, Tri};
+use kc_expr::expression::{Expr, SymId, SymbolType, Tri};
 use kc_language::symbols::SelectOrImply;
 use kc_possible::bounds::Bounds;
 use kc_possible::conditions::line_bounds;
 use kc_possible::expression::{expression, symbol};
 use kc_possible::possible::Possible;
-use kc_possible::texts::{fixed_operand, fixed_text};
+use kc_possible::texts::fixed_text;
 use kc_possible::truths::{implied_to_bounds, selected_bounds};
 use kc_tree::rows::Symbol;
 use std::rc::Rc;
@@ -84,28 +82,6 @@ pub(crate) fn has_value(p: &Possible<'_>, id: SymId, when: &Option<Rc<Expr>>, va
 }
 
 // ---- what lines give
-
-// Whether an operand has the same text under every input.
-fn is_fixed_operand(p: &Possible<'_>, o: &Operand) -> bool
-    ensures { result ≡ true → (a b : SymId → SymbolValue) → Allows p.now a → Allows p.now b → text_in a (leaf_of o.now) ≡ text_in b (leaf_of o.now) }
-{
-    match fixed_operand(p, o) {
-        Some(_) => true,
-        None => false,
-    }
-}
-
-/// Whether the bounds of a range for a symbol of this type are the same under every input.
-pub(crate) fn has_fixed_bounds(
-    p: &Possible<'_>,
-    symbol_type: SymbolType,
-    range: &SymbolRange,
-) -> bool
-    ensures { result ≡ true → (a b : SymId → SymbolValue) → Allows p.now a → Allows p.now b →
-        rules.bound_texts p.now.laid.tree.now a symbol_type (range_said range.now).0 ≡ rules.bound_texts p.now.laid.tree.now b symbol_type (range_said range.now).0 }
-{
-    is_fixed_operand(p, &range.low) && is_fixed_operand(p, &range.high)
-}
 
 // Whether an expression has the same text under every input.
 fn has_fixed_text(p: &Possible<'_>, e: &Expr) -> bool

@@ -467,7 +467,25 @@ fn add_bound(t: &Teller<'_, '_, '_>, o: &Operand, text: &mut Vec<u8>) -> Result<
     add_operand(o, t.solved.tree().names(), text)
 }
 
-// Appends a range.
+/// Appends a range with its location and its own condition. The only error is that memory runs out.
+pub(crate) fn add_range_words(
+    t: &Teller<'_, '_, '_>,
+    line: Line<'_>,
+    what: &SymbolRange,
+    text: &mut Vec<u8>,
+) -> Result<(), AllocError>
+    ensures { OnOk result (text.new.items ≡ text.old.items ++ told.plain_range_words t.now.is_raw t.now.solved.now.tree
+        (record { line = Some (line_view line.entry); what = written.range_said what.now })) }
+{
+    add_location(line, text)?;
+    text.extend_from_slice(b"range ")?;
+    add_bound(t, &what.low, text)?;
+    text.extend_from_slice(b" ")?;
+    add_bound(t, &what.high, text)?;
+    add_if(t, &what.when, text)
+}
+
+// Appends a range and the value of its condition.
 fn add_range(
     t: &Teller<'_, '_, '_>,
     line: Line<'_>,
@@ -478,12 +496,8 @@ fn add_range(
     ensures { OnOk result (text.new.items ≡ text.old.items ++ told.range_words t.now.is_raw t.now.solved.now.tree
         (record { line = Some (line_view line.entry); what = written.range_said what.now }) value) }
 {
-    add_location(line, text)?;
-    text.extend_from_slice(b"range ")?;
-    add_bound(t, &what.low, text)?;
-    text.extend_from_slice(b" ")?;
-    add_bound(t, &what.high, text)?;
-    end_line(t, &what.when, value, text)
+    add_range_words(t, line, what, text)?;
+    add_ending(value, text)
 }
 
 // The value of a bound.

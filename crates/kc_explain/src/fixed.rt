@@ -7,22 +7,20 @@ ghost use Rattle.kc_outcome.specs.Explanations as rules;
 ghost use Rattle.kc_possible.specs.Bounds.{IsWithin};
 ghost use Rattle.kc_possible.specs.PartsOfPossible.{Covers};
 ghost use Rattle.kc_possible.specs.Possible.{Allows, IsSound};
-ghost use Rattle.kc_tree.specs.LineParts.{default_said, range_said};
-ghost use Rattle.kc_explain.specs.FactViews.{bounds_by, fact_view, given_by_default};
+ghost use Rattle.kc_tree.specs.LineParts.{default_said};
+ghost use Rattle.kc_explain.specs.FactViews.{fact_view, given_by_default};
 ghost use Rattle.kc_explain.specs.Fixed.{AreFixedOf, fixed_lines};
 ghost use Rattle.kc_explain.specs.FixedViews as told;
 ghost use Rattle.kc_explain.specs.PartViews.{asked_view};
 
-use crate::always::{
-    gives_the_same, has_fixed_bounds, has_value, is_exactly, is_unraised, raises_to,
-};
+use crate::always::{gives_the_same, has_value, is_exactly, is_unraised, raises_to};
 use crate::fact::Fact;
 use crate::fact_text::add_fixed_fact;
 use crate::facts::facts_of;
 use crate::lines::Line;
 use crate::parts::{Asked, ConditionPart};
 use crate::teller::Teller;
-use kc_entries::statement::{SymbolDefault, SymbolRange};
+use kc_entries::statement::SymbolDefault;
 use kc_expr::expression::{SymId, SymbolType, Tri};
 use kc_possible::bounds::Bounds;
 use kc_possible::expression::{expression, symbol};
@@ -81,29 +79,8 @@ fn is_fixed_default(
     has_value(of.possible, of.id, &what.when, value)
 }
 
-// Whether a range of the symbol counts and has this condition under every input, with the same bounds.
-fn is_fixed_range(
-    of: &Subject<'_, '_>,
-    symbol_type: SymbolType,
-    what: &SymbolRange,
-    value: Tri,
-    counts: bool,
-) -> bool
-    requires { IsSound of.now.possible.now }
-    ensures { (solution : Solution) → Allows of.now.possible.now (known solution) → of.now.possible.now.laid.tree.now ≡ solution.tree → result ≡ true →
-        told.IsFixedRange of.now.possible.now.laid.tree.now of.now.id symbol_type (range_said what.now) value (bounds_by solution counts symbol_type (range_said what.now).0) }
-{
-    if !counts {
-        return false;
-    }
-    if !has_fixed_bounds(of.possible, symbol_type, what) {
-        return false;
-    }
-    has_value(of.possible, of.id, &what.when, value)
-}
-
 // Whether the bounds show that a fact about the symbol holds under every input. A condition that is y is of no interest, nor is a
-// range that does not count, or a line that raises to m.
+// line that raises to m. A range is told by its line.
 fn is_fixed(t: &Teller<'_, '_, '_>, of: &Subject<'_, '_>, fact: &Fact<'_>) -> bool
     requires sound { IsSound of.now.possible.now }
     requires tree { of.now.possible.now.laid.tree.now ≡ t.now.solved.now.tree }
@@ -121,13 +98,6 @@ fn is_fixed(t: &Teller<'_, '_, '_>, of: &Subject<'_, '_>, fact: &Fact<'_>) -> bo
             counts,
             ..
         } => is_fixed_default(of, symbol_type, what, value, counts),
-        Fact::Range {
-            symbol_type,
-            what,
-            value,
-            counts,
-            ..
-        } => is_fixed_range(of, symbol_type, what, value, counts),
         Fact::NotRaised { word, .. } => is_unraised(p, word, of.id),
         Fact::Raised {
             by,
@@ -232,8 +202,8 @@ fn add_all_fixed<'t>(
 }
 
 /// Appends facts about a symbol that hold whatever the user gives, each after the lead (our own): what is not y of that on which it
-/// depends, its defaults and ranges, and whether lines raise it, as far as the bounds of the symbols show it. The only error is that
-/// memory runs out.
+/// depends, its defaults, and whether lines raise it, as far as the bounds of the symbols show it. The only error is that memory runs
+/// out.
 pub fn add_fixed(
     alloc: Global,
     t: &Teller<'_, '_, '_>,

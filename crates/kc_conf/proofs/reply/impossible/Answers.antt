@@ -11,6 +11,6 @@ add_fixed-requires-clause-tree c =
 
 pub returns : goal.returns
 returns c =
-    Replies-impossible c.args.question.now c.new-teller.result _ _ _ c.add_reasons.new.text c.requires.question
+    Replies-impossible c.args.question.now c.new-teller.result _ _ _ _ _ c.add_reasons.new.text c.requires.question
     (record { solved = c.new-teller.ensures.solved; input = c.new-teller.ensures.input; is_raw = c.new-teller.ensures.is_raw ∙ c.is_raw.ensures }) c.requires.out
-    c.in_ok-text.ensures c.in_ok-add_prompt_line.ensures c.in_ok-add_fixed.ensures c.in_ok-add_reasons.ensures
+    c.in_ok-text.ensures c.in_ok-add_prompt_line.ensures c.in_ok-add_modules_line.ensures c.in_ok-add_ranges.ensures c.in_ok-add_fixed.ensures c.in_ok-add_reasons.ensures

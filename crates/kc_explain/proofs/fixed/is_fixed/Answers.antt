@@ -28,13 +28,6 @@ returns-in-Default c h =
     subst (λ (f : Fact). IsFixed p.laid.tree.now c.args.of.now.id (fact_view c.args.t.now.solved.now f)) (sym c.in-Default.is)
     (c.is_fixed_default.ensures c.args.t.now.solved.now mine c.requires.tree h)
 
-pub returns-in-Range : goal.returns-in-Range
-returns-in-Range c h =
-    let p = c.args.of.now.possible.now in
-    let mine = solution_allowed p c.args.t.now.solved.now c.requires.sound c.requires.tree c.is_solution.ensures in
-    subst (λ (f : Fact). IsFixed p.laid.tree.now c.args.of.now.id (fact_view c.args.t.now.solved.now f)) (sym c.in-Range.is)
-    (c.is_fixed_range.ensures c.args.t.now.solved.now mine c.requires.tree h)
-
 pub returns-in-NotRaised : goal.returns-in-NotRaised
 returns-in-NotRaised c h =
     let p = c.args.of.now.possible.now in
