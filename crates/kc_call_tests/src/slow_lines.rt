@@ -91,7 +91,7 @@ fn symbol_line(
     };
     symbol_into(report, out)?;
     let own = given(user, id);
-    warnings::warnings_into(alloc, table, id, symbol, shown, own, warned)
+    warnings::warnings_into(alloc, table, id, symbol, own, warned)
 }
 
 /// Adds the lines of the values in a table. Adds the warnings to the earlier ones, and all of them to the text.

@@ -73,27 +73,8 @@ module _ (tree : TreeFacts) (places : Places) (values : List (Option Value)) whe
   told {X} full s e f x h =
       subst (λ (y : Solution). x ≡ f y.tree (known y)) e (h ∙ ap (f tree) (table_tells full))
 
-  -- what is kept of each symbol, by number: past the last one there are no facts
-  kept_at : {X : Type 0} (f : (SymId → SymbolValue) → Option SymbolFacts → X) (d : X) → f (known_from tree W) None ≡ d → (xs : List X) →
-      xs ≡ map (λ i. f (known_from tree V) (facts tree (symbol i))) (range_with_len 0 (name_count tree)) → (s : SymId) → slice_index_or xs s.0 d ≡ f (known_from tree W) (facts tree s)
-  kept_at f d none xs e s =
-      let at = λ (i : ℕ). f (known_from tree V) (facts tree (symbol i)) in
-      elim (cases_Bool (is_mentioned tree s)) [
-        | inl t ↦
-            let l = ltb-true s.0 (name_count tree) t in
-            ap (λ ys. slice_index_or ys s.0 d) e
-            ∙ get_or-map-range_with_len at 0 (name_count tree) s.0 s.0 d l (omega arith)
-            ∙ ap (λ (k : SymId → SymbolValue). f k (facts tree s)) (sym same_known)
-        | inr o ↦
-            let past = ltb-false s.0 (name_count tree) o in
-            let long = ap length e ∙ length-map-range_with_len at 0 (name_count tree) in
-            get_or_past xs s.0 d (subst (λ n. n ≤ s.0) (sym long) past)
-            ∙ sym none
-            ∙ sym (ap (f (known_from tree W)) (slice_get_past tree.symbols s.0 past))
-      ]
-
-  module _ (selections defaults : List (Option SymId)) (visibilities : List Tri) (differing written : List Bool) (kept_warnings : List Warning)
-      (is : IsSolved tree places values selections defaults visibilities differing written kept_warnings) where
+  module _ (selections defaults : List (Option SymId)) (differing : List Bool) (kept_warnings : List Warning)
+      (is : IsSolved tree places values selections defaults differing kept_warnings) where
     pub is_solution : IsSolution (solution_in tree places values)
     is_solution = record {
       places = is.user;
@@ -132,12 +113,6 @@ module _ (tree : TreeFacts) (places : Places) (values : List (Option Value)) whe
         ∙ get_or-map-range_with_len (differs tree (place_at places) V) 0 (name_count tree) s.0 s.0 false l (omega arith)
         ∙ sym (same_differs s.0 (user_place tree s.0) l)
 
-    visible_at : (s : SymId) → slice_index_or visibilities s.0 N ≡ solved.visibility (solution_in tree places values) s
-    visible_at = kept_at (solved.visibility_by tree) N refl visibilities is.visibilities_are
-
-    written_at : (s : SymId) → slice_index_or written s.0 false ≡ solved.written (solution_in tree places values) s
-    written_at = kept_at (writing.written_facts tree) false refl written is.written_are
-
     pub warnings_too : kept_warnings ≡ value_warnings (solution_in tree places values)
     warnings_too =
         is.warnings_are
@@ -170,9 +145,6 @@ module _ (tree : TreeFacts) (places : Places) (values : List (Option Value)) whe
       differing_is i l =
           subst (λ (x : Solution). slice_index_or differing i.0 false ≡ solved.differs x i) e (differing_at i (subst (λ (x : Solution). i.0 < name_count x.tree) (sym e) l))
 
-      pub visible_is : (i : SymId) → slice_index_or visibilities i.0 N ≡ solved.visibility s i
-      visible_is i = subst (λ (x : Solution). slice_index_or visibilities i.0 N ≡ solved.visibility x i) e (visible_at i)
-
       pub new_is : length values ≡ name_count tree → (x : Bool) (i : SymId) (f : SymbolFacts) → facts tree i ≡ Some f →
           x ≡ (not (is_some (place_at places (SymbolPlace i.0))) && is_new_by tree (known_in tree values) (place_at places) i f f.choice) → x ≡ solved.is_new s i
       new_is full x i f at is_x =
@@ -180,9 +152,6 @@ module _ (tree : TreeFacts) (places : Places) (values : List (Option Value)) whe
           ≡ is_new tree (known_in tree values) (place_at places) i =
           rw at refl in
           subst (λ (y : Solution). x ≡ solved.is_new y i) e (is_x ∙ by_facts ∙ ap (λ k. is_new tree k (place_at places) i) (table_tells full))
-
-      pub written_is : (i : SymId) → slice_index_or written i.0 false ≡ solved.written s i
-      written_is i = subst (λ (x : Solution). slice_index_or written i.0 false ≡ solved.written x i) e (written_at i)
 
 -- the table of a solution
 pub table_is : (t : Table) (places : Places) (s : Solution) → solution_in t.tree.now places t.values ≡ s → length t.values ≡ name_count t.tree.now → IsTableOf s t

@@ -1,23 +1,14 @@
--- The kept visibility of a symbol, and the warnings of one more symbol.
+-- The warnings of one more symbol.
 use Rattle.std.proofs.{Common.{List, Option, Some, [], ap, arith, get_or, length, map, sym, take, ℕ, ◌++◌, ◌+◌, ◌<◌, ◌∙◌, ◌≡◌}, lemmas.List.{FromFn.get_or-map-range_with_len, flat_map_more, take_more}}
 use Rattle.std.specs.{List.{flat_map, range_with_len}, Prelude.slice_index_or}
 use Rattle.kc_language.specs.{ConfigFile.{Places, place_at}, Expressions.symbol, Symbols.{SymbolFacts, TreeFacts, Warning}, Texts.warnings_of, Values.{GivenValue, SymbolPlace, facts, known_from, name, name_count, visibility}, declared.expressions.{SymId.SymId, Tri.{TheVariants.N, Tri}}}
 use Rattle.kc_values.specs.{PartsOfTexts.warnings_at, Table.known_in, declared.table.Value.Value}
-use Rattle.kc_solve.specs.{Answers.visibility_by, Flags.visibility_at, Kept.valuation}
+use Rattle.kc_solve.specs.Kept.{valuation}
 use Rattle.kc_solve.proofs.TableSteps.{known_seen}
 
 -- what a full table tells of each symbol and name is what its valuation says
 pub tables_known : (tree : TreeFacts) (values : List (Option Value)) → length values ≡ name_count tree → known_in tree values ≡ known_from tree (valuation tree values)
 tables_known tree values l = λ i s. known_seen tree values l s i
-
--- the visibility that was kept of a symbol
-pub visibility_found : (tree : TreeFacts) (values : List (Option Value)) (id : SymId) (f : SymbolFacts) (xs : List Tri) → length values ≡ name_count tree → id.0 < name_count tree →
-    facts tree id ≡ Some f → xs ≡ map (visibility_at tree (valuation tree values)) (range_with_len 0 (name_count tree)) → slice_index_or xs id.0 N ≡ visibility tree (known_in tree values) f
-visibility_found tree values id f xs full below at e =
-    ap (λ ys. slice_index_or ys id.0 N) e
-    ∙ get_or-map-range_with_len (visibility_at tree (valuation tree values)) 0 (name_count tree) id.0 id.0 N below (omega arith)
-    ∙ ap (λ k. visibility_by tree k (facts tree id)) (sym (tables_known tree values full))
-    ∙ ap (visibility_by tree (known_in tree values)) at
 
 -- the warnings of the symbol that stands at a place
 pub one_more_warned : (tree : TreeFacts) (values : List (Option Value)) (u : Places) (ids : List SymId) (i : ℕ) (f : SymbolFacts) (own : Option GivenValue) (old new : List Warning) →

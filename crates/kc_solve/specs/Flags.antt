@@ -33,14 +33,6 @@ row_is_new t user id row =
     not (is_some (place_at user (SymbolPlace id.0)))
     && is_new_by t.tree.now (known_at t) (place_at user) id (facts_in t id row) (facts_in t id row).choice
 
--- the visibility of the symbol of this number, under a valuation
-abbrev pub visibility_at : TreeFacts → (ℕ → SymbolValue) → ℕ → Tri
-visibility_at tree V i = visibility_by tree (known_from tree V) (facts tree (symbol i))
-
--- whether the symbol of this number has a line in the .config, under a valuation
-abbrev pub is_written : TreeFacts → (ℕ → SymbolValue) → ℕ → Bool
-is_written tree V i = written tree (known_from tree V) (symbol i)
-
 -- the valuation that a table holds
 abbrev pub values_in : Table → ℕ → SymbolValue
 values_in t = valuation t.tree.now t.values
@@ -52,12 +44,6 @@ selected_by t user = map (selection t.tree.now (place_at user) (values_in t)) (r
 abbrev pub selected_by_default : Table → List (Option SymId)
 selected_by_default t = map (default_selection t.tree.now (values_in t)) (range_with_len 0 (length t.tree.now.choices))
 
--- the visibility of each symbol, whether it differs, and whether it has a line
-abbrev pub visibilities_in : Table → List Tri
-visibilities_in t = map (visibility_at t.tree.now (values_in t)) (range_with_len 0 (name_count t.tree.now))
-
+-- whether each symbol differs
 abbrev pub differing_by : Table → Places → List Bool
 differing_by t user = map (differs t.tree.now (place_at user) (values_in t)) (range_with_len 0 (name_count t.tree.now))
-
-abbrev pub written_in : Table → List Bool
-written_in t = map (is_written t.tree.now (values_in t)) (range_with_len 0 (name_count t.tree.now))

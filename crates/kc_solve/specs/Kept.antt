@@ -18,10 +18,10 @@ solution_in tree places table = record {
   values = map (valuation tree table) (range_with_len 0 (name_count tree));
 }
 
--- The stored parts of a solution: the full table, the selections, the default selections, the visibilities, which symbols differ, which are written,
+-- The stored parts of a solution: the full table, the selections, the default selections, which symbols differ,
 -- the warnings.
 pub record IsSolved (tree : TreeFacts) (places : Places) (table : List (Option Value)) (selections defaults : List (Option SymId))
-    (visibilities : List Tri) (differing written : List Bool) (warnings : List Warning) : Type 0 where
+    (differing : List Bool) (warnings : List Warning) : Type 0 where
   pub accepted : IsAccepted tree
   pub user : ArePlacesOf tree places
   pub full : length table ≡ name_count tree
@@ -29,7 +29,5 @@ pub record IsSolved (tree : TreeFacts) (places : Places) (table : List (Option V
   pub only : IsOnlySolution (name_count tree) (equations tree (place_at places)) (valuation tree table)
   pub selections_are : selections ≡ map (values.selection tree (place_at places) (valuation tree table)) (range_with_len 0 (length tree.choices))
   pub defaults_are : defaults ≡ map (values.default_selection tree (valuation tree table)) (range_with_len 0 (length tree.choices))
-  pub visibilities_are : visibilities ≡ map (λ i. visibility_by tree (known_from tree (valuation tree table)) (facts tree (symbol i))) (range_with_len 0 (name_count tree))
   pub differing_are : differing ≡ map (values.differs tree (place_at places) (valuation tree table)) (range_with_len 0 (name_count tree))
-  pub written_are : written ≡ map (λ i. values.written tree (known_from tree (valuation tree table)) (symbol i)) (range_with_len 0 (name_count tree))
   pub warnings_are : warnings ≡ warning.warnings_of_values tree (place_at places) (valuation tree table)

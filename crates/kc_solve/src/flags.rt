@@ -1,11 +1,11 @@
 //! The selections of choices and the flags of symbols, under the values of a full table.
 
-ghost use Rattle.std.specs.Prelude.{◌≡◌, ◌<◌, false, length, map, slice_index_or, None, Some, true, IfOk, IfSome};
-ghost use Rattle.kc_language.specs.declared.expressions.Tri.TheVariants.{N};
-ghost use Rattle.kc_language.specs.Values.{ChoicePlace, Solves, is_chosen, name_count, equations};
+ghost use Rattle.std.specs.Prelude.{◌≡◌, ◌<◌, ◌&&◌, false, length, map, not, slice_index_or, None, Some, true, IfOk, IfSome};
+ghost use Rattle.std.specs.Option.{is_some};
+ghost use Rattle.kc_language.specs.Values.{ChoicePlace, Solves, is_chosen, is_n, name_count, equations};
 ghost use Rattle.kc_solve.specs.Flags as flag;
-ghost use Rattle.kc_solve.specs.Flags.{row_differs, visibilities_in, IsSolvedRow};
-ghost use Rattle.kc_solve.specs.FlagLists.{AreFlagsOf, AreSelectionsOf};
+ghost use Rattle.kc_solve.specs.Flags.{row_differs, IsSolvedRow};
+ghost use Rattle.kc_solve.specs.FlagLists.{AreSelectionsOf};
 ghost use Rattle.kc_language.specs.ConfigFile.{ArePlacesOf, place_at};
 ghost use Rattle.kc_user.specs.PartsOfConfigFile.{member_place};
 ghost use Rattle.kc_values.specs.AtTable as at;
@@ -16,7 +16,7 @@ ghost use Rattle.kc_values.specs.PartsOfTexts.{warnings_of_values as value_warni
 
 use crate::compute::symbol_row;
 use kc_diagnostics::Warning;
-use kc_expr::expression::{SymId, Tri};
+use kc_expr::expression::SymId;
 use kc_tree::rows::{ChoiceId, Symbol};
 use kc_tree::tree::Tree;
 use kc_user::user::User;
@@ -27,7 +27,6 @@ use kc_values::differs::{can_count, member_differs, own_differs};
 use kc_values::table::Table;
 use kc_values::truths::visibility;
 use kc_values::warnings::warnings_into;
-use kc_values::written::written as is_written;
 use std::alloc::{AllocError, Global};
 
 /// The number of choices in a tree.
@@ -122,16 +121,6 @@ pub(crate) fn at_symbol(flags: &[bool], id: SymId) -> bool
     id.0 < flags.len() && flags[id.0]
 }
 
-/// The visibility of a symbol in the list, or n if it has none.
-pub(crate) fn visibility_at(visibilities: &[Tri], id: SymId) -> Tri
-    ensures { result ≡ slice_index_or visibilities.now id.0 N }
-{
-    match visibilities.get(id.0) {
-        Some(visibility) => *visibility,
-        None => Tri::N,
-    }
-}
-
 /// A symbol and its row, with the table that says what it is worth.
 #[derive(Clone, Copy)]
 pub(crate) struct TableRow<'t> {
@@ -140,18 +129,27 @@ pub(crate) struct TableRow<'t> {
     pub symbol: &'t Symbol,
 }
 
+// Whether a user value can have an effect on a symbol. Its visibility is computed only if there is one.
+fn has_effect(row: &TableRow<'_>, user: Option<&UserValue>) -> bool
+    requires { IsRowOf row.now.table.now row.now.id row.now.symbol.now }
+    ensures { result ≡ (is_some (given_in user.entry) && not (is_n (at.visibility row.now.table.now row.now.id row.now.symbol.now))) }
+{
+    match user {
+        Some(_) => can_count(user, visibility(row.table, row.id, row.symbol)),
+        None => false,
+    }
+}
+
 // Whether a symbol differs. A symbol whose user value has no effect does not: its equation gives its value without it.
 fn symbol_differs(
     alloc: Global,
     row: &TableRow<'_>,
     user: Option<&UserValue>,
-    visibility: Tri,
     selections: &ChoiceSelections,
 ) -> Result<bool, AllocError>
     requires row { IsRowOf row.now.table.now row.now.id row.now.symbol.now }
     requires selections { IfSome row.now.symbol.now.choice (λ c. c.0 < length selections.now.selected.items) }
     requires defaults { IfSome row.now.symbol.now.choice (λ c. c.0 < length selections.now.default.items) }
-    requires visibility { visibility ≡ at.visibility row.now.table.now row.now.id row.now.symbol.now }
     requires solved { IsSolvedRow row.now.table.now row.now.id row.now.symbol.now (given_in user) }
     ensures { IfOk result (λ b. b ≡ row_differs row.now.table.now row.now.id row.now.symbol.now selections.now.selected.items selections.now.default.items) }
 {
@@ -162,7 +160,7 @@ fn symbol_differs(
             row.id,
         )),
         None => {
-            if can_count(user, visibility) {
+            if has_effect(row, user) {
                 own_differs(alloc, row.table, row.id, row.symbol)
             } else {
                 Ok(false)
@@ -242,77 +240,54 @@ pub(crate) fn symbol_is_new(row: &TableRow<'_>, user: &User, selections: &Choice
     }
 }
 
-/// The flags of each symbol under the values of a full table, by number.
-#[derive(Drop)]
-pub(crate) struct Flags {
-    /// Its visibility.
-    pub visibilities: Vec<Tri>,
-    /// Whether it differs: its value is not what its equation gives without its user value. A member differs if it is
-    /// selected and is not the default selection.
-    pub differing: Vec<bool>,
-    /// Whether it has a line in the `.config`.
-    pub written: Vec<bool>,
-}
-
-/// Returns the flags of the symbols under the values of a full table that solves, the user values of that tree, and the
-/// selections. Computes the visibility of each symbol once, for all flags.
-pub(crate) fn flags_of(
+/// Returns whether each symbol differs under the values of a full table that solves, the user values of that tree, and the
+/// selections, by number: its value is not what its equation gives without its user value. A member differs if it is
+/// selected and is not the default selection.
+pub(crate) fn differing_of(
     alloc: Global,
     table: &Table,
     user: &User,
     selections: &ChoiceSelections,
-) -> Result<Flags, AllocError>
+) -> Result<Vec<bool>, AllocError>
     requires full { length table.now.values ≡ name_count table.now.tree.now }
     requires user { ArePlacesOf table.now.tree.now user.now }
     requires solves { Solves (name_count table.now.tree.now) (equations table.now.tree.now (place_at user.now)) (flag.values_in table.now) }
     requires selections { AreSelectionsOf table.now user.now selections.now }
-    ensures { IfOk result (AreFlagsOf table.now user.now) }
+    ensures { IfOk result (λ differing. differing.items ≡ flag.differing_by table.now user.now) }
 {
     let count = table.tree.name_count();
-    let mut visibilities = Vec::with_capacity(alloc, count)?;
     let mut differing = Vec::with_capacity(alloc, count)?;
-    let mut written = Vec::with_capacity(alloc, count)?;
     for i in 0..count {
         let id = SymId(i);
         let symbol = symbol_row(table.layout, id);
         let own = user.get(id);
-        let visibility = visibility(table, id, symbol);
         let row = TableRow {
             table: &*table,
             id,
             symbol,
         };
-        let differs = symbol_differs(alloc, &row, own, visibility, selections)?;
-        visibilities.push(visibility)?;
+        let differs = symbol_differs(alloc, &row, own, selections)?;
         differing.push(differs)?;
-        written.push(is_written(table, id, symbol, visibility))?;
     }
-    Ok(Flags {
-        visibilities,
-        differing,
-        written,
-    })
+    Ok(differing)
 }
 
 /// Returns the warnings of the defined symbols under the values of a full table and the user values of that tree, in
-/// the order of first definitions. The caller passes the visibilities.
+/// the order of first definitions.
 pub(crate) fn warnings_of(
     alloc: Global,
     table: &Table,
     user: &User,
-    visibilities: &[Tri],
 ) -> Result<Vec<Warning<Vec<u8>>>, AllocError>
     requires full { length table.now.values ≡ name_count table.now.tree.now }
     requires user { ArePlacesOf table.now.tree.now user.now }
-    requires visibilities { visibilities.now ≡ visibilities_in table.now }
     ensures { IfOk result (λ v. map owned_warning v.items ≡ value_warnings table.now.tree.now (place_at user.now) (flag.values_in table.now)) }
 {
     let mut warnings = Vec::new(alloc);
     for id in table.layout.defined() {
         let symbol = symbol_row(table.layout, *id);
-        let visibility = visibility_at(visibilities, *id);
         let own = user.get(*id);
-        warnings_into(alloc, table, *id, symbol, visibility, own, &mut warnings)?;
+        warnings_into(alloc, table, *id, symbol, own, &mut warnings)?;
     }
     Ok(warnings)
 }

@@ -11,7 +11,7 @@ ghost use Rattle.kc_language.specs.ConfigFile.{ArePlacesOf, place_at};
 
 use crate::compute::compute;
 use crate::evaluation_order::EvaluationOrder;
-use crate::flags::{Flags, flags_of, selections, warnings_of};
+use crate::flags::{differing_of, selections, warnings_of};
 use crate::solved::Solved;
 use kc_tree::laid_tree::LaidTree;
 use kc_user::user::User;
@@ -55,19 +55,13 @@ pub fn solve<'a>(
 {
     let table = full_table(alloc, laid, order, user)?;
     let selections = selections(alloc, &table, user)?;
-    let Flags {
-        visibilities,
-        differing,
-        written,
-    } = flags_of(alloc, &table, user, &selections)?;
-    let warnings = warnings_of(alloc, &table, user, &visibilities)?;
+    let differing = differing_of(alloc, &table, user, &selections)?;
+    let warnings = warnings_of(alloc, &table, user)?;
     let solved = Solved {
         table,
         user,
         selections,
-        visibilities,
         differing,
-        written,
         warnings,
     };
     solved.is_solution();

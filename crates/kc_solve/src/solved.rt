@@ -2,6 +2,7 @@
 
 ghost use Rattle.std.specs.Prelude.{◌≡◌, ◌<◌, length, map, option_and_then, slice_get, IfSome};
 ghost use Rattle.kc_expr.specs.PartsOfExpressions.{text_of_value};
+ghost use Rattle.kc_values.specs.PartsOfValues.{written_facts};
 ghost use Rattle.kc_values.specs.Small.{HasSmallBounds};
 ghost use Rattle.kc_values.specs.TableFacts.{known_at};
 ghost use Rattle.kc_solve.specs.Answers as spec;
@@ -15,7 +16,7 @@ ghost use Rattle.kc_language.specs.Needs.{IsAccepted};
 ghost use Rattle.kc_language.specs.Values.{active_range, choice_at, facts, mode_of, name_count};
 
 use crate::compute::symbol_row;
-use crate::flags::{ChoiceSelections, TableRow, at_symbol, symbol_is_new, visibility_at};
+use crate::flags::{ChoiceSelections, TableRow, at_symbol, symbol_is_new};
 use crate::sources::{mode_at, prompts_condition_at, symbol_source};
 use kc_diagnostics::Warning;
 use kc_expr::expression::{SymId, SymbolType, Tri};
@@ -27,6 +28,8 @@ use kc_user::user::User;
 use kc_values::laws::{idempotent_where, minimal_restores};
 use kc_values::numbers::{Interval, active_range};
 use kc_values::table::Table;
+use kc_values::truths::visibility;
+use kc_values::written::written;
 use std::marker::Model;
 
 /// The one solution of a tree's equations for the user values, as returned by [`crate::solve::solve`], with the flags
@@ -36,9 +39,7 @@ pub struct Solved<'a> {
     pub(crate) table: Table<'a>,
     pub(crate) user: &'a User,
     pub(crate) selections: ChoiceSelections,
-    pub(crate) visibilities: Vec<Tri>,
     pub(crate) differing: Vec<bool>,
-    pub(crate) written: Vec<bool>,
     pub(crate) warnings: Vec<Warning<Vec<u8>>>,
 }
 
@@ -56,7 +57,7 @@ impl<'a> Model for Solved<'a> {
     ghost view = { λ s. solution_in s.table.tree.now s.user.now s.table.values };
 
     ghost invariant = { λ s. IsSolved s.table.tree.now s.user.now s.table.values s.selections.selected.items s.selections.default.items
-        s.visibilities.items s.differing.items s.written.items (map owned_warning s.warnings.items) };
+        s.differing.items (map owned_warning s.warnings.items) };
 }
 
 impl<'a> Solved<'a> {
@@ -122,11 +123,11 @@ impl<'a> Solved<'a> {
     }
 
     /// The visibility of a symbol: the greatest condition of its prompts, with y for m if the symbol can't be m
-    /// (kconfiglib's `visibility`).
+    /// (kconfiglib's `visibility`). It is computed on each call.
     pub fn visibility(&self, id: SymId) -> Tri
         ensures { result ≡ spec.visibility self.now id }
     {
-        visibility_at(&self.visibilities, id)
+        visibility_in(&self.table, id)
     }
 
     /// The greatest condition of the symbol's prompts as written: m stays m even if the symbol can't be m; n if the
@@ -140,11 +141,11 @@ impl<'a> Solved<'a> {
     /// Whether the symbol has a line in the `.config`. It has one if it is visible. Outside a choice, a bool or
     /// tristate has one if its default, what it is selected to, or what it is implied to within its dependency is not
     /// n. A string, int or hex has one if one of its defaults applies. A symbol without a type has none (kconfiglib's
-    /// `config_string`).
+    /// `config_string`). It is computed on each call.
     pub fn written(&self, id: SymId) -> bool
         ensures { result ≡ spec.written self.now id }
     {
-        at_symbol(&self.written, id)
+        written_in(&self.table, id)
     }
 
     /// The selected member of a choice, if its mode is not n: the user's member if it is visible, otherwise the default
@@ -233,6 +234,26 @@ impl<'a> Solved<'a> {
         ensures { map owned_warning result.now ≡ value_warnings self.now }
     {
         &self.warnings
+    }
+}
+
+// The visibility of a symbol, or n if there is no such symbol.
+fn visibility_in(table: &Table, id: SymId) -> Tri
+    ensures { result ≡ spec.visibility_by table.now.tree.now (known_at table.now) (facts table.now.tree.now id) }
+{
+    match table.layout.symbol(id) {
+        Some(symbol) => visibility(table, id, symbol),
+        None => Tri::N,
+    }
+}
+
+// Whether a symbol has a line in the `.config`.
+fn written_in(table: &Table, id: SymId) -> bool
+    ensures { result ≡ written_facts table.now.tree.now (known_at table.now) (facts table.now.tree.now id) }
+{
+    match table.layout.symbol(id) {
+        Some(symbol) => written(table, id, symbol, visibility(table, id, symbol)),
+        None => false,
     }
 }
 

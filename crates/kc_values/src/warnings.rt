@@ -16,7 +16,7 @@ use crate::numbers::{
     Interval, active_range, clamped, if_within_range, is_within_range, number_text,
 };
 use crate::table::{Table, name};
-use crate::texts::{met_text, visible_text};
+use crate::texts::{met_text, visible_text_of};
 use crate::truths::{direct, selected_to};
 use kc_diagnostics::Warning;
 use kc_expr::expression::{SymId, SymbolType, Tri};
@@ -173,16 +173,18 @@ fn range_warnings(
     table: &Table<'_>,
     id: SymId,
     symbol: &Symbol,
-    visibility: Tri,
     user: Option<&UserValue>,
     out: &mut Vec<Warning<Vec<u8>>>,
 ) -> Result<(), AllocError>
-    requires row { IsRowOf table.now id symbol.now }
-    requires visibility { visibility ≡ at.visibility table.now id symbol.now }
+    requires { IsRowOf table.now id symbol.now }
     ensures { OnOk result (held out.new.items ≡ held out.old.items ++ at.range_warnings table.now (name table.now.tree.now id) id symbol.now (given_in user.entry)) }
 {
     let range = active_range(table, id, symbol);
-    let given = visible_text(user, visibility);
+    // Nothing is outside of no range.
+    if let None = range {
+        return Ok(());
+    }
+    let given = visible_text_of(table, id, symbol, user);
     let used = if_within_range(symbol.symbol_type, range, given);
     let default = met_text(table, id, symbol);
     let name = name(table.tree, id);
@@ -218,19 +220,16 @@ fn select_warnings(
 
 /// Appends the warnings of one symbol under these values. A bool or tristate: it is selected above its direct
 /// dependency. An int or hex: a visible user value is outside the active range; then: a default was clamped. A member
-/// of a choice has none (our own lines). The caller passes the symbol's visibility, so that it is computed once. Fails
-/// only if there is not enough memory; some warnings may then have been added.
+/// of a choice has none (our own lines). Fails only if there is not enough memory; some warnings may then have been added.
 pub fn warnings_into(
     alloc: Global,
     table: &Table<'_>,
     id: SymId,
     symbol: &Symbol,
-    visibility: Tri,
     user: Option<&UserValue>,
     out: &mut Vec<Warning<Vec<u8>>>,
 ) -> Result<(), AllocError>
-    requires row { IsRowOf table.now id symbol.now }
-    requires visibility { visibility ≡ at.visibility table.now id symbol.now }
+    requires { IsRowOf table.now id symbol.now }
     ensures { OnOk result (held out.new.items ≡ held out.old.items ++ at.warnings_of table.now id symbol.now (given_in user.entry)) }
 {
     if symbol.choice.is_some() {
@@ -241,7 +240,7 @@ pub fn warnings_into(
         SymbolType::Bool => select_warnings(alloc, table, id, symbol, out),
         SymbolType::Tristate => select_warnings(alloc, table, id, symbol, out),
         SymbolType::Str => Ok(()),
-        SymbolType::Int => range_warnings(alloc, table, id, symbol, visibility, user, out),
-        SymbolType::Hex => range_warnings(alloc, table, id, symbol, visibility, user, out),
+        SymbolType::Int => range_warnings(alloc, table, id, symbol, user, out),
+        SymbolType::Hex => range_warnings(alloc, table, id, symbol, user, out),
     }
 }

@@ -6,10 +6,10 @@ use Rattle.kc_language.specs.Values.{is_n}
 use Rattle.kc_solve.proofs.FlagSteps.{does_not_differ}
 use Rattle.kc_solve.proofs.flags.symbol_differs.Goals as goal
 
-pub returns-else-can_count : goal.returns-else-can_count
-returns-else-can_count c =
+pub returns-else-has_effect : goal.returns-else-has_effect
+returns-else-has_effect c =
     let t = c.args.row.now.table.now in
     let own = given_in c.args.user in
     does_not_differ t.tree.now (known_at t) c.args.row.now.id (facts_of t.layout.now c.args.row.now.id.0 c.args.row.now.symbol.now) own c.args.selections.now.selected.items c.args.selections.now.default.items
-    (ap (λ v. is_some own && not (is_n v)) (sym c.requires.visibility) ∙ sym c.can_count.ensures ∙ c.if-can_count.false)
+    (sym c.has_effect.ensures ∙ c.if-has_effect.false)
     _ (ap mode_view (sym c.in-None.ensures)) c.requires.solved

@@ -3,7 +3,7 @@ use Rattle.kc_language.specs.{ConfigFile.place_at, Expressions.symbol}
 use Rattle.kc_tree.specs.Layouts.{facts_of}
 use Rattle.kc_values.specs.{PartsOfTexts.warnings_at, User.given_in}
 use Rattle.kc_solve.specs.Flags.{values_in}
-use Rattle.kc_solve.proofs.{TableSteps.{defined_are, defined_below, row_count, row_facts}, UserSteps.place_mapped, WarningSteps.{one_more_warned, visibility_found}}
+use Rattle.kc_solve.proofs.{TableSteps.{defined_are, defined_below, row_count, row_facts}, UserSteps.place_mapped, WarningSteps.one_more_warned}
 use Rattle.kc_solve.proofs.flags.warnings_of.Goals as goal
 
 pub symbol_row-symbol-requires : goal.symbol_row-symbol-requires
@@ -14,16 +14,6 @@ get-own-requires c =
     let t = c.args.table.now in
     let below = defined_below t c.defined-id-items.result.now c.loop-id.id-index c.defined-id-items.ensures c.loop-id-test.true in
     omega (arith, below, row_count t, c.requires.user.symbols)
-
-pub warnings_into-requires-clause-visibility : goal.warnings_into-requires-clause-visibility
-warnings_into-requires-clause-visibility c =
-    let t = c.args.table.now in
-    let id = get_or c.defined-id-items.result.now c.loop-id.id-index (symbol 0) in
-    let s = c.symbol_row-symbol.result.now in
-    let below = defined_below t c.defined-id-items.result.now c.loop-id.id-index c.defined-id-items.ensures c.loop-id-test.true in
-    c.visibility_at-visibility.ensures
-    ∙ visibility_found t.tree.now t.values id (facts_of t.layout.now id.0 s) c.args.visibilities.now c.requires.full (omega (arith, below, row_count t))
-    (row_facts t id s c.symbol_row-symbol.ensures) c.requires.visibilities
 
 pub loop-id-preserved : goal.loop-id-preserved
 loop-id-preserved c =

@@ -17,9 +17,7 @@ invariant_of-solved c =
       only = subst (λ (t : TreeFacts). IsOnlySolution (name_count t) (equations t U) (valuation t items)) e c.in_ok-table.ensures.only;
       selections_are = c.in_ok-selections.ensures.selected;
       defaults_are = c.in_ok-selections.ensures.default;
-      visibilities_are = c.in_ok-visibilities.ensures.visibilities;
-      differing_are = c.in_ok-visibilities.ensures.differing;
-      written_are = c.in_ok-visibilities.ensures.written;
+      differing_are = c.in_ok-differing.ensures;
       warnings_are = c.in_ok-warnings.ensures;
     }
 

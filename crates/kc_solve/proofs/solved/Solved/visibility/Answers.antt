@@ -1,8 +1,11 @@
-use Rattle.std.proofs.Common.{List, ap, get_or, ◌∙◌}
-use Rattle.kc_language.specs.declared.expressions.Tri.{TheVariants.N, Tri}
-use Rattle.kc_solve.proofs.SolvedSteps.{visible_is}
+use Rattle.kc_language.specs.{Expressions.SymbolValue, Symbols.TreeFacts, Values.facts, declared.expressions.SymId.SymId}
+use Rattle.kc_solve.specs.Answers.{visibility_by}
+use Rattle.kc_solve.proofs.SolvedSteps.{told}
 use Rattle.kc_solve.proofs.solved.Solved.visibility.Goals as goal
 
 pub returns : goal.returns
-returns c = c.visibility_at.ensures ∙ ap (λ (xs : List Tri). get_or xs c.args.id.0 N) c.deref.ensures.value
-    ∙ visible_is c.self.inside.table.tree.now c.self.inside.user.now c.self.inside.table.values _ _ _ _ _ _ c.self.invariant _ c.self.view_is c.args.id
+returns c =
+    let t = c.self.inside.table in
+    told t.tree.now c.self.inside.user.now t.values c.self.invariant.full _ c.self.view_is
+    (λ (tree : TreeFacts) (k : SymId → SymbolValue). visibility_by tree k (facts tree c.args.id)) _
+    c.visibility_in.ensures

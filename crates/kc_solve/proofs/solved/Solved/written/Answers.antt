@@ -1,7 +1,10 @@
-use Rattle.std.proofs.Common.{◌∙◌, Bool, List, ap, false, get_or}
-use Rattle.kc_solve.proofs.SolvedSteps.{written_is}
+use Rattle.kc_language.specs.{Expressions.SymbolValue, Symbols.TreeFacts, Values.written, declared.expressions.SymId.SymId}
+use Rattle.kc_solve.proofs.SolvedSteps.{told}
 use Rattle.kc_solve.proofs.solved.Solved.written.Goals as goal
 
 pub returns : goal.returns
-returns c = c.at_symbol.ensures ∙ ap (λ (xs : List Bool). get_or xs c.args.id.0 false) c.deref.ensures.value
-    ∙ written_is c.self.inside.table.tree.now c.self.inside.user.now c.self.inside.table.values _ _ _ _ _ _ c.self.invariant _ c.self.view_is c.args.id
+returns c =
+    let t = c.self.inside.table in
+    told t.tree.now c.self.inside.user.now t.values c.self.invariant.full _ c.self.view_is
+    (λ (tree : TreeFacts) (k : SymId → SymbolValue). written tree k c.args.id) _
+    c.written_in.ensures

@@ -1,10 +1,10 @@
 use Rattle.std.proofs.{Common.{ap, arith, length, refl, sym, ◌∙◌}, lemmas.List.FromFn.length-map-range_with_len}
 use Rattle.kc_language.specs.{ConfigFile.place_at, Expressions.symbol, Values.{default_selection, selection}}
 use Rattle.kc_tree.specs.Layouts.{facts_of}
-use Rattle.kc_values.specs.{PartsOfValues.written_facts, Table.known_in, User.given_in}
-use Rattle.kc_solve.specs.{Answers.visibility_by, Kept.valuation}
-use Rattle.kc_solve.proofs.{FlagSteps.{one_more_differs, one_more_visible, one_more_written, solved_here}, TableSteps.{choice_at_most, choice_below, row_count, row_facts}, UserSteps.place_mapped}
-use Rattle.kc_solve.proofs.flags.flags_of.Goals as goal
+use Rattle.kc_values.specs.User.{given_in}
+use Rattle.kc_solve.specs.{Kept.valuation}
+use Rattle.kc_solve.proofs.{FlagSteps.{one_more_differs, solved_here}, TableSteps.{choice_at_most, choice_below, row_count, row_facts}, UserSteps.place_mapped}
+use Rattle.kc_solve.proofs.flags.differing_of.Goals as goal
 
 pub symbol_row-symbol-requires : goal.symbol_row-symbol-requires
 symbol_row-symbol-requires c = omega (arith, row_count c.args.table.now)
@@ -41,11 +41,6 @@ loop-i-preserved c =
     let s = c.symbol_row-symbol.result.now in
     let f = facts_of table.layout.now c.loop-i.i s in
     let at = row_facts table (symbol c.loop-i.i) s c.symbol_row-symbol.ensures in
-    let before = c.loop-i.invariant in
-    record {
-      visibilities = one_more_visible t values c.loop-i.i _ _ _ c.requires.full before.visibilities c.in_ok-push.ensures.items (c.visibility-visibility.ensures ∙ ap (visibility_by t (known_in t values)) (sym at));
-      differing = one_more_differs t values c.requires.full (place_at c.args.user.now) c.loop-i.i f at c.args.selections.now.selected.items c.args.selections.now.default.items c.requires.selections.selected c.requires.selections.default
-          (λ d e. choice_at_most t c.name_count-count.ensures.formed c.loop-i.i f d at e)
-          _ _ _ before.differing c.in_ok-push-2.ensures.items c.in_ok-differs.ensures;
-      written = one_more_written t values c.loop-i.i _ _ _ c.requires.full before.written c.in_ok-push-3.ensures.items (c.written.ensures ∙ ap (written_facts t (known_in t values)) (sym at));
-    }
+    one_more_differs t values c.requires.full (place_at c.args.user.now) c.loop-i.i f at c.args.selections.now.selected.items c.args.selections.now.default.items c.requires.selections.selected c.requires.selections.default
+    (λ d e. choice_at_most t c.name_count-count.ensures.formed c.loop-i.i f d at e)
+    _ _ _ c.loop-i.invariant c.in_ok-push.ensures.items c.in_ok-differs.ensures
