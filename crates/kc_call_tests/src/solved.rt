@@ -9,7 +9,7 @@ use kc_values::table::name;
 use std::alloc::AllocError;
 
 // Adds the line of a symbol.
-fn symbol_line(solved: &Solved<'_>, id: SymId, out: &mut Vec<u8>) -> Result<(), AllocError> {
+fn symbol_line(solved: &Solved<'_, '_>, id: SymId, out: &mut Vec<u8>) -> Result<(), AllocError> {
     let report = SymbolReport {
         name: name(solved.tree(), id),
         value: solved.text(id),
@@ -21,7 +21,7 @@ fn symbol_line(solved: &Solved<'_>, id: SymId, out: &mut Vec<u8>) -> Result<(), 
 }
 
 // Adds the line of a choice.
-fn choice_line(solved: &Solved<'_>, choice: ChoiceId, out: &mut Vec<u8>) -> Result<(), AllocError> {
+fn choice_line(solved: &Solved<'_, '_>, choice: ChoiceId, out: &mut Vec<u8>) -> Result<(), AllocError> {
     if choice.0 as usize >= choice_count(solved.tree()) {
         return Ok(());
     }
@@ -31,7 +31,7 @@ fn choice_line(solved: &Solved<'_>, choice: ChoiceId, out: &mut Vec<u8>) -> Resu
 }
 
 /// Adds the lines of a solution.
-pub(crate) fn lines_into(solved: &Solved<'_>, out: &mut Vec<u8>) -> Result<(), AllocError> {
+pub(crate) fn lines_into(solved: &Solved<'_, '_>, out: &mut Vec<u8>) -> Result<(), AllocError> {
     for id in solved.tree().layout().defined() {
         symbol_line(solved, *id, out)?;
     }

@@ -176,7 +176,7 @@ fn fill<'a>(
 }
 
 // A is n, B is the text, and N is seven.
-fn has_values(solved: &Solved<'_>) -> bool {
+fn has_values(solved: &Solved<'_, '_>) -> bool {
     solved.tri(A) == Tri::N && solved.text(B) == TEXT && solved.text(N) == b"7".as_slice()
 }
 
@@ -216,7 +216,7 @@ pub(crate) enum Output {
 }
 
 // The result of formatting a text, with solved values.
-fn end_of_text(alloc: Global, solved: &Solved<'_>, prefix: &Prefix, output: Output) -> CallEnd {
+fn end_of_text(alloc: Global, solved: &Solved<'_, '_>, prefix: &Prefix, output: Output) -> CallEnd {
     let (made, text) = match output {
         Output::Config => (config_text(alloc, solved, prefix), CONFIG),
         Output::Header => (header_text(alloc, solved, prefix), HEADER),

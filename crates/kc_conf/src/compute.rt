@@ -4,6 +4,8 @@ ghost use Rattle.std.specs.List.{flat_map, list_any};
 ghost use Rattle.kc_diagnostics.specs.Warnings.{owned_warning};
 ghost use Rattle.kc_language.specs.Symbols.{warning_line};
 ghost use Rattle.kc_language.specs.ConfigFile.{ArePlacesOf};
+ghost use Rattle.kc_language.specs.Texts.{IsSolutionFor};
+ghost use Rattle.kc_solve.specs.Again.{IsAgainOf};
 ghost use Rattle.kc_io.specs.Delivered.{text_view};
 ghost use Rattle.kc_language.specs.Expansion.{Files};
 ghost use Rattle.kc_conf.specs.Accepted.{AreSources, IsReady};
@@ -28,7 +30,7 @@ use kc_io::Text;
 use kc_load::{prerequisites_of, rule_text};
 use kc_options::{Options, Output, lead, target, wants};
 use kc_read::file_map::FileMap;
-use kc_solve::solve::solve;
+use kc_solve::again::Again;
 use kc_solve::solved::Solved;
 use kc_tree::tree::Tree;
 use std::alloc::{AllocError, Global};
@@ -70,7 +72,7 @@ fn add_value_lines(
     alloc: Global,
     options: &Options,
     input: &UserInput<'_>,
-    solved: &Solved<'_>,
+    solved: &Solved<'_, '_>,
     lost: &[LostValue],
     text: &mut Vec<u8>,
 ) -> Result<(), AllocError>
@@ -107,7 +109,7 @@ fn is_any_outside(warnings: &[Warning<Vec<u8>>]) -> bool
 fn is_none_lost(
     options: &Options,
     input: &UserInput<'_>,
-    solved: &Solved<'_>,
+    solved: &Solved<'_, '_>,
     lost: &[LostValue],
 ) -> bool
     requires { map lost_view lost.now ≡ lost_values options.now input.now solved.now }
@@ -120,7 +122,7 @@ fn is_none_lost(
 fn refuses_input(
     options: &Options,
     input: &UserInput<'_>,
-    solved: &Solved<'_>,
+    solved: &Solved<'_, '_>,
     lost: &[LostValue],
 ) -> bool
     requires { map lost_view lost.now ≡ lost_values options.now input.now solved.now }
@@ -151,7 +153,7 @@ pub(crate) fn is_warned_by(before: bool, text: &[u8]) -> bool
 fn is_refused(
     options: &Options,
     input: &UserInput<'_>,
-    solved: &Solved<'_>,
+    solved: &Solved<'_, '_>,
     lost: &[LostValue],
     is_warned: bool,
 ) -> bool
@@ -190,7 +192,7 @@ fn new_by(
     alloc: Global,
     options: &Options,
     files: Option<&FileMap>,
-    solved: &Solved<'_>,
+    solved: &Solved<'_, '_>,
 ) -> Result<Vec<u8>, AllocError>
     ensures { IfOk result (λ text. text.items ≡ new_by files.entry options.now.prefix solved.now) }
 {
@@ -208,7 +210,7 @@ fn new_symbols(
     alloc: Global,
     options: &Options,
     files: Option<&FileMap>,
-    solved: &Solved<'_>,
+    solved: &Solved<'_, '_>,
 ) -> Result<Vec<u8>, AllocError>
     ensures { IfOk result (λ text. text.items ≡ new_from options.now files.entry solved.now) }
 {
@@ -229,21 +231,21 @@ fn rule_by(alloc: Global, options: &Options, names: &Option<Names>) -> Result<Ve
     }
 }
 
-// What the texts are made of: the files of the tree, if kept, the names in the dependency file, the user's input and its
+// What the results are made of: the files of the tree, if kept, the names in the dependency file, the user's input and its
 // solution.
 #[derive(Clone, Copy)]
-struct Basis<'b, 'i, 's> {
+struct Basis<'b, 'i, 't, 'u> {
     files: Option<&'b FileMap>,
     names: &'b Option<Names>,
     input: &'b UserInput<'i>,
-    solved: &'b Solved<'s>,
+    solved: &'b Solved<'t, 'u>,
 }
 
 // The text of an output of this kind.
 fn text_of(
     alloc: Global,
     options: &Options,
-    basis: &Basis<'_, '_, '_>,
+    basis: &Basis<'_, '_, '_, '_>,
     kind: Output,
 ) -> Result<Vec<u8>, AllocError>
     ensures { IfOk result (λ text. text.items ≡ text_from options.now basis.now kind) }
@@ -264,7 +266,7 @@ fn text_of(
 fn texts_of<'o>(
     alloc: Global,
     options: &'o Options,
-    basis: &Basis<'_, '_, '_>,
+    basis: &Basis<'_, '_, '_, '_>,
 ) -> Result<Vec<Text<'o>>, AllocError>
     ensures { IfOk result (λ texts. map text_view texts.items
         ≡ map (named_from options.now basis.now) options.now.outputs.items) }
@@ -280,8 +282,35 @@ fn texts_of<'o>(
     Ok(texts)
 }
 
+// Computes the results: adds the warnings about values to `waiting`, and returns the texts, or None if they are refused. The
+// caller must pass the solution for the input.
+fn results_of<'o>(
+    alloc: Global,
+    options: &'o Options,
+    basis: &Basis<'_, '_, '_, '_>,
+    waiting: &mut Vec<u8>,
+) -> Result<Option<Vec<Text<'o>>>, AllocError>
+    requires { IsSolutionFor basis.now.solved.now.tree basis.now.input.now.places basis.now.solved.now }
+    ensures computes { (files : Files) (opened : List (List ℕ)) → basis.now.names.now ≡ names_if options.now opened
+        → AreSources files options.now basis.now.files
+        → IfOk result (λ texts. Computes files options.now opened basis.now.solved.now.tree basis.now.input.now waiting.old.items waiting.new.items
+        (option_map (λ texts. map text_view texts.items) texts)) }
+    ensures lines { AreLines waiting.old.items → IfOk result (λ texts. AreLines waiting.new.items) }
+{
+    let Basis { input, solved, .. } = *basis;
+    let lost = lost_values(alloc, options, input, solved)?;
+    add_value_lines(alloc, options, input, solved, &lost, waiting)?;
+    let is_warned = is_warned_by(has_warnings(solved.tree()), waiting);
+    if is_refused(options, input, solved, &lost, is_warned) {
+        return Ok(None);
+    }
+    let texts = texts_of(alloc, options, basis)?;
+    Ok(Some(texts))
+}
+
 /// Computes the results for the user's input: adds the warnings about values to `waiting`, and returns the texts, or
-/// None if they are refused. The caller must pass an order and user values of the tree.
+/// None if they are refused. The caller must pass an order and user values of the tree, and what is kept of the last
+/// solution.
 pub(crate) fn compute<'o>(
     alloc: Global,
     options: &'o Options,
@@ -289,29 +318,26 @@ pub(crate) fn compute<'o>(
     names: &Option<Names>,
     input: &UserInput<'_>,
     waiting: &mut Vec<u8>,
+    again: &mut Again,
 ) -> Result<Option<Vec<Text<'o>>>, AllocError>
     requires ready { IsReady accepted.now }
     requires places { ArePlacesOf accepted.now.laid.tree.now input.now.places }
+    requires again { IsAgainOf accepted.now.laid again.old }
     ensures computes { (files : Files) (opened : List (List ℕ)) → names.now ≡ names_if options.now opened
         → AreSources files options.now accepted.now.files
         → IfOk result (λ texts. Computes files options.now opened accepted.now.laid.tree.now input.now waiting.old.items waiting.new.items
         (option_map (λ texts. map text_view texts.items) texts)) }
     ensures lines { AreLines waiting.old.items → IfOk result (λ texts. AreLines waiting.new.items) }
+    ensures again { IsAgainOf accepted.now.laid again.new }
 {
-    let solved = solve(alloc, &accepted.laid, &accepted.order, input.user())?;
-    solved.is_solution();
-    let lost = lost_values(alloc, options, input, &solved)?;
-    add_value_lines(alloc, options, input, &solved, &lost, waiting)?;
-    let is_warned = is_warned_by(has_warnings(accepted.laid.tree), waiting);
-    if is_refused(options, input, &solved, &lost, is_warned) {
-        return Ok(None);
-    }
+    let solved = again.solve(alloc, &accepted.laid, &accepted.order, input.user())?;
     let basis = Basis {
         files: accepted.files,
         names,
         input,
         solved: &solved,
     };
-    let texts = texts_of(alloc, options, &basis)?;
-    Ok(Some(texts))
+    let texts = results_of(alloc, options, &basis, waiting)?;
+    again.keep(alloc, solved);
+    Ok(texts)
 }

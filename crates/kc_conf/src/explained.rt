@@ -34,7 +34,7 @@ fn explanations(
     alloc: Global,
     options: &Options,
     input: &UserInput<'_>,
-    solved: &Solved<'_>,
+    solved: &Solved<'_, '_>,
 ) -> Result<Vec<u8>, AllocError>
     ensures { IfOk result (λ text. text.items ≡ rules.explanations options.now input.now solved.now) }
 {
@@ -78,7 +78,7 @@ pub(crate) fn explained_text(
     alloc: Global,
     options: &Options,
     input: &UserInput<'_>,
-    solved: &Solved<'_>,
+    solved: &Solved<'_, '_>,
 ) -> Result<Vec<u8>, AllocError>
     ensures { IfOk result (λ text. text.items ≡ rules.explained_text options.now input.now solved.now) }
 {

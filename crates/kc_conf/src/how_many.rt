@@ -18,6 +18,7 @@ use kc_io::Device;
 use kc_options::{Options, Status};
 use kc_possible::possible::Possible;
 use kc_read::file_map::FileMap;
+use kc_solve::again::Again;
 use std::alloc::Global;
 
 impl<'q> Task for Inquiry<'q> {
@@ -31,6 +32,7 @@ impl<'q> Task for Inquiry<'q> {
         options: &Options,
         accepted: &OrderedTree<'_>,
         device: &mut D,
+        _again: &mut Again,
     ) -> Turn {
         let ended = how_accepted(alloc, options, self, accepted, &[], device);
         answer(options, ended, device)
@@ -55,7 +57,14 @@ fn how_turns<C: Configurations, D: Device>(
         asked,
         possible: &possible,
     };
-    all_turns(alloc, configurations, &inquiry, accepted, device)
+    all_turns(
+        alloc,
+        configurations,
+        &inquiry,
+        accepted,
+        device,
+        &mut Again::never(),
+    )
 }
 
 // Asks over the files, without reporting why it stopped early.

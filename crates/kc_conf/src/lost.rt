@@ -42,7 +42,7 @@ fn shown_by<'a>(symbol_type: SymbolType, tri: Tri, text: &'a [u8]) -> ShownValue
 }
 
 // A symbol's value.
-fn shown_value<'a>(solved: &'a Solved<'_>, id: SymId) -> ShownValue<'a>
+fn shown_value<'a>(solved: &'a Solved<'_, '_>, id: SymId) -> ShownValue<'a>
     ensures { given_by result ≡ given_of (known solved.now id) }
 {
     solved.tells_known();
@@ -156,7 +156,7 @@ fn lost_at(
     alloc: Global,
     is_raw: bool,
     input: &UserInput<'_>,
-    solved: &Solved<'_>,
+    solved: &Solved<'_, '_>,
     id: SymId,
 ) -> Result<Option<Vec<u8>>, AllocError>
     requires { id.0 < name_count solved.now.tree }
@@ -193,7 +193,7 @@ fn add_lost_at(
     alloc: Global,
     is_raw: bool,
     input: &UserInput<'_>,
-    solved: &Solved<'_>,
+    solved: &Solved<'_, '_>,
     id: SymId,
     lost: &mut Vec<LostValue>,
 ) -> Result<(), AllocError>
@@ -214,7 +214,7 @@ fn all_lost(
     alloc: Global,
     is_raw: bool,
     input: &UserInput<'_>,
-    solved: &Solved<'_>,
+    solved: &Solved<'_, '_>,
 ) -> Result<Vec<LostValue>, AllocError>
     ensures { IfOk result (λ lost. map lost_view lost.items ≡ flat_map (lost_pairs is_raw input.now.lines solved.now) solved.now.tree.defined) }
 {
@@ -232,7 +232,7 @@ pub(crate) fn lost_values(
     alloc: Global,
     options: &Options,
     input: &UserInput<'_>,
-    solved: &Solved<'_>,
+    solved: &Solved<'_, '_>,
 ) -> Result<Vec<LostValue>, AllocError>
     ensures { IfOk result (λ lost. map lost_view lost.items ≡ lost_values options.now input.now solved.now) }
 {

@@ -117,7 +117,7 @@ pub(crate) fn add_lost(
     alloc: Global,
     options: &Options,
     input: &UserInput<'_>,
-    solved: &Solved<'_>,
+    solved: &Solved<'_, '_>,
     lost: &[LostValue],
     text: &mut Vec<u8>,
 ) -> Result<(), AllocError>

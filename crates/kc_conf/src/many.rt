@@ -4,6 +4,7 @@ ghost use Rattle.std.specs.Prelude.{◌≡◌, ◌<◌, ℕ, Bool, List, IfOk};
 ghost use Rattle.kc_language.specs.Expansion.{Files};
 ghost use Rattle.kc_language.specs.Symbols.{TreeFacts};
 ghost use Rattle.kc_io.specs.Log.{Log};
+ghost use Rattle.kc_solve.specs.Again.{IsAgainOf};
 ghost use Rattle.kc_conf.specs.Accepted.{IsAcceptedOf, IsOrderedOf, IsReady};
 ghost use Rattle.kc_conf.specs.Many.{AreRootedAt, KeepsFor, RunsEach, RunsTurn, TakeTurns, TakesTurn, greater};
 ghost use Rattle.kc_conf.specs.PartRuns.{AnswersAll, EndsEach};
@@ -18,6 +19,7 @@ use crate::stop::Stop;
 use kc_io::Device;
 use kc_options::{Options, Status};
 use kc_read::file_map::FileMap;
+use kc_solve::again::Again;
 use std::alloc::{AllocError, Global};
 
 /// Gives the options of each of many configurations of one tree (our own).
@@ -55,16 +57,20 @@ pub(crate) trait Task {
     /// What a turn leaves.
     ghost leaves: { Self → Files → TreeFacts → Options → Log → Log → Status → Bool → Type 0 };
 
-    /// Takes the turn of a configuration with these options, after the tree's warnings.
+    /// Takes the turn of a configuration with these options, after the tree's warnings. It may keep what the next solution
+    /// needs of its own.
     fn take<D: Device>(
         &self,
         alloc: Global,
         options: &Options,
         accepted: &OrderedTree<'_>,
         device: &mut D,
+        again: &mut Again,
     ) -> Turn
-        requires { is_ready self.now accepted.now }
-        ensures { (files : Files) → IsAcceptedOf files options.now accepted.now →
+        requires ready { is_ready self.now accepted.now }
+        requires again { IsAgainOf accepted.now.laid again.old }
+        ensures again { IsAgainOf accepted.now.laid again.new }
+        ensures leaves { (files : Files) → IsAcceptedOf files options.now accepted.now →
             leaves self.now files accepted.now.laid.tree.now options.now (D.log device.old) (D.log device.new) result.status result.is_over };
 }
 
@@ -83,8 +89,9 @@ impl Task for Running {
         options: &Options,
         accepted: &OrderedTree<'_>,
         device: &mut D,
+        again: &mut Again,
     ) -> Turn {
-        let ended = run_accepted(alloc, options, accepted, &[], device);
+        let ended = run_accepted(alloc, options, accepted, &[], device, again);
         answer(options, ended, device)
     }
 }
@@ -97,14 +104,17 @@ fn take_turn<C: Configurations, T: Task, D: Device>(
     task: &T,
     accepted: &OrderedTree<'_>,
     device: &mut D,
+    again: &mut Again,
 ) -> Turn
     requires within { i < C.number configurations.now }
+    requires again { IsAgainOf accepted.now.laid again.old }
     requires ready { T.is_ready task.now accepted.now }
-    ensures { (files : Files) → ((options : Options) → C.options configurations.now i options → IsAcceptedOf files options accepted.now) →
+    ensures again { IsAgainOf accepted.now.laid again.new }
+    ensures turn { (files : Files) → ((options : Options) → C.options configurations.now i options → IsAcceptedOf files options accepted.now) →
         TakesTurn (T.leaves task.now files accepted.now.laid.tree.now) (C.options configurations.now i) (D.log device.old) (D.log device.new) result.status result.is_over }
 {
     match configurations.options_of(alloc, i) {
-        Ok(options) => task.take(alloc, &options, accepted, device),
+        Ok(options) => task.take(alloc, &options, accepted, device, again),
         Err(_) => {
             say_no_memory(device);
             Turn {
@@ -136,14 +146,16 @@ fn take_turns<C: Configurations, T: Task, D: Device>(
     task: &T,
     accepted: &OrderedTree<'_>,
     device: &mut D,
+    again: &mut Again,
 ) -> Status
+    requires again { IsAgainOf accepted.now.laid again.old }
     requires ready { T.is_ready task.now accepted.now }
     ensures { (files : Files) → ((i : ℕ) (options : Options) → C.options configurations.now i options → IsAcceptedOf files options accepted.now) →
         TakeTurns (T.leaves task.now files accepted.now.laid.tree.now) (C.options configurations.now) 0 (C.number configurations.now) (D.log device.old) (D.log device.new) result }
 {
     let mut status = Status::Done;
     for i in 0..configurations.count() {
-        let turn = take_turn(alloc, configurations, i, task, accepted, device);
+        let turn = take_turn(alloc, configurations, i, task, accepted, device, again);
         status = greater(status, turn.status);
         if turn.is_over {
             return status;
@@ -161,16 +173,59 @@ pub(crate) fn all_turns<C: Configurations, T: Task, D: Device>(
     task: &T,
     accepted: &OrderedTree<'_>,
     device: &mut D,
+    again: &mut Again,
 ) -> Result<Status, Stop<'static>>
-    requires { T.is_ready task.now accepted.now }
+    requires again { IsAgainOf accepted.now.laid again.old }
+    requires ready { T.is_ready task.now accepted.now }
     ensures { (files : Files) (root : List ℕ) (keeps : Bool) → IsOrderedOf files root keeps accepted.now → KeepsFor (C.options configurations.now) keeps →
         AreRootedAt root (C.options configurations.now) →
         EndsEach (T.leaves task.now files) files root (C.options configurations.now) (C.number configurations.now) result (D.log device.old) (D.log device.new) }
 {
     match say_lines(alloc, device, accepted.laid.tree.parse_warnings()) {
-        Ok(()) => Ok(take_turns(alloc, configurations, task, accepted, device)),
+        Ok(()) => Ok(take_turns(alloc, configurations, task, accepted, device, again)),
         Err(stop) => Err(stop),
     }
+}
+
+// For so few configurations nothing is kept of a solution: what the nodes need would take more steps than it saves.
+const FEW_CONFIGURATIONS: usize = 8;
+
+// What is kept from one configuration to the next, if there are so many that it saves steps.
+fn kept_between(
+    alloc: Global,
+    accepted: &OrderedTree<'_>,
+    count: usize,
+) -> Result<Again, AllocError>
+    ensures { IfOk result (IsAgainOf accepted.now.laid) }
+{
+    if count > FEW_CONFIGURATIONS {
+        Again::of(alloc, &accepted.laid)
+    } else {
+        Ok(Again::never())
+    }
+}
+
+// Runs over an accepted tree, for each configuration.
+fn turns<C: Configurations, D: Device>(
+    alloc: Global,
+    configurations: &C,
+    accepted: &OrderedTree<'_>,
+    device: &mut D,
+) -> Result<Status, Stop<'static>>
+    requires { IsReady accepted.now }
+    ensures { (files : Files) (root : List ℕ) (keeps : Bool) → IsOrderedOf files root keeps accepted.now → KeepsFor (C.options configurations.now) keeps →
+        AreRootedAt root (C.options configurations.now) →
+        EndsEach (RunsTurn files) files root (C.options configurations.now) (C.number configurations.now) result (D.log device.old) (D.log device.new) }
+{
+    let mut again = kept_between(alloc, accepted, configurations.count())?;
+    all_turns(
+        alloc,
+        configurations,
+        &Running,
+        accepted,
+        device,
+        &mut again,
+    )
 }
 
 // Runs over the files, without reporting why it stopped early.
@@ -194,7 +249,7 @@ fn run_each_over<C: Configurations, D: Device>(
         Ok(accepted) => accepted,
         Err(refusal) => return refuse(&refusal, device),
     };
-    let ended = all_turns(alloc, configurations, &Running, &accepted, device);
+    let ended = turns(alloc, configurations, &accepted, device);
     let order = accepted.order;
     *kept = Some(AcceptedTree { reading, order });
     ended

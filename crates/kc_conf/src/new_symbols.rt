@@ -19,7 +19,7 @@ use std::alloc::{AllocError, Global};
 
 // Adds the symbol's line of the list of new symbols and an empty line.
 fn add_line_and_gap(
-    solved: &Solved<'_>,
+    solved: &Solved<'_, '_>,
     prefix: &Prefix,
     id: SymId,
     text: &mut Vec<u8>,
@@ -35,7 +35,7 @@ fn add_line_and_gap(
 fn add_new_with_help<'n>(
     reader: &mut DefinitionReader<'_, 'n>,
     layout: &'n Layout,
-    solved: &Solved<'_>,
+    solved: &Solved<'_, '_>,
     prefix: &Prefix,
     id: SymId,
     text: &mut Vec<u8>,
@@ -59,7 +59,7 @@ pub(crate) fn new_text_with_help(
     alloc: Global,
     files: &FileMap,
     layout: &Layout,
-    solved: &Solved<'_>,
+    solved: &Solved<'_, '_>,
     prefix: &Prefix,
 ) -> Result<Vec<u8>, AllocError>
     ensures { IfOk result (λ t. t.items ≡ new_text_with_help (files_in files.now) (lines_in layout.now.entries) solved.now.tree prefix.now (solution_view solved.now)) }

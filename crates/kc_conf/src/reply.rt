@@ -201,7 +201,7 @@ fn impossible(
 }
 
 // Whether a fix counts: where no value may be lost, it loses none.
-fn counts(question: &Question<'_, '_, '_, '_>, fix: &Fix<'_, '_>) -> bool
+fn counts(question: &Question<'_, '_, '_, '_>, fix: &Fix<'_, '_, '_>) -> bool
     requires question { IsQuestion question.now }
     requires fix { IsWith question.now fix.now }
     ensures { result ≡ (not question.now.is_strict || spec.loses_nothing question.now.laid.now.tree.now question.now.prefix.now question.now.input.now question.now.before.now

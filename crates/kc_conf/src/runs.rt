@@ -5,6 +5,7 @@ ghost use Rattle.kc_language.specs.Expansion.{Files};
 ghost use Rattle.kc_language.specs.Symbols.{TreeFacts};
 ghost use Rattle.kc_io.specs.Delivered.{text_view};
 ghost use Rattle.kc_io.specs.Log.{Leads, Log};
+ghost use Rattle.kc_solve.specs.Again.{IsAgainOf};
 ghost use Rattle.kc_conf.specs.Accepted.{IsReady};
 ghost use Rattle.kc_outcome.specs.Outcome.{IsOutcome, Options, fresh_input, lead, lines_text};
 ghost use Rattle.kc_conf.specs.PartsOfOutcome.{names_if, strict_line, too_long_line};
@@ -30,6 +31,7 @@ use kc_options::{Delivery, Options, Output, Status, holds_warnings, lead, wants,
 use kc_read::file_map::FileMap;
 use kc_read::laws::opened_are_one_list;
 use kc_read::refusal::Refusal;
+use kc_solve::again::Again;
 use kc_tree::tree::Tree;
 use std::alloc::{AllocError, Global};
 
@@ -223,11 +225,14 @@ fn run_inputs<'o, D: Device>(
     accepted: &OrderedTree<'_>,
     names: &Option<Names>,
     device: &mut D,
+    again: &mut Again,
 ) -> Result<Status, Stop<'o>>
     requires ready { IsReady accepted.now }
+    requires again { IsAgainOf accepted.now.laid again.old }
     requires names { names.now ≡ names_if options.now accepted.now.opened.now }
     requires taken { refused_name_of options.now accepted.now.opened.now accepted.now.laid.tree.now ≡ None }
-    ensures { (files : Files) (before : TreeFacts → List ℕ) (told : List ℕ) (start : Log) → TellsRest files options.now accepted.now before told →
+    ensures again { IsAgainOf accepted.now.laid again.new }
+    ensures leaves { (files : Files) (before : TreeFacts → List ℕ) (told : List ℕ) (start : Log) → TellsRest files options.now accepted.now before told →
         Leads [] (before accepted.now.laid.tree.now) start (D.log device.old) →
         Leaves files options.now before (IsLeft files options.now accepted.now.laid.tree.now told) result start (D.log device.new) }
 {
@@ -252,7 +257,15 @@ fn run_inputs<'o, D: Device>(
     if let Some(long) = long {
         return finish_long(&waiting.text, long, device);
     }
-    let texts = compute(alloc, options, accepted, names, &user, &mut waiting.text)?;
+    let texts = compute(
+        alloc,
+        options,
+        accepted,
+        names,
+        &user,
+        &mut waiting.text,
+        again,
+    )?;
     finish(options, &waiting.text, texts, device)
 }
 
@@ -265,9 +278,12 @@ pub(crate) fn run_accepted<'o, D: Device>(
     accepted: &OrderedTree<'_>,
     warnings: &[Vec<u8>],
     device: &mut D,
+    again: &mut Again,
 ) -> Result<Status, Stop<'o>>
-    requires { IsReady accepted.now }
-    ensures { (files : Files) (before : TreeFacts → List ℕ) (told : List ℕ) → TellsRest files options.now accepted.now before told →
+    requires ready { IsReady accepted.now }
+    requires again { IsAgainOf accepted.now.laid again.old }
+    ensures again { IsAgainOf accepted.now.laid again.new }
+    ensures leaves { (files : Files) (before : TreeFacts → List ℕ) (told : List ℕ) → TellsRest files options.now accepted.now before told →
         before accepted.now.laid.tree.now ≡ lines_text (map (λ line. line.items) warnings.now) →
         Leaves files options.now before (IsLeft files options.now accepted.now.laid.tree.now told) result (D.log device.old) (D.log device.new) }
 {
@@ -279,7 +295,7 @@ pub(crate) fn run_accepted<'o, D: Device>(
         return refuse_name(options, &name, device);
     }
     match say_lines(alloc, device, warnings) {
-        Ok(()) => run_inputs(alloc, options, accepted, &names, device),
+        Ok(()) => run_inputs(alloc, options, accepted, &names, device, again),
         Err(stop) => Err(stop),
     }
 }
@@ -310,7 +326,14 @@ fn run_over<'o, D: Device>(
         Err(refusal) => return refuse(&refusal, device),
     };
     let warnings = accepted.laid.tree.parse_warnings();
-    let ended = run_accepted(alloc, options, &accepted, warnings, device);
+    let ended = run_accepted(
+        alloc,
+        options,
+        &accepted,
+        warnings,
+        device,
+        &mut Again::never(),
+    );
     let order = accepted.order;
     *kept = Some(AcceptedTree { reading, order });
     ended

@@ -26,7 +26,7 @@ use std::alloc::{AllocError, Global};
 // What a `.config` is written from: a solution, the table of its values, and the prefix of each name.
 #[derive(Clone, Copy)]
 struct Source<'w> {
-    solved: &'w Solved<'w>,
+    solved: &'w Solved<'w, 'w>,
     table: &'w Table<'w>,
     prefix: &'w Prefix,
 }
@@ -86,7 +86,7 @@ fn shown_title<'w>(source: &Source<'w>, menu: EntryId) -> Option<&'w [u8]>
 // Adds the symbol's line if it is written, with an empty line before it if the last line is an end line. Returns
 // whether the last line is an end line now.
 fn add_symbol_if(
-    solved: &Solved<'_>,
+    solved: &Solved<'_, '_>,
     prefix: &Prefix,
     id: SymId,
     after_end: bool,
@@ -214,7 +214,7 @@ fn add_heading(title: &[u8], file: &mut Vec<u8>) -> Result<(), AllocError>
 /// Fails only if there is not enough memory.
 pub fn config_text(
     alloc: Global,
-    solved: &Solved<'_>,
+    solved: &Solved<'_, '_>,
     prefix: &Prefix,
 ) -> Result<Vec<u8>, AllocError>
     ensures { IfOk result (λ text. text.items ≡ config_text solved.now.tree prefix.now (solution_view solved.now)) }

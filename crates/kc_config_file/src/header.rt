@@ -14,7 +14,7 @@ use std::alloc::{AllocError, Global};
 
 // Adds the symbol's header line if it is written.
 fn add_header_if(
-    solved: &Solved<'_>,
+    solved: &Solved<'_, '_>,
     prefix: &Prefix,
     id: SymId,
     file: &mut Vec<u8>,
@@ -35,7 +35,7 @@ fn add_header_if(
 
 // Adds the symbol's line if it differs.
 fn add_minimal_if(
-    solved: &Solved<'_>,
+    solved: &Solved<'_, '_>,
     prefix: &Prefix,
     id: SymId,
     file: &mut Vec<u8>,
@@ -58,7 +58,7 @@ fn add_minimal_if(
 
 /// Adds the symbol's line of the list of new symbols. Fails only if there is not enough memory.
 pub fn add_new_line(
-    solved: &Solved<'_>,
+    solved: &Solved<'_, '_>,
     prefix: &Prefix,
     id: SymId,
     text: &mut Vec<u8>,
@@ -76,7 +76,7 @@ pub fn add_new_line(
 
 // Adds the symbol's line if it is new.
 fn add_new_if(
-    solved: &Solved<'_>,
+    solved: &Solved<'_, '_>,
     prefix: &Prefix,
     id: SymId,
     file: &mut Vec<u8>,
@@ -93,7 +93,7 @@ fn add_new_if(
 
 // Adds the header lines of the written symbols.
 fn add_header_lines(
-    solved: &Solved<'_>,
+    solved: &Solved<'_, '_>,
     prefix: &Prefix,
     file: &mut Vec<u8>,
 ) -> Result<(), AllocError>
@@ -126,7 +126,7 @@ fn add_heading(title: &[u8], file: &mut Vec<u8>) -> Result<(), AllocError>
 /// Fails only if there is not enough memory.
 pub fn header_text(
     alloc: Global,
-    solved: &Solved<'_>,
+    solved: &Solved<'_, '_>,
     prefix: &Prefix,
 ) -> Result<Vec<u8>, AllocError>
     ensures { IfOk result (λ text. text.items ≡ header_text solved.now.tree prefix.now (solution_view solved.now)) }
@@ -143,7 +143,7 @@ pub fn header_text(
 /// Fails only if there is not enough memory, and never if the file has no line.
 pub fn minimal_text(
     alloc: Global,
-    solved: &Solved<'_>,
+    solved: &Solved<'_, '_>,
     prefix: &Prefix,
 ) -> Result<Vec<u8>, AllocError>
     ensures text { IfOk result (λ text. text.items ≡ minimal_text solved.now.tree prefix.now (solution_view solved.now)) }
@@ -163,7 +163,7 @@ pub fn minimal_text(
 /// Fails only if there is not enough memory.
 pub fn list_of_new(
     alloc: Global,
-    solved: &Solved<'_>,
+    solved: &Solved<'_, '_>,
     prefix: &Prefix,
 ) -> Result<Vec<u8>, AllocError>
     ensures { IfOk result (λ text. text.items ≡ new_text solved.now.tree prefix.now (solution_view solved.now)) }

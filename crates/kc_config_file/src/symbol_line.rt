@@ -22,7 +22,7 @@ pub(crate) enum WrittenValue<'a> {
 
 /// The value of a symbol in the solution; for an undefined name, its own text. Reads only what the type has.
 #[inline(always)]
-pub(crate) fn symbol_value<'a>(solved: &'a Solved<'_>, id: SymId) -> WrittenValue<'a>
+pub(crate) fn symbol_value<'a>(solved: &'a Solved<'_, '_>, id: SymId) -> WrittenValue<'a>
     ensures { value_view result ≡ (solution_view solved.now).value id }
 {
     solved.tells_known();

@@ -91,7 +91,7 @@ fn shown_by<'a>(symbol_type: SymbolType, tri: Tri, text: &'a [u8]) -> ShownValue
 }
 
 // A symbol's value.
-fn shown_value<'a>(solved: &'a Solved<'_>, id: SymId) -> ShownValue<'a>
+fn shown_value<'a>(solved: &'a Solved<'_, '_>, id: SymId) -> ShownValue<'a>
     ensures { given_by result ≡ given_of (known solved.now id) }
 {
     solved.tells_known();
@@ -412,7 +412,7 @@ fn holds_text(symbol_type: SymbolType) -> bool
 }
 
 // The text of a default that is one operand.
-fn text_of<'a>(solved: &'a Solved<'_>, e: &'a Expr) -> &'a [u8]
+fn text_of<'a>(solved: &'a Solved<'_, '_>, e: &'a Expr) -> &'a [u8]
     ensures { result.now ≡ values.single_text (known solved.now) (form_of e.now) }
 {
     solved.tells_known();
@@ -420,7 +420,7 @@ fn text_of<'a>(solved: &'a Solved<'_>, e: &'a Expr) -> &'a [u8]
 }
 
 // The truth value of a default.
-fn truth_of_form(solved: &Solved<'_>, e: &Expr) -> Tri
+fn truth_of_form(solved: &Solved<'_, '_>, e: &Expr) -> Tri
     ensures { result ≡ expressions.value (known solved.now) solved.now.tree.modules (form_of e.now) }
 {
     solved.tells_known();
@@ -428,7 +428,11 @@ fn truth_of_form(solved: &Solved<'_>, e: &Expr) -> Tri
 }
 
 // What a default gives a symbol of this type.
-fn default_given<'a>(solved: &'a Solved<'_>, symbol_type: SymbolType, e: &'a Expr) -> ShownValue<'a>
+fn default_given<'a>(
+    solved: &'a Solved<'_, '_>,
+    symbol_type: SymbolType,
+    e: &'a Expr,
+) -> ShownValue<'a>
     ensures { given_by result ≡ rules.default_given solved.now.tree (known solved.now) symbol_type (form_of e.now) }
 {
     if holds_text(symbol_type) {
@@ -501,7 +505,7 @@ fn add_range(
 }
 
 // The value of a bound.
-fn bound_value<'a>(solved: &'a Solved<'_>, o: &'a Operand) -> &'a [u8]
+fn bound_value<'a>(solved: &'a Solved<'_, '_>, o: &'a Operand) -> &'a [u8]
     ensures { result.now ≡ expressions.text (known solved.now) (leaf_of o.now) }
 {
     solved.tells_known();

@@ -46,14 +46,14 @@ fn is_y(value: Tri) -> bool
 }
 
 // Appends the symbols of an expression.
-fn add_form_names(solved: &Solved<'_>, e: &Expr, all: &mut Vec<SymId>) -> Result<(), AllocError>
+fn add_form_names(solved: &Solved<'_, '_>, e: &Expr, all: &mut Vec<SymId>) -> Result<(), AllocError>
     ensures { OnOk result (all.new.items ≡ all.old.items ++ symbols solved.now.tree.modules (form_of e.now)) }
 {
     symbols_into(e, solved.modules(), all)
 }
 
 // Appends the symbols of an expression below y.
-fn add_low_names(solved: &Solved<'_>, e: &Expr, all: &mut Vec<SymId>) -> Result<(), AllocError>
+fn add_low_names(solved: &Solved<'_, '_>, e: &Expr, all: &mut Vec<SymId>) -> Result<(), AllocError>
     ensures { OnOk result (all.new.items ≡ all.old.items ++ told.low_names solved.now (form_of e.now)) }
 {
     if is_y(expression_value(solved, e)) {
@@ -65,7 +65,7 @@ fn add_low_names(solved: &Solved<'_>, e: &Expr, all: &mut Vec<SymId>) -> Result<
 
 // Appends the symbols of a line's own condition, if it is below y.
 fn add_own_names(
-    solved: &Solved<'_>,
+    solved: &Solved<'_, '_>,
     when: Option<&Expr>,
     all: &mut Vec<SymId>,
 ) -> Result<(), AllocError>
@@ -79,7 +79,7 @@ fn add_own_names(
 
 // Appends the symbols of a part that is an expression below y.
 fn add_worth_names(
-    solved: &Solved<'_>,
+    solved: &Solved<'_, '_>,
     part: &ConditionPart<'_>,
     all: &mut Vec<SymId>,
 ) -> Result<(), AllocError>
@@ -93,7 +93,7 @@ fn add_worth_names(
 
 // Appends the symbols of all parts that are expressions below y.
 fn add_all_worth_names(
-    solved: &Solved<'_>,
+    solved: &Solved<'_, '_>,
     parts: &[ConditionPart<'_>],
     all: &mut Vec<SymId>,
 ) -> Result<(), AllocError>
@@ -111,7 +111,7 @@ fn add_all_worth_names(
 fn add_shown_worth(
     alloc: Global,
     layout: &Layout,
-    solved: &Solved<'_>,
+    solved: &Solved<'_, '_>,
     entry: EntryId,
     prompt: &PromptLine<'_>,
     all: &mut Vec<SymId>,
@@ -127,7 +127,7 @@ fn add_shown_worth(
 fn add_choice_names(
     alloc: Global,
     layout: &Layout,
-    solved: &Solved<'_>,
+    solved: &Solved<'_, '_>,
     entry: EntryId,
     all: &mut Vec<SymId>,
 ) -> Result<(), AllocError>
@@ -145,7 +145,7 @@ fn add_choice_names(
 fn add_mode_names(
     alloc: Global,
     layout: &Layout,
-    solved: &Solved<'_>,
+    solved: &Solved<'_, '_>,
     choice: usize,
     all: &mut Vec<SymId>,
 ) -> Result<(), AllocError>
@@ -182,7 +182,7 @@ fn add_part_names(
 
 // Appends what holds down a default, and the symbols of its value if it counts.
 fn add_default_names(
-    solved: &Solved<'_>,
+    solved: &Solved<'_, '_>,
     what: &SymbolDefault,
     counts: bool,
     all: &mut Vec<SymId>,
@@ -200,7 +200,7 @@ fn add_default_names(
 
 // Appends what holds down a range, and the symbols of its bounds if it counts.
 fn add_range_names(
-    solved: &Solved<'_>,
+    solved: &Solved<'_, '_>,
     what: &SymbolRange,
     counts: bool,
     all: &mut Vec<SymId>,

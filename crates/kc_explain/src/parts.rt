@@ -269,7 +269,7 @@ pub(crate) fn shown_parts<'a>(
 // ---- Values
 
 /// The value of an expression.
-pub(crate) fn expression_value(solved: &Solved<'_>, e: &Expr) -> Tri
+pub(crate) fn expression_value(solved: &Solved<'_, '_>, e: &Expr) -> Tri
     ensures { result ≡ view.asked_value solved.now (rules.Worth (form_of e.now)) }
 {
     solved.tells_known();
@@ -277,7 +277,7 @@ pub(crate) fn expression_value(solved: &Solved<'_>, e: &Expr) -> Tri
 }
 
 /// The value of a part of a condition.
-pub(crate) fn part_value(solved: &Solved<'_>, part: &ConditionPart<'_>) -> Tri
+pub(crate) fn part_value(solved: &Solved<'_, '_>, part: &ConditionPart<'_>) -> Tri
     ensures { result ≡ view.asked_value solved.now (view.asked_view part.now.asks) }
 {
     match part.asks {
@@ -287,7 +287,7 @@ pub(crate) fn part_value(solved: &Solved<'_>, part: &ConditionPart<'_>) -> Tri
 }
 
 /// The value of a condition with these parts: the least of their values.
-pub(crate) fn parts_value(solved: &Solved<'_>, parts: &[ConditionPart<'_>]) -> Tri
+pub(crate) fn parts_value(solved: &Solved<'_, '_>, parts: &[ConditionPart<'_>]) -> Tri
     ensures { result ≡ view.parts_value solved.now (map part_view parts.now) }
 {
     let mut least = Tri::Y;
@@ -299,7 +299,7 @@ pub(crate) fn parts_value(solved: &Solved<'_>, parts: &[ConditionPart<'_>]) -> T
 
 // The value of a line's own condition; y without one.
 #[tactic(auto, using(kc_values::proofs::TriLemmas::lesser_y))]
-fn when_value(solved: &Solved<'_>, when: Option<&Expr>) -> Tri
+fn when_value(solved: &Solved<'_, '_>, when: Option<&Expr>) -> Tri
     ensures { result ≡ view.when_value solved.now (option_map (λ e. form_of e.now) when.entry) }
 {
     match when {
@@ -309,14 +309,14 @@ fn when_value(solved: &Solved<'_>, when: Option<&Expr>) -> Tri
 }
 
 /// The value of a line with this condition, given the value of its entry's dependency.
-pub(crate) fn value_under(solved: &Solved<'_>, dependency: Tri, when: Option<&Expr>) -> Tri
+pub(crate) fn value_under(solved: &Solved<'_, '_>, dependency: Tri, when: Option<&Expr>) -> Tri
     ensures { result ≡ view.value_under solved.now dependency (option_map (λ e. form_of e.now) when.entry) }
 {
     lesser(dependency, when_value(solved, when))
 }
 
 // The least of what the `depends on` lines among these ask.
-fn own_least(solved: &Solved<'_>, attributes: &[AttributeLine]) -> Tri
+fn own_least(solved: &Solved<'_, '_>, attributes: &[AttributeLine]) -> Tri
     ensures { result ≡ and_value solved.now.tree (known solved.now) (filter_map line_rules.dependency_in (statements_of attributes.now)) }
 {
     let mut least = Tri::Y;

@@ -41,7 +41,7 @@ fn value_at(t: &Teller<'_, '_, '_>, entry: EntryId, last: EntryValue) -> EntryVa
 }
 
 /// The value of a symbol as a truth value.
-pub(crate) fn symbol_value(solved: &Solved<'_>, id: SymId) -> Tri
+pub(crate) fn symbol_value(solved: &Solved<'_, '_>, id: SymId) -> Tri
     ensures { result ≡ truth_of_value (known solved.now id) }
 {
     solved.tells_known();

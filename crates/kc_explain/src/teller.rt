@@ -13,7 +13,7 @@ use kc_tree::layout::Layout;
 #[derive(Drop)]
 pub struct Teller<'t, 's, 'i> {
     pub layout: &'t Layout,
-    pub solved: &'t Solved<'s>,
+    pub solved: &'t Solved<'s, 's>,
     pub input: &'t UserInput<'i>,
     pub is_raw: bool,
     ghost laid: { IsLayoutOf solved.now.tree layout.now } by { layout-prop solved.now.tree layout.now },
@@ -21,7 +21,7 @@ pub struct Teller<'t, 's, 'i> {
 
 impl<'t, 's, 'i> Teller<'t, 's, 'i> {
     /// Returns what the explanations of a solution are made from.
-    pub fn new(solved: &'t Solved<'s>, input: &'t UserInput<'i>, is_raw: bool) -> Self
+    pub fn new(solved: &'t Solved<'s, 's>, input: &'t UserInput<'i>, is_raw: bool) -> Self
         ensures solved { result.solved.now ≡ solved.now }
         ensures input { result.input.now ≡ input.now }
         ensures is_raw { result.is_raw ≡ is_raw }

@@ -27,7 +27,7 @@ const MANY_CHANGES: usize = 100;
 // The value that the fix gives a symbol.
 fn own_value<'f>(
     question: &Question<'_, '_, '_, '_>,
-    fix: &Fix<'f, '_>,
+    fix: &Fix<'f, '_, '_>,
     id: SymId,
 ) -> Option<&'f UserValue>
     requires { IsWith question.now fix.now }
@@ -39,7 +39,7 @@ fn own_value<'f>(
 // Whether the symbol had this value of the user, and has it no more.
 fn is_loss(
     question: &Question<'_, '_, '_, '_>,
-    fix: &Fix<'_, '_>,
+    fix: &Fix<'_, '_, '_>,
     id: SymId,
     old: &UserValue,
 ) -> bool
@@ -49,7 +49,7 @@ fn is_loss(
 }
 
 // Whether the symbol had the user's value, and has it no more.
-fn is_gone(question: &Question<'_, '_, '_, '_>, fix: &Fix<'_, '_>, id: SymId) -> bool
+fn is_gone(question: &Question<'_, '_, '_, '_>, fix: &Fix<'_, '_, '_>, id: SymId) -> bool
     ensures { result ≡ spec.is_gone question.now fix.now id }
 {
     match user_value(question.input.user(), id) {
@@ -59,7 +59,7 @@ fn is_gone(question: &Question<'_, '_, '_, '_>, fix: &Fix<'_, '_>, id: SymId) ->
 }
 
 /// Whether the user's value of a symbol is lost, and the fix does not override it.
-pub(crate) fn is_lost(question: &Question<'_, '_, '_, '_>, fix: &Fix<'_, '_>, id: SymId) -> bool
+pub(crate) fn is_lost(question: &Question<'_, '_, '_, '_>, fix: &Fix<'_, '_, '_>, id: SymId) -> bool
     requires { IsWith question.now fix.now }
     ensures { result ≡ spec.is_lost question.now fix.now id }
 {
@@ -70,7 +70,7 @@ pub(crate) fn is_lost(question: &Question<'_, '_, '_, '_>, fix: &Fix<'_, '_>, id
 }
 
 // Whether another value changes: the fix does not give it, and it is no lost value of the user.
-fn is_other(question: &Question<'_, '_, '_, '_>, fix: &Fix<'_, '_>, id: SymId) -> bool
+fn is_other(question: &Question<'_, '_, '_, '_>, fix: &Fix<'_, '_, '_>, id: SymId) -> bool
     requires { IsWith question.now fix.now }
     ensures { result ≡ spec.is_other question.now fix.now id }
 {
@@ -83,7 +83,7 @@ fn is_other(question: &Question<'_, '_, '_, '_>, fix: &Fix<'_, '_>, id: SymId) -
 }
 
 // How many other values change.
-fn count_others(question: &Question<'_, '_, '_, '_>, fix: &Fix<'_, '_>) -> usize
+fn count_others(question: &Question<'_, '_, '_, '_>, fix: &Fix<'_, '_, '_>) -> usize
     requires { IsWith question.now fix.now }
     ensures { result ≡ spec.other_count question.now fix.now question.now.laid.now.tree.now.defined }
 {
@@ -130,7 +130,7 @@ fn add_user_value(
 // Adds the line of a value of the user that is lost.
 fn add_loss(
     question: &Question<'_, '_, '_, '_>,
-    fix: &Fix<'_, '_>,
+    fix: &Fix<'_, '_, '_>,
     id: SymId,
     old: &UserValue,
     text: &mut Vec<u8>,
@@ -154,7 +154,7 @@ fn add_loss(
 // Adds the line of a value of the user that is overridden or lost.
 fn add_cost(
     question: &Question<'_, '_, '_, '_>,
-    fix: &Fix<'_, '_>,
+    fix: &Fix<'_, '_, '_>,
     id: SymId,
     text: &mut Vec<u8>,
 ) -> Result<(), AllocError>
@@ -174,7 +174,7 @@ fn add_cost(
 // Adds the lines of the values of the user that are overridden or lost.
 fn add_user_costs(
     question: &Question<'_, '_, '_, '_>,
-    fix: &Fix<'_, '_>,
+    fix: &Fix<'_, '_, '_>,
     text: &mut Vec<u8>,
 ) -> Result<(), AllocError>
     requires { IsWith question.now fix.now }
@@ -217,7 +217,7 @@ fn add_changes(count: usize, text: &mut Vec<u8>) -> Result<(), AllocError>
 /// Adds what a fix costs: how many other values change, and the values of the user that it overrides or loses.
 pub(crate) fn add_costs(
     question: &Question<'_, '_, '_, '_>,
-    fix: &Fix<'_, '_>,
+    fix: &Fix<'_, '_, '_>,
     text: &mut Vec<u8>,
 ) -> Result<(), AllocError>
     requires { IsWith question.now fix.now }

@@ -123,14 +123,14 @@ pub(crate) struct Outcome<'a> {
     /// What shall hold.
     pub goal: &'a Goal,
     /// The solution for the user's input.
-    pub before: &'a Solved<'a>,
+    pub before: &'a Solved<'a, 'a>,
     /// The solution with further lines.
-    pub now: &'a Solved<'a>,
+    pub now: &'a Solved<'a, 'a>,
 }
 
 impl<'a> Outcome<'a> {
     /// The outcome `now`, beside the question.
-    pub(crate) fn of(question: &Question<'a, 'a, 'a, 'a>, now: &'a Solved<'a>) -> Outcome<'a> {
+    pub(crate) fn of(question: &Question<'a, 'a, 'a, 'a>, now: &'a Solved<'a, 'a>) -> Outcome<'a> {
         Outcome {
             layout: question.laid.layout,
             possible: question.possible,

@@ -172,7 +172,7 @@ fn is_row_in_conflict(table: &Table<'_>, id: SymId, row: &Symbol) -> bool
 }
 
 // Whether a symbol is selected above its dependencies (K11).
-fn is_in_conflict(solved: &Solved<'_>, id: SymId) -> bool
+fn is_in_conflict(solved: &Solved<'_, '_>, id: SymId) -> bool
     ensures { result ≡ spec.is_in_conflict solved.now id }
 {
     let table = solved.table();
@@ -183,14 +183,14 @@ fn is_in_conflict(solved: &Solved<'_>, id: SymId) -> bool
 }
 
 // Whether a symbol is in conflict only if it was so before.
-fn is_no_new_conflict(before: &Solved<'_>, solved: &Solved<'_>, id: SymId) -> bool
+fn is_no_new_conflict(before: &Solved<'_, '_>, solved: &Solved<'_, '_>, id: SymId) -> bool
     ensures { result ≡ (spec.is_in_conflict before.now id || not (spec.is_in_conflict solved.now id)) }
 {
     is_in_conflict(before, id) || !is_in_conflict(solved, id)
 }
 
 // Whether each symbol that is in conflict was so before.
-fn adds_no_conflict(before: &Solved<'_>, solved: &Solved<'_>) -> bool
+fn adds_no_conflict(before: &Solved<'_, '_>, solved: &Solved<'_, '_>) -> bool
     ensures { result ≡ list_all (λ s. spec.is_in_conflict before.now s || not (spec.is_in_conflict solved.now s)) solved.now.tree.defined }
 {
     for id in solved.table().layout.defined() {
@@ -204,7 +204,7 @@ fn adds_no_conflict(before: &Solved<'_>, solved: &Solved<'_>) -> bool
 // ---- fixes
 
 // Whether the goal is reached.
-fn reaches(question: &Question<'_, '_, '_, '_>, solved: &Solved<'_>) -> bool
+fn reaches(question: &Question<'_, '_, '_, '_>, solved: &Solved<'_, '_>) -> bool
     ensures { result ≡ spec.reaches (goal_of question.now.goal.now) question.now.before.now solved.now }
 {
     has_value(solved, question.goal.symbol, &question.goal.value)
@@ -246,7 +246,7 @@ fn needs_each(
 }
 
 // Whether each symbol that the user gives a value has it.
-fn has_values(user: &User, solved: &Solved<'_>) -> bool
+fn has_values(user: &User, solved: &Solved<'_, '_>) -> bool
     ensures { result ≡ true → HasValues user.now solved.now }
 {
     for number in 0..user.symbols().len() {

@@ -373,7 +373,7 @@ fn plan_at(alloc: Global, prices: &Prices<'_>) -> Result<Option<Plan>, AllocErro
 pub(crate) fn cheapest(
     alloc: Global,
     question: &Question<'_, '_, '_, '_>,
-    now: &Solved<'_>,
+    now: &Solved<'_, '_>,
     penalties: &[Penalty],
 ) -> Result<Option<Plan>, AllocError>
     requires { IsQuestion question.now }
@@ -389,7 +389,7 @@ pub(crate) fn cheapest(
 pub(crate) fn has_failed(
     alloc: Global,
     question: &Question<'_, '_, '_, '_>,
-    now: &Solved<'_>,
+    now: &Solved<'_, '_>,
     step: Step,
 ) -> Result<bool, AllocError>
     requires { IsQuestion question.now }

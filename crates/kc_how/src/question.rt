@@ -24,7 +24,7 @@ pub struct Question<'q, 't, 'i, 's> {
     /// What the input files gave.
     pub input: &'q UserInput<'i>,
     /// The solution for it.
-    pub before: &'q Solved<'s>,
+    pub before: &'q Solved<'s, 's>,
     /// What shall hold.
     pub goal: &'q Goal,
     /// The number of fragments that may be tried.

@@ -19,7 +19,7 @@ const ONLY_SELECTED: u32 = 120;
 #[derive(Clone, Copy)]
 pub(crate) struct Trial<'r, 's> {
     pub lines: &'r [Line],
-    pub after: &'r Solved<'s>,
+    pub after: &'r Solved<'s, 's>,
 }
 
 // What becomes of a symbol.
@@ -63,7 +63,7 @@ fn own_change(old: ShownValue<'_>, new: ShownValue<'_>, is_asked: bool) -> Chang
 }
 
 // Whether the user's value of a symbol is that of the input, and no line gives it another one.
-fn has_own(question: &Question<'_, '_, '_, '_>, after: &Solved<'_>, id: SymId) -> bool {
+fn has_own(question: &Question<'_, '_, '_, '_>, after: &Solved<'_, '_>, id: SymId) -> bool {
     match (
         user_value(question.input.user(), id),
         user_value(after.user(), id),
@@ -97,7 +97,7 @@ fn is_member(layout: &Layout, id: SymId) -> bool {
 }
 
 // Whether the question of a symbol, which no line answers, is asked now and was not asked before.
-fn is_asked_anew(question: &Question<'_, '_, '_, '_>, after: &Solved<'_>, id: SymId) -> bool {
+fn is_asked_anew(question: &Question<'_, '_, '_, '_>, after: &Solved<'_, '_>, id: SymId) -> bool {
     after.visibility(id) != Tri::N
         && question.before.visibility(id) == Tri::N
         && user_value(after.user(), id).is_none()
@@ -124,7 +124,7 @@ fn has_prompt(layout: &Layout, id: SymId) -> bool {
 }
 
 // Whether the goal is only selected although it has a prompt.
-fn is_only_selected(question: &Question<'_, '_, '_, '_>, after: &Solved<'_>) -> bool {
+fn is_only_selected(question: &Question<'_, '_, '_, '_>, after: &Solved<'_, '_>) -> bool {
     let goal = question.goal.symbol;
     goal.0 < after.tree().name_count()
         && after.source(goal) == Source::Selected
@@ -167,7 +167,7 @@ pub(crate) fn is_taken(trial: Trial<'_, '_>) -> bool {
 }
 
 // Whether a value of the user is lost that was in force, and that no line overrides.
-fn is_lost(question: &Question<'_, '_, '_, '_>, after: &Solved<'_>, id: SymId) -> bool {
+fn is_lost(question: &Question<'_, '_, '_, '_>, after: &Solved<'_, '_>, id: SymId) -> bool {
     match user_value(question.input.user(), id) {
         Some(own) => {
             has_value(question.before, id, own)
@@ -179,7 +179,7 @@ fn is_lost(question: &Question<'_, '_, '_, '_>, after: &Solved<'_>, id: SymId) -
 }
 
 /// Whether the user loses a value.
-pub(crate) fn has_loss(question: &Question<'_, '_, '_, '_>, after: &Solved<'_>) -> bool {
+pub(crate) fn has_loss(question: &Question<'_, '_, '_, '_>, after: &Solved<'_, '_>) -> bool {
     for id in question.laid.layout.defined() {
         if is_lost(question, after, *id) {
             return true;

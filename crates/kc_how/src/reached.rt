@@ -28,7 +28,7 @@ fn conflict_of(warning: &Warning<Vec<u8>>) -> Option<Conflict<'_>> {
 }
 
 // Whether the symbol of this name is in conflict.
-fn is_in_conflict(solved: &Solved<'_>, name: &[u8]) -> bool {
+fn is_in_conflict(solved: &Solved<'_, '_>, name: &[u8]) -> bool {
     for warning in solved.value_warnings() {
         match conflict_of(warning) {
             Some(conflict) if conflict.name == name => return true,
@@ -39,7 +39,10 @@ fn is_in_conflict(solved: &Solved<'_>, name: &[u8]) -> bool {
 }
 
 // The conflict that a warning is about, if it was not there before.
-fn new_conflict<'a>(before: &Solved<'_>, warning: &'a Warning<Vec<u8>>) -> Option<Conflict<'a>> {
+fn new_conflict<'a>(
+    before: &Solved<'_, '_>,
+    warning: &'a Warning<Vec<u8>>,
+) -> Option<Conflict<'a>> {
     match conflict_of(warning) {
         Some(conflict) if !is_in_conflict(before, conflict.name) => Some(conflict),
         _ => None,
@@ -47,7 +50,7 @@ fn new_conflict<'a>(before: &Solved<'_>, warning: &'a Warning<Vec<u8>>) -> Optio
 }
 
 /// Whether the symbol of the goal has its value, and no symbol is in conflict that was not so before.
-pub(crate) fn is_reached(question: &Question<'_, '_, '_, '_>, now: &Solved<'_>) -> bool {
+pub(crate) fn is_reached(question: &Question<'_, '_, '_, '_>, now: &Solved<'_, '_>) -> bool {
     if !has_value(now, question.goal.symbol, &question.goal.value) {
         return false;
     }

@@ -36,7 +36,7 @@ fn shown_by<'a>(symbol_type: SymbolType, tri: Tri, text: &'a [u8]) -> ShownValue
 }
 
 /// The value of a symbol in a solution.
-pub(crate) fn shown_value<'a>(solved: &'a Solved<'_>, id: SymId) -> ShownValue<'a>
+pub(crate) fn shown_value<'a>(solved: &'a Solved<'_, '_>, id: SymId) -> ShownValue<'a>
     ensures { given_by result ≡ given_of (known solved.now id) }
 {
     solved.tells_known();
@@ -44,7 +44,7 @@ pub(crate) fn shown_value<'a>(solved: &'a Solved<'_>, id: SymId) -> ShownValue<'
 }
 
 /// Whether a symbol has this value in a solution.
-pub(crate) fn has_value(solved: &Solved<'_>, id: SymId, value: &UserValue) -> bool
+pub(crate) fn has_value(solved: &Solved<'_, '_>, id: SymId, value: &UserValue) -> bool
     ensures { result ≡ spec.has_value solved.now id (given_of_value value.now) }
 {
     is_same(shown_given(value), shown_value(solved, id))

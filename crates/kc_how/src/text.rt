@@ -21,13 +21,13 @@ use std::alloc::{AllocError, Global};
 
 /// A fix, for its text: its lines, what they give alone, and the solution with them.
 #[derive(Clone, Copy)]
-pub struct Fix<'f, 's> {
+pub struct Fix<'f, 't, 'u> {
     /// The lines.
     pub lines: &'f [Vec<u8>],
     /// What they give alone.
     pub alone: &'f User,
     /// The solution with them.
-    pub after: &'f Solved<'s>,
+    pub after: &'f Solved<'t, 'u>,
 }
 
 // Adds these lines.
@@ -62,7 +62,7 @@ fn add_already(question: &Question<'_, '_, '_, '_>, text: &mut Vec<u8>) -> Resul
 pub fn fix_text(
     alloc: Global,
     question: &Question<'_, '_, '_, '_>,
-    fix: &Fix<'_, '_>,
+    fix: &Fix<'_, '_, '_>,
 ) -> Result<Vec<u8>, AllocError>
     requires question { IsQuestion question.now }
     requires fix { IsWith question.now fix.now }
@@ -80,7 +80,7 @@ pub fn fix_text(
 }
 
 /// Whether a fix loses no value of the user but those that its lines override (our own).
-pub fn loses_nothing(question: &Question<'_, '_, '_, '_>, fix: &Fix<'_, '_>) -> bool
+pub fn loses_nothing(question: &Question<'_, '_, '_, '_>, fix: &Fix<'_, '_, '_>) -> bool
     requires question { IsQuestion question.now }
     requires fix { IsWith question.now fix.now }
     ensures { result ≡ spec.loses_nothing question.now.laid.now.tree.now question.now.prefix.now question.now.input.now question.now.before.now fix.now.after.now

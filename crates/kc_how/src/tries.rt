@@ -67,7 +67,7 @@ pub(crate) fn planned(
 fn failed_steps(
     alloc: Global,
     question: &Question<'_, '_, '_, '_>,
-    now: &Solved<'_>,
+    now: &Solved<'_, '_>,
     steps: &[Step],
 ) -> Result<Vec<Step>, AllocError>
     requires { IsQuestion question.now }

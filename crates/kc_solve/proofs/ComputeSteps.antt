@@ -16,18 +16,18 @@ use Rattle.kc_solve.specs.{Computing.{AreAmong, AreComputedValues, AreUnread, Is
 use Rattle.kc_solve.proofs.TableSteps.{row_count, untyped}
 
 -- a front of a list
-in_front : (xs : List ℕ) (k t : ℕ) → k ≤ length xs → Contains (take k xs) t → (i : ℕ) × (i < k) × (get_or xs i 0 ≡ t)
+pub in_front : (xs : List ℕ) (k t : ℕ) → k ≤ length xs → Contains (take k xs) t → (i : ℕ) × (i < k) × (get_or xs i 0 ≡ t)
 in_front xs k t l c =
     let i_lt : c.0 < k = omega (arith, c.1, length-take-le k xs l) in
     (c.0, i_lt, get_or_default xs c.0 0 t (omega arith) ∙ sym (get_or-take k xs c.0 t i_lt) ∙ c.2)
 
-front_has : (xs : List ℕ) (k i : ℕ) → i < k → k ≤ length xs → Contains (take k xs) (get_or xs i 0)
+pub front_has : (xs : List ℕ) (k i : ℕ) → i < k → k ≤ length xs → Contains (take k xs) (get_or xs i 0)
 front_has xs k i l b =
     let len = length-take-le k xs b in
     let c = Contains-get_or (take k xs) i 0 (omega (arith, len)) in
     subst (Contains (take k xs)) (get_or-take k xs i 0 l) c
 
-front_longer : (xs : List ℕ) (j k t : ℕ) → j ≤ k → k ≤ length xs → Contains (take j xs) t → Contains (take k xs) t
+pub front_longer : (xs : List ℕ) (j k t : ℕ) → j ≤ k → k ≤ length xs → Contains (take j xs) t → Contains (take k xs) t
 front_longer xs j k t l b c =
     let w = in_front xs j t (omega arith) c in
     subst (Contains (take k xs)) w.2 (front_has xs k w.0 (omega (arith, w.1)) b)
@@ -59,7 +59,7 @@ module _ (tree : TreeFacts) (l : Layout) (nodes : List ℕ) (order : IsNodeOrder
   differ : (i j : ℕ) → i < j → j < length nodes → get_or nodes i 0 ≢ get_or nodes j 0
   differ i j b c = eqb-false (get_or nodes i 0) (get_or nodes j 0) (apart_from_distinct eqb nodes i j 0 order.apart b c)
 
-  not_before : (k t : ℕ) → k < length nodes → Contains (take k nodes) t → get_or nodes k 0 ≡ t → ⊥
+  pub not_before : (k t : ℕ) → k < length nodes → Contains (take k nodes) t → get_or nodes k 0 ≡ t → ⊥
   not_before k t b c e =
       let w = in_front nodes k t (omega arith) c in
       differ w.0 k w.1 b (w.2 ∙ sym e)
@@ -80,13 +80,13 @@ module _ (tree : TreeFacts) (l : Layout) (nodes : List ℕ) (order : IsNodeOrder
       let first = order.names_first w.0 n s (omega (arith, w.1, b)) (subst (λ x. IsNode l x n) (sym w.2) is) below c there in
       not_before k s b (front_longer nodes w.0 k s (omega (arith, w.1)) (omega (arith, b)) first) here
 
-module _ (tree : TreeFacts) (l : Layout) (given : List (Option UserValue)) (chosen : List (Option SymId)) (nodes : List ℕ) (k : ℕ) (values : List (Option Value)) (slots : Slots)
-    (now : IsComputedTo tree l given chosen nodes k values slots) (b : k < length nodes) where
+module _ (tree : TreeFacts) (l : Layout) (given : List (Option UserValue)) (chosen : List (Option SymId)) (base : List (Option Value)) (nodes : List ℕ) (k : ℕ) (values : List (Option Value)) (slots : Slots)
+    (now : IsComputedTo tree l given chosen base nodes k values slots) (b : k < length nodes) where
   abbrev P : UserPlace → Option GivenValue
   P = places given chosen
 
   abbrev IsNext : List (Option Value) → Slots → Type 0
-  IsNext values' slots' = IsComputedTo tree l given chosen nodes (k + 1) values' slots'
+  IsNext values' slots' = IsComputedTo tree l given chosen base nodes (k + 1) values' slots'
 
   longer : (t : ℕ) → Contains (take k nodes) t → Contains (take (k + 1) nodes) t
   longer t c = front_longer nodes k (k + 1) t (omega arith) (omega (arith, b)) c
@@ -146,8 +146,8 @@ module _ (tree : TreeFacts) (l : Layout) (given : List (Option UserValue)) (chos
                   ap (λ n. known_in tree values' (symbol n)) (sym is) ∙ f.here
                   ∙ ap (λ n. equations tree P n (valuation tree values)) is ∙ same k s (omega arith) here (omega (arith, lt, count, full))
             ];
-        others_empty = λ s none.
-            f.others (symbol s) (λ e. none (here_now s (at ∙ sym e))) ∙ now.others_empty s (λ c. none (longer s c));
+        others_kept = λ s none.
+            f.others (symbol s) (λ e. none (here_now s (at ∙ sym e))) ∙ now.others_kept s (λ c. none (longer s c));
         contexts_among = λ i x some e. longer (context_number l i) (now.contexts_among i x some e);
         visibles_among = λ i x e. longer (visible_number l i) (now.visibles_among i x e);
         dependencies_among = λ i x e. longer (dependency_number l i) (now.dependencies_among i x e);
@@ -188,7 +188,7 @@ module _ (tree : TreeFacts) (l : Layout) (given : List (Option UserValue)) (chos
     dependency_count = now.dependency_count;
     choice_count = now.choice_count;
     symbols_are = symbols_stay (omega (arith, at));
-    others_empty = λ s none. now.others_empty s (λ c. none (longer s c));
+    others_kept = λ s none. now.others_kept s (λ c. none (longer s c));
     contexts_among = λ i x some e. longer (context_number l i) (now.contexts_among i x some e);
     visibles_among = λ i x e. among_more (visible_number l) slots.visibles new v at only i Always (λ j y _ f. now.visibles_among j y f) x tt e;
     dependencies_among = λ i x e. longer (dependency_number l i) (now.dependencies_among i x e);
@@ -206,7 +206,7 @@ module _ (tree : TreeFacts) (l : Layout) (given : List (Option UserValue)) (chos
     dependency_count = now.dependency_count;
     choice_count = now.choice_count;
     symbols_are = symbols_stay (omega (arith, at));
-    others_empty = λ s none. now.others_empty s (λ c. none (longer s c));
+    others_kept = λ s none. now.others_kept s (λ c. none (longer s c));
     contexts_among = λ j x some e. among_more (context_number l) slots.contexts new i at only j (λ n. 0 < n) now.contexts_among x some e;
     visibles_among = λ i x e. longer (visible_number l i) (now.visibles_among i x e);
     dependencies_among = λ i x e. longer (dependency_number l i) (now.dependencies_among i x e);
@@ -224,7 +224,7 @@ module _ (tree : TreeFacts) (l : Layout) (given : List (Option UserValue)) (chos
     dependency_count = only.count ∙ now.dependency_count;
     choice_count = now.choice_count;
     symbols_are = symbols_stay (omega (arith, at));
-    others_empty = λ s none. now.others_empty s (λ c. none (longer s c));
+    others_kept = λ s none. now.others_kept s (λ c. none (longer s c));
     contexts_among = λ i x some e. longer (context_number l i) (now.contexts_among i x some e);
     visibles_among = λ i x e. longer (visible_number l i) (now.visibles_among i x e);
     dependencies_among = λ j x e. among_more (dependency_number l) slots.dependencies new i at only j Always (λ n y _ f. now.dependencies_among n y f) x tt e;
@@ -243,7 +243,7 @@ module _ (tree : TreeFacts) (l : Layout) (given : List (Option UserValue)) (chos
     dependency_count = now.dependency_count;
     choice_count = only.count ∙ now.choice_count;
     symbols_are = symbols_stay (omega (arith, at));
-    others_empty = λ s none. now.others_empty s (λ m. none (longer s m));
+    others_kept = λ s none. now.others_kept s (λ m. none (longer s m));
     contexts_among = λ i x some e. longer (context_number l i) (now.contexts_among i x some e);
     visibles_among = λ i x e. longer (visible_number l i) (now.visibles_among i x e);
     dependencies_among = λ i x e. longer (dependency_number l i) (now.dependencies_among i x e);
@@ -269,25 +269,26 @@ empty_at {A} n i x e =
     let none = get_or-replicate {A = Option A} n i None None (omega (arith, l, len)) in
     cc
 
--- nothing is computed yet
-pub begins : (tree : TreeFacts) (l : Layout) (given : List (Option UserValue)) (chosen : List (Option SymId)) (nodes : List ℕ) → IsLayoutOf tree l → IsNodeOrder tree l nodes →
-    IsComputedTo tree l given chosen nodes 0 (replicate (length tree.symbols) None)
+-- nothing is computed yet, and the values are those at first
+pub begins : (tree : TreeFacts) (l : Layout) (given : List (Option UserValue)) (chosen : List (Option SymId)) (base : List (Option Value)) (nodes : List ℕ) (values : List (Option Value)) → IsLayoutOf tree l → IsNodeOrder tree l nodes →
+    length values ≡ length l.symbols.items → ((s : ℕ) → known_in tree values (symbol s) ≡ known_in tree base (symbol s)) →
+    IsComputedTo tree l given chosen base nodes 0 values
     (record {
       contexts = Some Y ∷ replicate (length l.places.items) None;
       visibles = replicate (suc (length l.visibles.items)) None;
       dependencies = replicate (length l.choices.items) None;
       selections = replicate (length l.choices.items) None;
     })
-begins tree l given chosen nodes laid order = record {
+begins tree l given chosen base nodes values laid order count same = record {
   laid = laid;
   order = order;
-  value_count = length-replicate _ None ∙ laid.symbol_count;
+  value_count = count;
   context_count = ap suc (length-replicate _ None);
   visible_count = length-replicate _ None;
   dependency_count = length-replicate _ None;
   choice_count = length-replicate _ None;
   symbols_are = λ s lt m. absurd (omega (arith, m.1));
-  others_empty = λ s none. nothing s;
+  others_kept = λ s none. same s;
   contexts_among = context_none;
   visibles_among = λ i x e. absurd (empty_at (suc (length l.visibles.items)) i x e);
   dependencies_among = λ i x e. absurd (empty_at (length l.choices.items) i x e);
@@ -299,22 +300,23 @@ begins tree l given chosen nodes laid order = record {
     context_none zero x some e = absurd (omega (arith, some))
     context_none (suc i) x some e = absurd (empty_at (length l.places.items) i x e)
 
-    empty_place : (s : ℕ) → slice_index_or (replicate {A = Option Value} (length tree.symbols) None) s None ≡ None
-    empty_place s =
+-- an empty place tells nothing
+pub nothing_known : (tree : TreeFacts) (s : ℕ) → known_in tree (replicate (length tree.symbols) None) (symbol s) ≡ known_in tree [] (symbol s)
+nothing_known tree s = ap (place_value (type_in (facts tree (symbol s))) (name tree (symbol s))) empty_place
+  where
+    empty_place : slice_index_or (replicate {A = Option Value} (length tree.symbols) None) s None ≡ None
+    empty_place =
         elim (cases_lt s (length tree.symbols)) [
           | inl l ↦ get_or-replicate {A = Option Value} (length tree.symbols) s None None l
           | inr past ↦ get_or_past (replicate {A = Option Value} (length tree.symbols) None) s None (omega (arith, past, length-replicate {A = Option Value} (length tree.symbols) None))
         ]
 
-    nothing : (s : ℕ) → known_in tree (replicate (length tree.symbols) None) (symbol s) ≡ known_in tree [] (symbol s)
-    nothing s = ap (place_value (type_in (facts tree (symbol s))) (name tree (symbol s))) (empty_place s)
-
 -- a symbol that is not defined has no type, and is worth its name
-module _ (tree : TreeFacts) (formed : IsWellFormed tree) (given : List (Option UserValue)) (chosen : List (Option SymId)) (V : ℕ → SymbolValue) (s : ℕ) where
+module _ (tree : TreeFacts) (formed : IsWellFormed tree) (P : UserPlace → Option GivenValue) (V : ℕ → SymbolValue) (s : ℕ) where
   worth_by : (f : SymbolFacts) (k : SymbolType) → f.symbol_type ≡ k → facts tree (symbol s) ≡ Some f → (Contains tree.defined (symbol s) → ⊥) →
-      known_in tree [] (symbol s) ≡ equations tree (places given chosen) s V
+      known_in tree [] (symbol s) ≡ equations tree P s V
   worth_by f Undefined e at none =
-      let user = places given chosen (user_place tree s) in
+      let user = P (user_place tree s) in
       let known = known_from tree V in
       ap (λ o. place_value (type_in o) (name tree (symbol s)) None) at
       ∙ untyped tree known (symbol s) f f.choice user e (λ c h. members_are_bools tree formed (symbol s) f c at h)
@@ -325,13 +327,18 @@ module _ (tree : TreeFacts) (formed : IsWellFormed tree) (given : List (Option U
   worth_by f Int e at none = absurd (none (formed.typed_defined (symbol s) f at (λ u. let no = sym e ∙ u in cc)))
   worth_by f Hex e at none = absurd (none (formed.typed_defined (symbol s) f at (λ u. let no = sym e ∙ u in cc)))
 
-  undefined_worth : s < name_count tree → (Contains tree.defined (symbol s) → ⊥) → known_in tree [] (symbol s) ≡ equations tree (places given chosen) s V
+  pub undefined_worth : s < name_count tree → (Contains tree.defined (symbol s) → ⊥) → known_in tree [] (symbol s) ≡ equations tree P s V
   undefined_worth lt none = let f = there_in tree.symbols s lt in worth_by f.0 f.0.symbol_type refl f.1 none
 
+-- each symbol that is not defined has at first the value of its equation, whatever the other values are
+abbrev pub AreUndefinedWorth : TreeFacts → (UserPlace → Option GivenValue) → List (Option Value) → Type 0
+AreUndefinedWorth tree P base = (s : ℕ) (V : ℕ → SymbolValue) → s < name_count tree → (Contains tree.defined (symbol s) → ⊥) → known_in tree base (symbol s) ≡ equations tree P s V
+
 -- after all nodes the equations hold
-pub solves : (tree : TreeFacts) (l : Layout) (given : List (Option UserValue)) (chosen : List (Option SymId)) (nodes : List ℕ) (values : List (Option Value)) (slots : Slots) → IsWellFormed tree →
-    length values ≡ name_count tree → IsComputedTo tree l given chosen nodes (length nodes) values slots → Solves (name_count tree) (equations tree (places given chosen)) (valuation tree values)
-solves tree l given chosen nodes values slots formed count done s lt = by (stands s nodes) refl
+pub solves : (tree : TreeFacts) (l : Layout) (given : List (Option UserValue)) (chosen : List (Option SymId)) (base : List (Option Value)) (nodes : List ℕ) (values : List (Option Value)) (slots : Slots) →
+    AreUndefinedWorth tree (places given chosen) base → length values ≡ name_count tree → IsComputedTo tree l given chosen base nodes (length nodes) values slots →
+    Solves (name_count tree) (equations tree (places given chosen)) (valuation tree values)
+solves tree l given chosen base nodes values slots undefined count done s lt = by (stands s nodes) refl
   where
     all : take (length nodes) nodes ≡ nodes
     all = take_all (length nodes) nodes (omega arith)
@@ -340,8 +347,8 @@ solves tree l given chosen nodes values slots formed count done s lt = by (stand
     by true e = done.symbols_are s (omega (arith, lt, count)) (subst (λ ns. Contains ns s) (sym all) (stands_in s nodes e))
     by false e =
         let none : Contains nodes s → ⊥ = λ c. true≢false (sym (in_stands s nodes c) ∙ e) in
-        done.others_empty s (λ c. none (subst (λ ns. Contains ns s) all c))
-        ∙ undefined_worth tree formed given chosen (valuation tree values) s lt (λ c. none (All-contains (λ (t : SymId). Contains nodes t.0) tree.defined (symbol s) done.order.defined_there c))
+        done.others_kept s (λ c. none (subst (λ ns. Contains ns s) all c))
+        ∙ undefined s (valuation tree values) lt (λ c. none (All-contains (λ (t : SymId). Contains nodes t.0) tree.defined (symbol s) done.order.defined_there c))
 
 -- What is computed stays right as a symbol that it does not name is computed.
 lesser_all : (t : Tri) → lesser t Y ≡ t
@@ -394,56 +401,57 @@ either_way (Ok x) P old put new done failed p q = subst P (sym done) p
 either_way (Err e) P old put new done failed p q = subst P (sym failed) q
 
 -- one more node of a table
-module _ (tree : TreeFacts) (given : List (Option UserValue)) (chosen : List (Option SymId)) (nodes : List ℕ) (k : ℕ) (old new : Table) (now : IsComputedTable tree given chosen nodes k old)
+module _ (tree : TreeFacts) (given : List (Option UserValue)) (chosen : List (Option SymId)) (base : List (Option Value)) (nodes : List ℕ) (k : ℕ) (old new : Table) (now : IsComputedTable tree given chosen base nodes k old)
     (b : k < length nodes) where
   abbrev IsNextOf : List (Option Value) → Slots → Type 0
-  IsNextOf values slots = IsComputedTo tree old.layout.now given chosen nodes (k + 1) values slots
+  IsNextOf values slots = IsComputedTo tree old.layout.now given chosen base nodes (k + 1) values slots
 
-  next_of : KeepsTree old new → (values : List (Option Value)) (slots : Slots) → new.values ≡ values → slots_of new ≡ slots → IsNextOf values slots → IsComputedTable tree given chosen nodes (k + 1) new
+  next_of : KeepsTree old new → (values : List (Option Value)) (slots : Slots) → new.values ≡ values → slots_of new ≡ slots → IsNextOf values slots → IsComputedTable tree given chosen base nodes (k + 1) new
   next_of keeps values slots v s next =
       let a = subst (λ x. IsNextOf x slots) (sym v) next in
       let c = subst (IsNextOf new.values) (sym s) a in
-      (ap (λ t. t.now) keeps.tree ∙ now.0, subst (λ l. IsComputedTo tree l.now given chosen nodes (k + 1) new.values (slots_of new)) (sym keeps.layout) c)
+      (ap (λ t. t.now) keeps.tree ∙ now.0, subst (λ l. IsComputedTo tree l.now given chosen base nodes (k + 1) new.values (slots_of new)) (sym keeps.layout) c)
 
-  pub symbol_next : (id : SymId) → get_or nodes k 0 ≡ id.0 → id.0 < name_count tree → length old.values ≡ name_count tree → IsComputedSymbol given chosen id old new → IsComputedTable tree given chosen nodes (k + 1) new
+  pub symbol_next : (id : SymId) → get_or nodes k 0 ≡ id.0 → id.0 < name_count tree → length old.values ≡ name_count tree → IsComputedSymbol given chosen id old new → IsComputedTable tree given chosen base nodes (k + 1) new
   symbol_next id at below full f =
       let l = old.layout.now in
-      let free = unread tree l given chosen nodes k old.values (slots_of old) now.1 b id.0 at below in
+      let free = unread tree l given chosen base nodes k old.values (slots_of old) now.1 b id.0 at below in
       let values = subst (λ u. AreComputedValues u given chosen id old.values new.values) now.0 f.values in
       next_of f.keeps new.values (slots_of old) refl
       (λ j. record { contexts = (f.contexts j).items; visibles = (f.visibles j).items; dependencies = (f.dependencies j).items; selections = (f.selections j).items })
-      (symbol_computed tree l given chosen nodes k old.values (slots_of old) now.1 b id new.values at below full free values)
+      (symbol_computed tree l given chosen base nodes k old.values (slots_of old) now.1 b id new.values at below full free values)
 
-  pub visible_next : (v : ℕ) → get_or nodes k 0 ≡ visible_number old.layout.now v → IsComputedVisible v old new → IsComputedTable tree given chosen nodes (k + 1) new
+  pub visible_next : (v : ℕ) → get_or nodes k 0 ≡ visible_number old.layout.now v → IsComputedVisible v old new → IsComputedTable tree given chosen base nodes (k + 1) new
   visible_next v at f =
       next_of f.keeps old.values (record (slots_of old) { visibles = new.visibles.items }) f.values
       (λ j. record { contexts = (f.contexts j).items; visibles = new.visibles.items; dependencies = (f.dependencies j).items; selections = (f.selections j).items })
-      (visible_computed tree old.layout.now given chosen nodes k old.values (slots_of old) now.1 b v new.visibles.items at f.visibles)
+      (visible_computed tree old.layout.now given chosen base nodes k old.values (slots_of old) now.1 b v new.visibles.items at f.visibles)
 
-  pub context_next : (i : ℕ) → get_or nodes k 0 ≡ context_number old.layout.now i → IsComputedContext i old new → IsComputedTable tree given chosen nodes (k + 1) new
+  pub context_next : (i : ℕ) → get_or nodes k 0 ≡ context_number old.layout.now i → IsComputedContext i old new → IsComputedTable tree given chosen base nodes (k + 1) new
   context_next i at f =
       next_of f.keeps old.values (record (slots_of old) { contexts = new.contexts.items }) f.values
       (λ j. record { contexts = new.contexts.items; visibles = (f.visibles j).items; dependencies = (f.dependencies j).items; selections = (f.selections j).items })
-      (context_computed tree old.layout.now given chosen nodes k old.values (slots_of old) now.1 b i new.contexts.items at f.contexts)
+      (context_computed tree old.layout.now given chosen base nodes k old.values (slots_of old) now.1 b i new.contexts.items at f.contexts)
 
-  pub dependency_next : (i : ℕ) → get_or nodes k 0 ≡ dependency_number old.layout.now i → IsComputedDependency i old new → IsComputedTable tree given chosen nodes (k + 1) new
+  pub dependency_next : (i : ℕ) → get_or nodes k 0 ≡ dependency_number old.layout.now i → IsComputedDependency i old new → IsComputedTable tree given chosen base nodes (k + 1) new
   dependency_next i at f =
       next_of f.keeps old.values (record (slots_of old) { dependencies = new.dependencies.items }) f.values
       (λ j. record { contexts = (f.contexts j).items; visibles = (f.visibles j).items; dependencies = new.dependencies.items; selections = (f.selections j).items })
-      (dependency_computed tree old.layout.now given chosen nodes k old.values (slots_of old) now.1 b i new.dependencies.items at f.dependencies)
+      (dependency_computed tree old.layout.now given chosen base nodes k old.values (slots_of old) now.1 b i new.dependencies.items at f.dependencies)
 
-  pub choice_next : (i : ℕ) → get_or nodes k 0 ≡ choice_number old.layout.now i → IsComputedSelection chosen i old new → IsComputedTable tree given chosen nodes (k + 1) new
+  pub choice_next : (i : ℕ) → get_or nodes k 0 ≡ choice_number old.layout.now i → IsComputedSelection chosen i old new → IsComputedTable tree given chosen base nodes (k + 1) new
   choice_next i at f =
       let here = subst (λ u. IsSelection u old.values new.selections.items i (slice_index_or chosen i None)) now.0 f.here in
       next_of f.keeps old.values (record (slots_of old) { selections = new.selections.items }) f.values
       (λ j. record { contexts = (f.contexts j).items; visibles = (f.visibles j).items; dependencies = (f.dependencies j).items; selections = new.selections.items })
-      (selection_computed tree old.layout.now given chosen nodes k old.values (slots_of old) now.1 b i new.selections.items at here f.selections)
+      (selection_computed tree old.layout.now given chosen base nodes k old.values (slots_of old) now.1 b i new.selections.items at here f.selections)
 
--- an empty table
-pub begins_at : (tree : TreeFacts) (l : Layout) (given : List (Option UserValue)) (chosen : List (Option SymId)) (nodes : List ℕ) (t : Table) → IsLayoutOf tree l → IsNodeOrder tree l nodes → t.tree.now ≡ tree → t.layout.now ≡ l →
-    t.values ≡ replicate (length tree.symbols) None → t.contexts.items ≡ Some Y ∷ replicate (length l.places.items) None → t.visibles.items ≡ replicate (suc (length l.visibles.items)) None →
-    t.dependencies.items ≡ replicate (length l.choices.items) None → t.selections.items ≡ replicate (length l.choices.items) None → IsComputedTable tree given chosen nodes 0 t
-begins_at tree l given chosen nodes t laid order same at v c w d s =
+-- a table in which nothing is computed yet
+pub begins_at : (tree : TreeFacts) (l : Layout) (given : List (Option UserValue)) (chosen : List (Option SymId)) (base : List (Option Value)) (nodes : List ℕ) (t : Table) → IsLayoutOf tree l → IsNodeOrder tree l nodes → t.tree.now ≡ tree → t.layout.now ≡ l →
+    length t.values ≡ length l.symbols.items → ((s : ℕ) → known_in tree t.values (symbol s) ≡ known_in tree base (symbol s)) →
+    t.contexts.items ≡ Some Y ∷ replicate (length l.places.items) None → t.visibles.items ≡ replicate (suc (length l.visibles.items)) None →
+    t.dependencies.items ≡ replicate (length l.choices.items) None → t.selections.items ≡ replicate (length l.choices.items) None → IsComputedTable tree given chosen base nodes 0 t
+begins_at tree l given chosen base nodes t laid order same at count v c w d s =
     let slots : slots_of t
     ≡ record {
       contexts = Some Y ∷ replicate (length l.places.items) None;
@@ -452,14 +460,14 @@ begins_at tree l given chosen nodes t laid order same at v c w d s =
       selections = replicate (length l.choices.items) None;
     } = λ j. record { contexts = c j; visibles = w j; dependencies = d j; selections = s j } in (
       same,
-      subst (λ m. IsComputedTo tree m given chosen nodes 0 t.values (slots_of t)) (sym at)
-          (subst (λ x. IsComputedTo tree l given chosen nodes 0 x (slots_of t)) (sym v)
-          (subst (λ x. IsComputedTo tree l given chosen nodes 0 (replicate (length tree.symbols) None) x) (sym slots) (begins tree l given chosen nodes laid order))),
+      subst (λ m. IsComputedTo tree m given chosen base nodes 0 t.values (slots_of t)) (sym at)
+          (subst (λ x. IsComputedTo tree l given chosen base nodes 0 t.values x) (sym slots) (begins tree l given chosen base nodes t.values laid order count v)),
     )
 
 -- a table after all nodes
-pub solves_at : (tree : TreeFacts) (given : List (Option UserValue)) (chosen : List (Option SymId)) (nodes : List ℕ) (t : Table) → IsComputedTable tree given chosen nodes (length nodes) t →
+pub solves_at : (tree : TreeFacts) (given : List (Option UserValue)) (chosen : List (Option SymId)) (base : List (Option Value)) (nodes : List ℕ) (t : Table) →
+    (IsWellFormed tree → AreUndefinedWorth tree (places given chosen) base) → IsComputedTable tree given chosen base nodes (length nodes) t →
     Solves (name_count tree) (equations tree (places given chosen)) (valuation tree t.values)
-solves_at tree given chosen nodes t done s lt =
+solves_at tree given chosen base nodes t undefined done s lt =
     ∥∥₁_elim t.formed (Coded-set symbol_value_code _ _) (λ formed.
-    solves tree t.layout.now given chosen nodes t.values (slots_of t) (subst IsWellFormed done.0 formed) (done.1.value_count ∙ row_count t ∙ ap name_count done.0) done.1 s lt)
+    solves tree t.layout.now given chosen base nodes t.values (slots_of t) (undefined (subst IsWellFormed done.0 formed)) (done.1.value_count ∙ row_count t ∙ ap name_count done.0) done.1 s lt)

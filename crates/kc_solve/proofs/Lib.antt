@@ -1,5 +1,6 @@
 pub mod TableSteps
 pub mod ComputeSteps
+pub mod AgainSteps
 pub mod GroupNames
 pub mod UserSteps
 pub mod WarningSteps

@@ -29,3 +29,9 @@ pub solves_as_shown : (tree : TreeFacts) (xs : List (Option UserValue)) (ms : Li
     ms ≡ u.choices → Solves (name_count tree) (equations tree (places xs ms)) V → Solves (name_count tree) (equations tree (place_at u)) V
 solves_as_shown tree xs ms u V e h solves s l =
     solves s l ∙ ap (λ p. rhs tree s p V) (places_same xs ms u (given_mapped xs ∙ e) h (user_place tree s))
+
+-- the same the other way
+pub solves_as_lists : (tree : TreeFacts) (xs : List (Option UserValue)) (ms : List (Option SymId)) (u : Places) (V : ℕ → SymbolValue) → map (option_map given_of_value) xs ≡ u.symbols →
+    ms ≡ u.choices → Solves (name_count tree) (equations tree (place_at u)) V → Solves (name_count tree) (equations tree (places xs ms)) V
+solves_as_lists tree xs ms u V e h solves s l =
+    solves s l ∙ sym (ap (λ p. rhs tree s p V) (places_same xs ms u (given_mapped xs ∙ e) h (user_place tree s)))

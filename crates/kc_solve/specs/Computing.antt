@@ -1,5 +1,5 @@
 -- For proofs: The table while it is computed, node by node.
-use Rattle.std.specs.{List.Contains, Prelude.{List, None, Option, Some, [], length, slice_index_or, suc, take, ℕ, ◌<◌, ◌≡◌, ◌≢◌}}
+use Rattle.std.specs.{List.Contains, Prelude.{List, None, Option, Some, length, slice_index_or, suc, take, ℕ, ◌<◌, ◌≡◌, ◌≢◌}}
 use Rattle.kc_language.specs.{Expressions.{SymbolValue, symbol}, Needs.{condition_names, names_of_choice}, Symbols.TreeFacts, Values.{GivenValue, Solves, UserPlace, choice_at, equations, name_count, rhs, selected, user_place}, declared.expressions.{SymId.SymId, SymbolType.SymbolType, Tri.Tri}}
 use Rattle.kc_expr.specs.Value.{value_by_type}
 use Rattle.kc_solve.specs.{Kept.valuation, Orders.{IsNodeOrder, own_condition, visible_condition}, PlaceLists.places}
@@ -112,8 +112,9 @@ AreAmong {A} number nodes slots = (i : ℕ) (x : A) → slice_index_or slots i N
 abbrev pub AreContextsAmong : Layout → List ℕ → List (Option Tri) → Type 0
 AreContextsAmong l nodes slots = (i : ℕ) (x : Tri) → 0 < i → slice_index_or slots i None ≡ Some x → Contains nodes (context_number l i)
 
--- after the first k nodes: each symbol among them has its value, and only nodes among them are computed
-pub record IsComputedTo (tree : TreeFacts) (l : Layout) (given : List (Option UserValue)) (chosen : List (Option SymId)) (nodes : List ℕ) (k : ℕ) (values : List (Option Value)) (slots : Slots) : Type 0 where
+-- after the first k nodes, from these values on: each symbol among them has its value, and only nodes among them are computed
+pub record IsComputedTo (tree : TreeFacts) (l : Layout) (given : List (Option UserValue)) (chosen : List (Option SymId)) (base : List (Option Value)) (nodes : List ℕ) (k : ℕ)
+    (values : List (Option Value)) (slots : Slots) : Type 0 where
   pub laid : IsLayoutOf tree l
   pub order : IsNodeOrder tree l nodes
   pub value_count : length values ≡ length l.symbols.items
@@ -122,16 +123,16 @@ pub record IsComputedTo (tree : TreeFacts) (l : Layout) (given : List (Option Us
   pub dependency_count : length slots.dependencies ≡ length l.choices.items
   pub choice_count : length slots.selections ≡ length l.choices.items
   pub symbols_are : (s : ℕ) → s < length values → Contains (take k nodes) s → known_in tree values (symbol s) ≡ equations tree (places given chosen) s (valuation tree values)
-  -- the others have no value yet
-  pub others_empty : (s : ℕ) → (Contains (take k nodes) s → ⊥) → known_in tree values (symbol s) ≡ known_in tree [] (symbol s)
+  -- the others have the value that they had at first
+  pub others_kept : (s : ℕ) → (Contains (take k nodes) s → ⊥) → known_in tree values (symbol s) ≡ known_in tree base (symbol s)
   pub contexts_among : AreContextsAmong l (take k nodes) slots.contexts
   pub visibles_among : AreAmong (visible_number l) (take k nodes) slots.visibles
   pub dependencies_among : AreAmong (dependency_number l) (take k nodes) slots.dependencies
   pub choices_among : AreAmong (choice_number l) (take k nodes) slots.selections
   pub selected_are : (c : ℕ) → IsSelection tree values slots.selections c (slice_index_or chosen c None)
 
-abbrev pub IsComputedTable : TreeFacts → List (Option UserValue) → List (Option SymId) → List ℕ → ℕ → Table → Type 0
-IsComputedTable tree given chosen nodes k t = (t.tree.now ≡ tree) × IsComputedTo tree t.layout.now given chosen nodes k t.values (slots_of t)
+abbrev pub IsComputedTable : TreeFacts → List (Option UserValue) → List (Option SymId) → List (Option Value) → List ℕ → ℕ → Table → Type 0
+IsComputedTable tree given chosen base nodes k t = (t.tree.now ≡ tree) × IsComputedTo tree t.layout.now given chosen base nodes k t.values (slots_of t)
 
 -- a full table that solves the equations for these user values, and selects for the members chosen
 pub record IsSolvedTable (tree : TreeFacts) (user : UserPlace → Option GivenValue) (chosen : List (Option SymId)) (t : Table) : Type 0 where

@@ -1,6 +1,6 @@
--- For proofs: The visibility of a symbol, whether it differs given the selections of the choices, and whether it is written.
-use Rattle.std.specs.{List.range_with_len, Prelude.{Bool, List, None, Option, Some, is_some, length, map, not, slice_index_or, ℕ, ◌&&◌, ◌≡◌}}
-use Rattle.kc_language.specs.{ConfigFile.{Places, place_at}, Expressions.{SymbolValue, symbol}, Symbols.{SymbolFacts, TreeFacts, is_symbol_of}, Values.{ChoicePlace, GivenValue, SymbolPlace, by_type, default_selection, differs, facts, is_chosen, is_new_by, known_from, name_count, selection, written}, declared.expressions.{SymId.SymId, Tri.Tri}}
+-- For proofs: The visibility of a symbol, whether it differs given the selections of the choices, whether it is written, and whether it is off.
+use Rattle.std.specs.{List.range_with_len, Prelude.{Bool, List, None, Option, Some, false, is_some, length, map, not, slice_index_or, ℕ, ◌&&◌, ◌≡◌}}
+use Rattle.kc_language.specs.{ConfigFile.{Places, place_at}, Expressions.{SymbolValue, symbol}, Symbols.{SymbolFacts, TreeFacts, is_symbol_of}, Values.{ChoicePlace, GivenValue, SymbolPlace, by_type, default_selection, differs, facts, is_chosen, is_n, is_new_by, known_from, name_count, selection, written}, declared.expressions.{SymId.SymId, SymbolType.{SymbolType, TheVariants.{Bool as IsBool, Tristate}}, Tri.Tri}}
 use Rattle.kc_tree.specs.declared.rows.Symbol.{Symbol}
 use Rattle.kc_values.specs.{AtTable.{has_other, is_visible, selected}, PartsOfValues.same_value, TableFacts.{facts_in, known_at}, declared.table.Table.Table}
 use Rattle.kc_solve.specs.{Answers.visibility_by, Kept.valuation}
@@ -47,3 +47,7 @@ selected_by_default t = map (default_selection t.tree.now (values_in t)) (range_
 -- whether each symbol differs
 abbrev pub differing_by : Table → Places → List Bool
 differing_by t user = map (differs t.tree.now (place_at user) (values_in t)) (range_with_len 0 (name_count t.tree.now))
+
+-- whether a symbol with this type and this truth value is a bool or tristate that is n
+abbrev pub is_off : SymbolType → Tri → Bool
+is_off kind = elim kind [ IsBool ↦ is_n | Tristate ↦ is_n | _ ↦ λ t. false ]

@@ -1,5 +1,6 @@
 pub mod PlaceLists
 pub mod Refused
+pub mod Renewing
 pub mod LoopFaults
 pub mod Flags
 pub mod FlagLists
@@ -12,3 +13,4 @@ pub mod Orders
 pub mod Busy
 pub mod Tables
 pub mod Sources
+pub mod Again

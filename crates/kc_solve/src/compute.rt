@@ -33,9 +33,9 @@ pub(crate) fn symbol_row(layout: &Layout, id: SymId) -> &Symbol
     }
 }
 
-// The value to store for a symbol: what its equation gives. A symbol without a type has its name as its value. An empty
-// place means the same, so nothing is stored for it.
-fn kept_value(
+/// The value to store for a symbol: what its equation gives. A symbol without a type has its name as its value. An empty
+/// place means the same, so nothing is stored for it.
+pub(crate) fn kept_value(
     alloc: Global,
     table: &Table<'_>,
     id: SymId,
@@ -76,8 +76,8 @@ fn compute_symbol(
     Ok(())
 }
 
-// Computes what the next menu asks of what is visible.
-fn compute_visible(table: &mut Table<'_>, id: VisibleId)
+/// Computes what the next menu asks of what is visible.
+pub(crate) fn compute_visible(table: &mut Table<'_>, id: VisibleId)
     requires { id.0 < length table.old.visibles.items }
     ensures { IsComputedVisible id.0 table.old table.new }
 {
@@ -85,8 +85,8 @@ fn compute_visible(table: &mut Table<'_>, id: VisibleId)
     table.visibles[id.0 as usize] = Some(value);
 }
 
-// Computes what the next entry depends on.
-fn compute_context(table: &mut Table<'_>, id: EntryId)
+/// Computes what the next entry depends on.
+pub(crate) fn compute_context(table: &mut Table<'_>, id: EntryId)
     requires { id.0 < length table.old.contexts.items }
     ensures { IsComputedContext id.0 table.old table.new }
 {
@@ -94,8 +94,8 @@ fn compute_context(table: &mut Table<'_>, id: EntryId)
     table.contexts[id.0 as usize] = Some(value);
 }
 
-// Computes what the next choice depends on itself.
-fn compute_dependency(table: &mut Table<'_>, id: ChoiceId)
+/// Computes what the next choice depends on itself.
+pub(crate) fn compute_dependency(table: &mut Table<'_>, id: ChoiceId)
     requires { id.0 < length table.old.dependencies.items }
     ensures { IsComputedDependency id.0 table.old table.new }
 {
@@ -103,8 +103,8 @@ fn compute_dependency(table: &mut Table<'_>, id: ChoiceId)
     table.dependencies[id.0 as usize] = Some(value);
 }
 
-// Computes what the next choice selects.
-fn compute_selection(table: &mut Table<'_>, id: ChoiceId, chosen: &[Option<SymId>])
+/// Computes what the next choice selects.
+pub(crate) fn compute_selection(table: &mut Table<'_>, id: ChoiceId, chosen: &[Option<SymId>])
     requires there { id.0 < length table.old.selections.items }
     requires chosen { id.0 < length chosen.now }
     ensures { IsComputedSelection chosen.now id.0 table.old table.new }

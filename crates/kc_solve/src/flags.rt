@@ -9,6 +9,7 @@ ghost use Rattle.kc_solve.specs.FlagLists.{AreSelectionsOf};
 ghost use Rattle.kc_language.specs.ConfigFile.{ArePlacesOf, place_at};
 ghost use Rattle.kc_user.specs.PartsOfConfigFile.{member_place};
 ghost use Rattle.kc_values.specs.AtTable as at;
+ghost use Rattle.kc_values.specs.Table.{tri_in, value_in};
 ghost use Rattle.kc_values.specs.TableFacts.{AreSelected, IsRowOf};
 ghost use Rattle.kc_values.specs.User.{given_in};
 ghost use Rattle.kc_diagnostics.specs.Warnings.{owned_warning};
@@ -16,7 +17,8 @@ ghost use Rattle.kc_values.specs.PartsOfTexts.{warnings_of_values as value_warni
 
 use crate::compute::symbol_row;
 use kc_diagnostics::Warning;
-use kc_expr::expression::SymId;
+use kc_expr::expression::{SymId, SymbolType, Tri};
+use kc_expr::values::Values;
 use kc_tree::rows::{ChoiceId, Symbol};
 use kc_tree::tree::Tree;
 use kc_user::user::User;
@@ -272,8 +274,18 @@ pub(crate) fn differing_of(
     Ok(differing)
 }
 
-/// Returns the warnings of the defined symbols under the values of a full table and the user values of that tree, in
-/// the order of first definitions.
+// Whether a symbol is a bool or tristate that is n.
+fn is_off(table: &Table<'_>, id: SymId, symbol: &Symbol) -> bool
+    ensures { result ≡ flag.is_off symbol.now.symbol_type (tri_in (value_in table.now.values id)) }
+{
+    match symbol.symbol_type {
+        SymbolType::Bool | SymbolType::Tristate => matches!(table.tri(id), Tri::N),
+        _ => false,
+    }
+}
+
+/// Returns the warnings of the defined symbols under the values of a full table that solves and the user values of that
+/// tree, in the order of first definitions. A bool or tristate that is n has none, because it is not selected.
 pub(crate) fn warnings_of(
     alloc: Global,
     table: &Table,
@@ -281,13 +293,16 @@ pub(crate) fn warnings_of(
 ) -> Result<Vec<Warning<Vec<u8>>>, AllocError>
     requires full { length table.now.values ≡ name_count table.now.tree.now }
     requires user { ArePlacesOf table.now.tree.now user.now }
+    requires solves { Solves (name_count table.now.tree.now) (equations table.now.tree.now (place_at user.now)) (flag.values_in table.now) }
     ensures { IfOk result (λ v. map owned_warning v.items ≡ value_warnings table.now.tree.now (place_at user.now) (flag.values_in table.now)) }
 {
     let mut warnings = Vec::new(alloc);
     for id in table.layout.defined() {
         let symbol = symbol_row(table.layout, *id);
-        let own = user.get(*id);
-        warnings_into(alloc, table, *id, symbol, own, &mut warnings)?;
+        if !is_off(table, *id, symbol) {
+            let own = user.get(*id);
+            warnings_into(alloc, table, *id, symbol, own, &mut warnings)?;
+        }
     }
     Ok(warnings)
 }

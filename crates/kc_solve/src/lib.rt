@@ -5,6 +5,7 @@
 //! - [`solve`]: the values, each computed once in that order.
 //! - [`Solved`]: the solution, and what follows from it: which symbols are written, which differ, and the warnings.
 
+pub mod again;
 mod compute;
 pub mod evaluation_order;
 mod flags;

@@ -35,15 +35,15 @@ use std::marker::Model;
 /// The one solution of a tree's equations for the user values, as returned by [`crate::solve::solve`], with the flags
 /// and warnings that follow from it. Its methods do not allocate.
 #[derive(Drop)]
-pub struct Solved<'a> {
-    pub(crate) table: Table<'a>,
-    pub(crate) user: &'a User,
+pub struct Solved<'t, 'u> {
+    pub(crate) table: Table<'t>,
+    pub(crate) user: &'u User,
     pub(crate) selections: ChoiceSelections,
     pub(crate) differing: Vec<bool>,
     pub(crate) warnings: Vec<Warning<Vec<u8>>>,
 }
 
-impl<'a> Model for Solved<'a> {
+impl<'t, 'u> Model for Solved<'t, 'u> {
     ghost use Rattle.std.specs.Prelude.{◌≡◌, map};
     ghost use Rattle.kc_diagnostics.specs.Warnings.{owned_warning};
     ghost use Rattle.kc_language.specs.Texts.{Solution};
@@ -60,16 +60,16 @@ impl<'a> Model for Solved<'a> {
         s.differing.items (map owned_warning s.warnings.items) };
 }
 
-impl<'a> Solved<'a> {
+impl<'t, 'u> Solved<'t, 'u> {
     /// The tree that this is a solution of.
-    pub fn tree(&self) -> &'a Tree
+    pub fn tree(&self) -> &'t Tree
         ensures { result.now ≡ self.now.tree }
     {
         self.table.tree
     }
 
     /// The user values that this is the solution for.
-    pub fn user(&self) -> &'a User
+    pub fn user(&self) -> &'u User
         ensures { result.now ≡ self.now.places }
     {
         self.user
@@ -116,7 +116,7 @@ impl<'a> Solved<'a> {
     }
 
     /// The table of the values, beside the layout of the tree: what the conditions of its entries are worth is asked of it (our own).
-    pub fn table(&self) -> &Table<'a>
+    pub fn table(&self) -> &Table<'t>
         ensures { IsTableOf self.now result.now }
     {
         &self.table
@@ -267,7 +267,7 @@ fn known_text<'t>(table: &'t Table, id: SymId) -> &'t [u8]
     }
 }
 
-impl<'a> Values for Solved<'a> {
+impl<'t, 'u> Values for Solved<'t, 'u> {
     ghost tri_of = { spec.tri_of };
 
     ghost text_of = { spec.text_of };

@@ -16,5 +16,5 @@ returns-in-Err-ordered g c =
 
 pub returns : goal.returns
 returns g c =
-    c.all_turns-ended.ensures (files_in c.args.files) c.args.root.now c.keeps_sources-keeps.result
+    c.turns-ended.ensures (files_in c.args.files) c.args.root.now c.keeps_sources-keeps.result
     (c.in-Ok-ordered.ensures.ordered (files_in c.args.files) c.args.root.now _ (rw c.as_bytes.ensures.value at c.in-Ok.ensures)) c.keeps_sources-keeps.ensures c.requires

@@ -20,4 +20,4 @@ pub returns : goal.returns
 returns g c =
     let of = c.in-Ok-ordered.ensures.ordered (files_in c.args.files) (root_file c.args.options.now) _ (rw (c.as_bytes.ensures.value, c.wants_sources.ensures) at c.in-Ok.ensures) in
     Leaves-weaker (left-all (files_in c.args.files) c.args.options.now c.in-Ok-ordered.accepted.laid.tree.now)
-    (c.run_accepted-ended.ensures (files_in c.args.files) said_of_tree [] (record { accepts = of; both = refl; lines = (c.in-Ok-ordered.accepted.laid.tree.now.warnings, refl) }) (sym (ap lines_text c.parse_warnings-warnings.ensures)))
+    (c.run_accepted-ended.ensures.leaves (files_in c.args.files) said_of_tree [] (record { accepts = of; both = refl; lines = (c.in-Ok-ordered.accepted.laid.tree.now.warnings, refl) }) (sym (ap lines_text c.parse_warnings-warnings.ensures)))

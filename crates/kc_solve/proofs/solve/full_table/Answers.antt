@@ -1,7 +1,6 @@
 use Rattle.std.proofs.Common.{List, ap, length, subst, sym, ℕ, ◌∙◌}
 use Rattle.kc_values.specs.TableFacts.{AreSelected}
 use Rattle.kc_solve.specs.{Kept.valuation, Orders.IsNodeOrder}
-use Rattle.kc_language.specs.ConfigFile.{place_at}
 use Rattle.kc_solve.proofs.UserSteps.{count_shown, solves_as_shown}
 use Rattle.kc_solve.proofs.solve.full_table.Goals as goal
 
@@ -15,8 +14,8 @@ compute-requires-clause-given c = count_shown c.symbols-given.result.now c.args.
 pub compute-requires-clause-chosen : goal.compute-requires-clause-chosen
 compute-requires-clause-chosen c = ap length c.choices-chosen.ensures ∙ c.requires.user.choices
 
-pub returns-clause-table : goal.returns-clause-table
-returns-clause-table c =
+pub returns : goal.returns
+returns c =
     let t = c.args.laid.now.tree.now in
     let is = c.in_ok-table.ensures in
     record {
@@ -25,10 +24,3 @@ returns-clause-table c =
       selected = subst (AreSelected c.in_ok-table.table) c.choices-chosen.ensures is.selected;
       solves = solves_as_shown t c.symbols-given.result.now c.choices-chosen.result.now c.args.user.now (valuation t c.in_ok-table.table.values) c.symbols-given.ensures c.choices-chosen.ensures is.solves;
     }
-
-pub returns-clause-only : goal.returns-clause-only
-returns-clause-only c =
-    let t = c.args.laid.now.tree.now in
-    let V = valuation t c.in_ok-table.table.values in
-    let solves = solves_as_shown t c.symbols-given.result.now c.choices-chosen.result.now c.args.user.now V c.symbols-given.ensures c.choices-chosen.ensures c.in_ok-table.ensures.solves in
-    c.accepted_have_one_solution.ensures.agree t (place_at c.args.user.now) c.requires.order.accepted V solves

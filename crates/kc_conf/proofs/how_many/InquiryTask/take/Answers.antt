@@ -6,8 +6,8 @@ use Rattle.kc_conf.proofs.PartLemmas.{AreLines-nothing}
 use Rattle.kc_conf.proofs.HowLemmas.{HowTurn-answered}
 use Rattle.kc_conf.proofs.how_many.InquiryTask.take.Goals as goal
 
-pub returns : goal.returns
-returns g c = λ files of.
+pub returns-clause-leaves : goal.returns-clause-leaves
+returns-clause-leaves g c = λ files of.
     let told = lines_text c.args.accepted.now.laid.tree.now.warnings in
     HowTurn-answered files c.args.accepted.now.laid.tree.now c.args.options.now c.args.self.now.asked.now c.how_accepted-ended.result c.answer.result.status c.answer.result.is_over
     (g.D.Device.log c.args.device.now) (g.D.Device.log c.how_accepted-ended.new.device) (g.D.Device.log c.answer.new.device)
