@@ -1,10 +1,11 @@
 #!/usr/bin/env python3
 """Compares `kconf --each` with the runs that it stands for: each.py [TREES]
 
-For each of TREES generated trees (200 if not given) there are six configurations: random lines of the tree's dot.config, and
-among them names that nobody defines, values that are not allowed, a line that is too long (E17), a file that is missing (E18)
-and a folder that is missing for an output (E19). Each configuration is run alone, and then all are run by `--each`, in another
-order too.
+For each of TREES generated trees (200 if not given) there are twelve configurations: random lines of the tree's dot.config, or
+an earlier configuration with up to three lines fewer or more; and among them names that nobody defines, values that are not
+allowed, a line that is too long (E17), a file that is missing (E18) and a folder that is missing for an output (E19). Each
+configuration is run alone, and then all are run by `--each`, in another order too. From nine configurations on, kconf keeps of
+each solution what the next one needs.
 
 Each file has to be the same byte for byte, or to be missing in both; the status has to be the greatest; and the diagnostics have
 to be the tree's warnings and then those of each run alone, without the tree's warnings, each behind `CONFIGURATION: ` if it
@@ -22,6 +23,7 @@ import tempfile
 
 HERE = pathlib.Path(__file__).resolve().parent
 KCONF = os.path.realpath(os.environ.get("KCONF", HERE / "../crates/kconf/out/kconf"))
+COUNT = 12
 OUTPUTS = {"--out": "full", "--header": "header", "--savedefconfig": "minimal", "--list-new": "new", "--list-gone": "gone"}
 
 
@@ -36,15 +38,31 @@ def outputs(kind, name):
     return [word for option, output in OUTPUTS.items() for word in (option, f"{kind}/{name}/{output}")]
 
 
+def lines_of(pick, lines, strange, earlier):
+    """The lines of a configuration: random ones, or nearly those of an earlier configuration."""
+    if earlier and pick.random() < 0.6:
+        chosen = list(pick.choice(earlier))
+        for _ in range(pick.randint(0, 3)):
+            if chosen and pick.random() < 0.5:
+                chosen.remove(pick.choice(chosen))
+            else:
+                chosen.append(pick.choice(lines))
+        return chosen
+    chosen = [line for line in lines if pick.random() < 0.5] + pick.sample(strange, pick.randint(0, 4))
+    pick.shuffle(chosen)
+    return chosen
+
+
 def lay(pick, folder):
-    """Makes a tree, a fragment and six configurations in the folder. The answer: the names of the configurations."""
+    """Makes a tree, a fragment and twelve configurations in the folder. The answer: the names of the configurations."""
     subprocess.run([sys.executable, HERE / "generate.py", folder, str(pick.randint(20, 200))], check=True, capture_output=True)
     lines = (folder / "dot.config").read_text().splitlines(keepends=True)
     strange = ["CONFIG_NOBODY=y\n", "CONFIG_MODULES=maybe\n", lines[0].split("=")[0] + "=q\n", "no line of a .config\n"]
-    names = [f"c{number}" for number in range(6)]
+    names = [f"c{number}" for number in range(COUNT)]
+    earlier = []
     for name in names:
-        chosen = [line for line in lines if pick.random() < 0.5] + pick.sample(strange, pick.randint(0, 4))
-        pick.shuffle(chosen)
+        chosen = lines_of(pick, lines, strange, earlier)
+        earlier.append(list(chosen))
         if pick.random() < 0.1:
             chosen.insert(pick.randint(0, len(chosen)), "#" * 70_000 + "\n")
         if pick.random() > 0.1:
@@ -105,7 +123,7 @@ def main():
         different += bool(wrong)
         for what in wrong:
             print(f"tree {seed}: {what}")
-    print(f"{trees} trees, {6 * trees} runs alone ({failed} of them failed), {different} trees differ")
+    print(f"{trees} trees, {COUNT * trees} runs alone ({failed} of them failed), {different} trees differ")
     return 1 if different else 0
 
 

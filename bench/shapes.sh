@@ -369,6 +369,22 @@ def dead_in_a_menu(count):
     return 'menu "m"\n' + dependencies + "\n" + "".join(config(f"S_{i}", 'bool "s"') for i in range(count)) + "endmenu\n"
 
 
+def read_by_all(count):
+    """A tree in which 300 symbols depend on one, which is y in every second of so many configurations."""
+    needing = "".join(config(f"S_{i}", 'bool "s"', "default y", "depends on A") for i in range(300))
+    return config("A", 'bool "a"') + needing, "", "", ["", "CONFIG_A=y\n"] * (count // 2)
+
+
+def all_others(count):
+    """A tree of 300 symbols. Of so many configurations every second one sets them all, and the others set none."""
+    return "".join(config(f"S_{i}", 'bool "s"') for i in range(300)), "", "", ["", "".join(f"CONFIG_S_{i}=y\n" for i in range(300))] * (count // 2)
+
+
+def all_the_same(count):
+    """A tree of 300 symbols, and so many configurations that set them all."""
+    return "".join(config(f"S_{i}", 'bool "s"') for i in range(300)), "", "", ["".join(f"CONFIG_S_{i}=y\n" for i in range(300))] * count
+
+
 # Each shape with its least size. A tree has at most 65,535 symbols and 1,000,000 lines.
 SHAPES = [
     (loop_beside_a_chain, 16000),
@@ -420,6 +436,9 @@ SHAPES = [
     (how_impossible, 2000),
     (impossible_with_many_definitions, 8000),
     (dead_in_a_menu, 8000),
+    (read_by_all, 500),
+    (all_others, 500),
+    (all_the_same, 500),
 ]
 # Those that are refused, for their loop, or since more tries would be needed than are allowed, or as no input works; and those whose run has more options.
 REFUSED = {
@@ -452,10 +471,15 @@ def write(shape, count, folder):
     child = os.fork()
     if child == 0:
         made = shape(count)
-        tree, settings, help = (*made, "", "")[:3] if isinstance(made, tuple) else (made, "", "")
+        parts = made if isinstance(made, tuple) else (made,)
+        tree, settings, help, each = (*parts, *["", "", "", []][len(parts):])
         pathlib.Path(folder, "Kconfig").write_text(tree)
         pathlib.Path(folder, "dot.config").write_text(settings)
         pathlib.Path(folder, "help").write_text(help)
+        for number, text in enumerate(each):
+            pathlib.Path(folder, f"c{number}").write_text(text)
+        if each:
+            pathlib.Path(folder, "names").write_text("".join(f"c{number}\n" for number in range(len(each))))
         os._exit(0)
     if os.waitpid(child, 0)[1]:
         sys.exit(f"{shape.__name__} was not written")
@@ -464,9 +488,12 @@ def write(shape, count, folder):
 def spent(program, folder, options, wanted):
     """The least processor time of some runs in seconds, and the greatest peak memory in MiB. Each has to end with this status."""
     times, peaks = [], []
+    inputs = ["--config", "dot.config", "--out", "out"]
+    if os.path.exists(f"{folder}/names"):
+        inputs = ["--each-from", "names", "--savedefconfig", "{}.min"]
     for _ in range(TIMES):
         process = subprocess.Popen(
-            [program, "--config", "dot.config", "--out", "out", *options, "Kconfig"], cwd=folder, stdin=subprocess.DEVNULL,
+            [program, *inputs, *options, "Kconfig"], cwd=folder, stdin=subprocess.DEVNULL,
             stdout=subprocess.DEVNULL, stderr=subprocess.DEVNULL,
             preexec_fn=lambda: resource.setrlimit(resource.RLIMIT_AS, (ROOM, ROOM)))
         _, status, usage = os.wait4(process.pid, 0)
