@@ -17,9 +17,9 @@ const ONLY_SELECTED: u32 = 120;
 
 /// A fragment, with the solution for it.
 #[derive(Clone, Copy)]
-pub(crate) struct Trial<'r, 's> {
+pub(crate) struct Trial<'r, 't, 'u> {
     pub lines: &'r [Line],
-    pub after: &'r Solved<'s, 's>,
+    pub after: &'r Solved<'t, 'u>,
 }
 
 // What becomes of a symbol.
@@ -74,7 +74,7 @@ fn has_own(question: &Question<'_, '_, '_, '_>, after: &Solved<'_, '_>, id: SymI
 }
 
 // What becomes of a symbol.
-fn change_of(question: &Question<'_, '_, '_, '_>, trial: Trial<'_, '_>, id: SymId) -> Change {
+fn change_of(question: &Question<'_, '_, '_, '_>, trial: Trial<'_, '_, '_>, id: SymId) -> Change {
     let old = shown_value(question.before, id);
     let new = shown_value(trial.after, id);
     if is_same(old, new) || id == question.goal.symbol {
@@ -141,7 +141,7 @@ pub(crate) fn lines_cost(lines: &[Line]) -> u32 {
 }
 
 /// What a fragment costs: mainly its lines, and the values of the user that it turns off.
-pub(crate) fn score(question: &Question<'_, '_, '_, '_>, trial: Trial<'_, '_>) -> u32 {
+pub(crate) fn score(question: &Question<'_, '_, '_, '_>, trial: Trial<'_, '_, '_>) -> u32 {
     let mut quarters = 0u32;
     for id in question.laid.layout.defined() {
         quarters = quarters.saturating_add(change_of(question, trial, *id).quarters());
@@ -157,7 +157,7 @@ pub(crate) fn score(question: &Question<'_, '_, '_, '_>, trial: Trial<'_, '_>) -
 }
 
 /// Whether each symbol has the value of its line.
-pub(crate) fn is_taken(trial: Trial<'_, '_>) -> bool {
+pub(crate) fn is_taken(trial: Trial<'_, '_, '_>) -> bool {
     for line in trial.lines {
         if !has_value(trial.after, line.symbol, &line.value) {
             return false;

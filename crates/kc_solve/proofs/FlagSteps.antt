@@ -4,7 +4,7 @@ use Rattle.std.specs.{List.range_with_len, Option.is_some, Prelude.{slice_get, s
 use Rattle.kc_language.specs.{Expressions.{SymbolValue, symbol}, Symbols.{SymbolFacts, TreeFacts, is_symbol_of}, Values.{ChoicePlace, GivenValue, Solves, SymbolPlace, UserPlace, by_type, choice_at, default_selection, differs, differs_at, equation, equations, facts, is_n, name_count, rhs, selected, selection, user_place, visibility, written}, declared.expressions.{SymId.SymId, Tri.Tri}}
 use Rattle.kc_values.specs.{PartsOfValues.{by_choice, same_value, user_place_by, user_place_of}, Table.known_in, declared.table.Value.Value}
 use Rattle.kc_values.proofs.{SameValue.same_value_itself, Uncounted.uncounted}
-use Rattle.kc_solve.specs.{Flags.{IsSolvedOwn, differs_by}, Kept.valuation}
+use Rattle.kc_solve.specs.{Flags.{IsSolvedOwn, differs_by, is_written}, Kept.valuation}
 use Rattle.kc_solve.proofs.WarningSteps.{tables_known}
 
 one_more : {X : Type 0} (f : ℕ → X) (i : ℕ) (x : X) (old new : List X) → old ≡ map f (range_with_len 0 i) → new ≡ old ++ x ∷ [] → x ≡ f i → new ≡ map f (range_with_len 0 (i + 1))
@@ -22,6 +22,12 @@ pub one_more_default : (tree : TreeFacts) (values : List (Option Value)) (c : �
     x ≡ selected tree (known_in tree values) (choice_at tree c) None → new ≡ map (default_selection tree (valuation tree values)) (range_with_len 0 (c + 1))
 one_more_default tree values c x old new l e n h =
     one_more (default_selection tree (valuation tree values)) c x old new e n (h ∙ ap (λ k. selected tree k (choice_at tree c) None) (tables_known tree values l))
+
+pub one_more_written : (tree : TreeFacts) (values : List (Option Value)) (i : ℕ) (x : Bool) (old new : List Bool) → length values ≡ name_count tree →
+    old ≡ map (is_written tree (valuation tree values)) (range_with_len 0 i) → new ≡ old ++ x ∷ [] → x ≡ written tree (known_in tree values) (symbol i) →
+    new ≡ map (is_written tree (valuation tree values)) (range_with_len 0 (i + 1))
+one_more_written tree values i x old new l e n h =
+    one_more (is_written tree (valuation tree values)) i x old new e n (h ∙ ap (λ k. written tree k (symbol i)) (tables_known tree values l))
 
 module _ (tree : TreeFacts) (values : List (Option Value)) (full : length values ≡ name_count tree) (U : UserPlace → Option GivenValue) (i : ℕ) (f : SymbolFacts)
     (at : slice_get tree.symbols i ≡ Some f) (selections defaults : List (Option SymId))

@@ -1,10 +1,11 @@
 -- What a full table tells, as a solution.
 use Rattle.std.proofs.{Common.{Bool, List, None, Option, Some, [], ap, arith, cond, false, inl, inr, is_some, length, map, not, refl, subst, sym, ℕ, ◌&&◌, ◌<◌, ◌∙◌, ◌≡◌, ◌≤◌}, lemmas.{Bool.{cases_Bool, ltb-false, ltb-true}, List.{FromFn.{get_or-map-range_with_len, length-map-range_with_len}, get_or_past}, Option.slice_get_past}}
-use Rattle.std.specs.{List.{flat_map, range_with_len}, Prelude.slice_index_or}
+use Rattle.std.specs.{List.{flat_map, range_with_len}, Prelude.{IfSome, slice_index_or}}
 use Rattle.kc_language.specs.{ConfigFile.{Places, place_at}, Expressions.{SymbolValue, TextValue, symbol, truth_of_value}, Symbols.{SymbolFacts, TreeFacts, Warning, is_symbol_of}, Texts.{IsSolution, Solution, known, value_of, value_warnings, warnings_of}, Values.{ChoicePlace, GivenValue, IsOnlySolution, Solves, SymbolPlace, UserPlace, choice_at, default_selection, differs, differs_at, equation, equations, facts, is_new, is_new_by, known_from, name, name_count, rhs, selected, selection, type_in, user_place}, declared.expressions.{SymId.SymId, SymbolType.{SymbolType, TheVariants.{Bool as IsBool, Hex, Int, Str, Tristate, Undefined}}, Tri.{TheVariants.N, Tri}}}
 use Rattle.kc_expr.specs.{PartsOfExpressions.text_of_value, Value.value_by_type}
 use Rattle.kc_values.specs.{Laws.{IdempotentWhere as Law, MinimalHasNothingToSpare, MinimalRestores}, PartsOfValues.{is_mentioned, same_value}, Table.{known_in, text_in, tri_in, value_in}, declared.table.{Table.Table, Value.Value}}
 use Rattle.kc_entries.specs.WellFormed.{IsWellFormed}
+use Rattle.kc_language.specs.Values as language
 use Rattle.kc_values.specs.PartsOfValues as writing
 use Rattle.kc_solve.proofs.WarningSteps.{tables_known}
 use Rattle.kc_solve.specs.Answers as solved
@@ -73,8 +74,27 @@ module _ (tree : TreeFacts) (places : Places) (values : List (Option Value)) whe
   told {X} full s e f x h =
       subst (λ (y : Solution). x ≡ f y.tree (known y)) e (h ∙ ap (f tree) (table_tells full))
 
-  module _ (selections defaults : List (Option SymId)) (differing : List Bool) (kept_warnings : List Warning)
-      (is : IsSolved tree places values selections defaults differing kept_warnings) where
+  -- what is kept of each symbol, by number: past the last one there are no facts
+  kept_at : {X : Type 0} (f : (SymId → SymbolValue) → Option SymbolFacts → X) (d : X) → f (known_from tree W) None ≡ d → (xs : List X) →
+      xs ≡ map (λ i. f (known_from tree V) (facts tree (symbol i))) (range_with_len 0 (name_count tree)) → (s : SymId) → slice_index_or xs s.0 d ≡ f (known_from tree W) (facts tree s)
+  kept_at f d none xs e s =
+      let at = λ (i : ℕ). f (known_from tree V) (facts tree (symbol i)) in
+      elim (cases_Bool (is_mentioned tree s)) [
+        | inl t ↦
+            let l = ltb-true s.0 (name_count tree) t in
+            ap (λ ys. slice_index_or ys s.0 d) e
+            ∙ get_or-map-range_with_len at 0 (name_count tree) s.0 s.0 d l (omega arith)
+            ∙ ap (λ (k : SymId → SymbolValue). f k (facts tree s)) (sym same_known)
+        | inr o ↦
+            let past = ltb-false s.0 (name_count tree) o in
+            let long = ap length e ∙ length-map-range_with_len at 0 (name_count tree) in
+            get_or_past xs s.0 d (subst (λ n. n ≤ s.0) (sym long) past)
+            ∙ sym none
+            ∙ sym (ap (f (known_from tree W)) (slice_get_past tree.symbols s.0 past))
+      ]
+
+  module _ (selections defaults : List (Option SymId)) (differing : List Bool) (written : Option (List Bool)) (kept_warnings : List Warning)
+      (is : IsSolved tree places values selections defaults differing written kept_warnings) where
     pub is_solution : IsSolution (solution_in tree places values)
     is_solution = record {
       places = is.user;
@@ -112,6 +132,9 @@ module _ (tree : TreeFacts) (places : Places) (values : List (Option Value)) whe
         ap (λ xs. slice_index_or xs s.0 false) is.differing_are
         ∙ get_or-map-range_with_len (differs tree (place_at places) V) 0 (name_count tree) s.0 s.0 false l (omega arith)
         ∙ sym (same_differs s.0 (user_place tree s.0) l)
+
+    written_at : (list : List Bool) → written ≡ Some list → (s : SymId) → slice_index_or list s.0 false ≡ solved.written (solution_in tree places values) s
+    written_at list kept = kept_at (writing.written_facts tree) false refl list (subst (λ o. IfSome o (λ w. w ≡ map (λ i. language.written tree (known_from tree V) (symbol i)) (range_with_len 0 (name_count tree)))) kept is.written_are)
 
     pub warnings_too : kept_warnings ≡ value_warnings (solution_in tree places values)
     warnings_too =
@@ -152,6 +175,9 @@ module _ (tree : TreeFacts) (places : Places) (values : List (Option Value)) whe
           ≡ is_new tree (known_in tree values) (place_at places) i =
           rw at refl in
           subst (λ (y : Solution). x ≡ solved.is_new y i) e (is_x ∙ by_facts ∙ ap (λ k. is_new tree k (place_at places) i) (table_tells full))
+
+      pub written_is : (list : List Bool) → written ≡ Some list → (i : SymId) → slice_index_or list i.0 false ≡ solved.written s i
+      written_is list kept i = subst (λ (x : Solution). slice_index_or list i.0 false ≡ solved.written x i) e (written_at list kept i)
 
 -- the table of a solution
 pub table_is : (t : Table) (places : Places) (s : Solution) → solution_in t.tree.now places t.values ≡ s → length t.values ≡ name_count t.tree.now → IsTableOf s t

@@ -33,6 +33,10 @@ row_is_new t user id row =
     not (is_some (place_at user (SymbolPlace id.0)))
     && is_new_by t.tree.now (known_at t) (place_at user) id (facts_in t id row) (facts_in t id row).choice
 
+-- whether the symbol of this number has a line in the .config, under a valuation
+abbrev pub is_written : TreeFacts → (ℕ → SymbolValue) → ℕ → Bool
+is_written tree V i = written tree (known_from tree V) (symbol i)
+
 -- the valuation that a table holds
 abbrev pub values_in : Table → ℕ → SymbolValue
 values_in t = valuation t.tree.now t.values
@@ -51,3 +55,7 @@ differing_by t user = map (differs t.tree.now (place_at user) (values_in t)) (ra
 -- whether a symbol with this type and this truth value is a bool or tristate that is n
 abbrev pub is_off : SymbolType → Tri → Bool
 is_off kind = elim kind [ IsBool ↦ is_n | Tristate ↦ is_n | _ ↦ λ t. false ]
+
+-- whether each symbol has a line
+abbrev pub written_in : Table → List Bool
+written_in t = map (is_written t.tree.now (values_in t)) (range_with_len 0 (name_count t.tree.now))

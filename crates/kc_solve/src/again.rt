@@ -19,7 +19,7 @@ use crate::compute::{
     compute_context, compute_dependency, compute_selection, compute_visible, kept_value, symbol_row,
 };
 use crate::evaluation_order::EvaluationOrder;
-use crate::solve::{solve, solved_of};
+use crate::solve::{full_table, solve, solved_of};
 use crate::solved::Solved;
 use kc_expr::expression::SymId;
 use kc_order::Graph;
@@ -325,7 +325,7 @@ fn renewed<'t>(
 // ---- solutions
 
 impl Again {
-    /// Keeps nothing, for a tree with one configuration.
+    /// Keeps nothing for a further solution, for a tree with few configurations. A solution then keeps which symbols are written.
     pub fn never() -> Again
         ensures { (laid : LaidTree) → IsAgainOf laid result }
     {
@@ -363,14 +363,15 @@ impl Again {
         ensures minimal { IfOk result IsMinimal }
         ensures idempotent { IfOk result IdempotentWhere }
     {
+        let Some(needs) = &self.needs else {
+            let table = full_table(alloc, laid, order, user)?;
+            return solved_of(alloc, table, user, true);
+        };
         let Some(kept) = self.kept.take() else {
             return solve(alloc, laid, order, user);
         };
-        let Some(needs) = &self.needs else {
-            return solve(alloc, laid, order, user);
-        };
         let table = renewed(alloc, laid, order.nodes(), needs, kept, user)?;
-        solved_of(alloc, table, user)
+        solved_of(alloc, table, user, false)
     }
 
     /// Keeps of a solution what the next one needs, unless nothing is to be kept, or there is not enough memory for it.

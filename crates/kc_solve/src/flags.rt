@@ -1,6 +1,6 @@
 //! The selections of choices and the flags of symbols, under the values of a full table.
 
-ghost use Rattle.std.specs.Prelude.{◌≡◌, ◌<◌, ◌&&◌, false, length, map, not, slice_index_or, None, Some, true, IfOk, IfSome};
+ghost use Rattle.std.specs.Prelude.{◌≡◌, ◌<◌, ◌&&◌, false, length, map, not, option_map, slice_index_or, None, Some, true, IfOk, IfSome};
 ghost use Rattle.std.specs.Option.{is_some};
 ghost use Rattle.kc_language.specs.Values.{ChoicePlace, Solves, is_chosen, is_n, name_count, equations};
 ghost use Rattle.kc_solve.specs.Flags as flag;
@@ -16,6 +16,7 @@ ghost use Rattle.kc_diagnostics.specs.Warnings.{owned_warning};
 ghost use Rattle.kc_values.specs.PartsOfTexts.{warnings_of_values as value_warnings};
 
 use crate::compute::symbol_row;
+use crate::solved::is_written;
 use kc_diagnostics::Warning;
 use kc_expr::expression::{SymId, SymbolType, Tri};
 use kc_expr::values::Values;
@@ -272,6 +273,35 @@ pub(crate) fn differing_of(
         differing.push(differs)?;
     }
     Ok(differing)
+}
+
+// Whether each symbol has a line in the `.config`, by number.
+fn all_written(alloc: Global, table: &Table) -> Result<Vec<bool>, AllocError>
+    requires { length table.now.values ≡ name_count table.now.tree.now }
+    ensures { IfOk result (λ written. written.items ≡ flag.written_in table.now) }
+{
+    let count = table.tree.name_count();
+    let mut written = Vec::with_capacity(alloc, count)?;
+    for i in 0..count {
+        written.push(is_written(table, SymId(i)))?;
+    }
+    Ok(written)
+}
+
+/// Returns whether each symbol has a line in the `.config`, by number, if that is to be kept.
+pub(crate) fn written_if(
+    alloc: Global,
+    table: &Table,
+    is_kept: bool,
+) -> Result<Option<Vec<bool>>, AllocError>
+    requires { length table.now.values ≡ name_count table.now.tree.now }
+    ensures { IfOk result (λ kept. IfSome (option_map (λ v. v.items) kept) (λ written. written ≡ flag.written_in table.now)) }
+{
+    if is_kept {
+        Ok(Some(all_written(alloc, table)?))
+    } else {
+        Ok(None)
+    }
 }
 
 // Whether a symbol is a bool or tristate that is n.

@@ -10,7 +10,7 @@ ghost use Rattle.kc_language.specs.ConfigFile.{ArePlacesOf, place_at};
 
 use crate::compute::compute;
 use crate::evaluation_order::EvaluationOrder;
-use crate::flags::{differing_of, selections, warnings_of};
+use crate::flags::{differing_of, selections, warnings_of, written_if};
 use crate::solved::Solved;
 use kc_tree::laid_tree::LaidTree;
 use kc_user::user::User;
@@ -35,11 +35,12 @@ pub(crate) fn full_table<'t>(
     Ok(table)
 }
 
-/// The solution of a full table that solves.
+/// The solution of a full table that solves. It may keep which symbols are written.
 pub(crate) fn solved_of<'t, 'u>(
     alloc: Global,
     table: Table<'t>,
     user: &'u User,
+    keeps_written: bool,
 ) -> Result<Solved<'t, 'u>, AllocError>
     requires accepted { IsAccepted table.tree.now }
     requires user { ArePlacesOf table.tree.now user.now }
@@ -51,12 +52,14 @@ pub(crate) fn solved_of<'t, 'u>(
     accepted_have_one_solution();
     let selections = selections(alloc, &table, user)?;
     let differing = differing_of(alloc, &table, user, &selections)?;
+    let written = written_if(alloc, &table, keeps_written)?;
     let warnings = warnings_of(alloc, &table, user)?;
     let solved = Solved {
         table,
         user,
         selections,
         differing,
+        written,
         warnings,
     };
     solved.is_solution();
@@ -81,5 +84,5 @@ pub fn solve<'t, 'u>(
     ensures idempotent { IfOk result IdempotentWhere }
 {
     let table = full_table(alloc, laid, order, user)?;
-    solved_of(alloc, table, user)
+    solved_of(alloc, table, user, false)
 }

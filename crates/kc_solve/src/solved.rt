@@ -40,11 +40,12 @@ pub struct Solved<'t, 'u> {
     pub(crate) user: &'u User,
     pub(crate) selections: ChoiceSelections,
     pub(crate) differing: Vec<bool>,
+    pub(crate) written: Option<Vec<bool>>,
     pub(crate) warnings: Vec<Warning<Vec<u8>>>,
 }
 
 impl<'t, 'u> Model for Solved<'t, 'u> {
-    ghost use Rattle.std.specs.Prelude.{◌≡◌, map};
+    ghost use Rattle.std.specs.Prelude.{◌≡◌, map, option_map};
     ghost use Rattle.kc_diagnostics.specs.Warnings.{owned_warning};
     ghost use Rattle.kc_language.specs.Texts.{Solution};
     ghost use Rattle.kc_solve.specs.Kept.{IsSolved, solution_in};
@@ -57,7 +58,7 @@ impl<'t, 'u> Model for Solved<'t, 'u> {
     ghost view = { λ s. solution_in s.table.tree.now s.user.now s.table.values };
 
     ghost invariant = { λ s. IsSolved s.table.tree.now s.user.now s.table.values s.selections.selected.items s.selections.default.items
-        s.differing.items (map owned_warning s.warnings.items) };
+        s.differing.items (option_map (λ v. v.items) s.written) (map owned_warning s.warnings.items) };
 }
 
 impl<'t, 'u> Solved<'t, 'u> {
@@ -141,11 +142,14 @@ impl<'t, 'u> Solved<'t, 'u> {
     /// Whether the symbol has a line in the `.config`. It has one if it is visible. Outside a choice, a bool or
     /// tristate has one if its default, what it is selected to, or what it is implied to within its dependency is not
     /// n. A string, int or hex has one if one of its defaults applies. A symbol without a type has none (kconfiglib's
-    /// `config_string`). It is computed on each call.
+    /// `config_string`). For one of many configurations it is computed on each call.
     pub fn written(&self, id: SymId) -> bool
         ensures { result ≡ spec.written self.now id }
     {
-        written_in(&self.table, id)
+        match &self.written {
+            Some(written) => at_symbol(written, id),
+            None => is_written(&self.table, id),
+        }
     }
 
     /// The selected member of a choice, if its mode is not n: the user's member if it is visible, otherwise the default
@@ -247,8 +251,8 @@ fn visibility_in(table: &Table, id: SymId) -> Tri
     }
 }
 
-// Whether a symbol has a line in the `.config`.
-fn written_in(table: &Table, id: SymId) -> bool
+/// Whether a symbol has a line in the `.config`.
+pub(crate) fn is_written(table: &Table, id: SymId) -> bool
     ensures { result ≡ written_facts table.now.tree.now (known_at table.now) (facts table.now.tree.now id) }
 {
     match table.layout.symbol(id) {

@@ -16,6 +16,7 @@ invariant_of-solved c =
       selections_are = c.in_ok-selections.ensures.selected;
       defaults_are = c.in_ok-selections.ensures.default;
       differing_are = c.in_ok-differing.ensures;
+      written_are = c.in_ok-written.ensures;
       warnings_are = c.in_ok-warnings.ensures;
     }
 

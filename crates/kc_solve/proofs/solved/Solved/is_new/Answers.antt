@@ -12,5 +12,5 @@ symbol_row-symbol-requires c =
 pub returns : goal.returns
 returns c =
     let t = c.self.inside.table in
-    new_is t.tree.now c.self.inside.user.now t.values _ _ _ _ c.self.invariant _ c.self.view_is c.self.invariant.full _ c.args.id
+    new_is t.tree.now c.self.inside.user.now t.values _ _ _ _ _ c.self.invariant _ c.self.view_is c.self.invariant.full _ c.args.id
     (facts_of t.layout.now c.args.id.0 c.symbol_row-symbol.result.now) (row_facts t c.args.id c.symbol_row-symbol.result.now c.symbol_row-symbol.ensures) c.symbol_is_new.ensures
