@@ -5,6 +5,7 @@ pub mod GroupNames
 pub mod UserSteps
 pub mod WarningSteps
 pub mod FlagSteps
+pub mod WrittenSteps
 pub mod MemberSteps
 pub mod OrderSteps
 pub mod SequenceSteps

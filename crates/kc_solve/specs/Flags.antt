@@ -1,4 +1,4 @@
--- For proofs: The visibility of a symbol, whether it differs given the selections of the choices, whether it is written, and whether it is off.
+-- For proofs: The visibility of a symbol, whether it differs given the selections of the choices, whether it is written, and whether it is off or on.
 use Rattle.std.specs.{List.range_with_len, Prelude.{Bool, List, None, Option, Some, false, is_some, length, map, not, slice_index_or, ℕ, ◌&&◌, ◌≡◌}}
 use Rattle.kc_language.specs.{ConfigFile.{Places, place_at}, Expressions.{SymbolValue, symbol}, Symbols.{SymbolFacts, TreeFacts, is_symbol_of}, Values.{ChoicePlace, GivenValue, SymbolPlace, by_type, default_selection, differs, facts, is_chosen, is_n, is_new_by, known_from, name_count, selection, written}, declared.expressions.{SymId.SymId, SymbolType.{SymbolType, TheVariants.{Bool as IsBool, Tristate}}, Tri.Tri}}
 use Rattle.kc_tree.specs.declared.rows.Symbol.{Symbol}
@@ -22,6 +22,10 @@ IsSolvedOwn tree known s f (Some c) given = Unit {0}
 -- the same, read from its row
 abbrev pub IsSolvedRow : Table → SymId → Symbol → Option GivenValue → Type 0
 IsSolvedRow t id row given = IsSolvedOwn t.tree.now (known_at t) id (facts_in t id row) (facts_in t id row).choice given
+
+-- the same of the facts of a symbol, if there are any, for some user value
+abbrev pub IsSolvedAt : Table → SymId → Type 0
+IsSolvedAt t id = (f : SymbolFacts) → facts t.tree.now id ≡ Some f → (own : Option GivenValue) × IsSolvedOwn t.tree.now (known_at t) id f f.choice own
 
 -- whether a member without a user value is new; whether a symbol is new, read from its row
 abbrev pub member_is_new : Table → Places → SymId → Symbol → ℕ → Bool
@@ -55,6 +59,11 @@ differing_by t user = map (differs t.tree.now (place_at user) (values_in t)) (ra
 -- whether a symbol with this type and this truth value is a bool or tristate that is n
 abbrev pub is_off : SymbolType → Tri → Bool
 is_off kind = elim kind [ IsBool ↦ is_n | Tristate ↦ is_n | _ ↦ λ t. false ]
+
+-- whether a symbol of this choice with this type and this truth value is a bool or tristate outside a choice that is not n
+abbrev pub is_on : Option ℕ → SymbolType → Tri → Bool
+is_on (Some c) kind = λ t. false
+is_on None kind = elim kind [ IsBool ↦ λ t. not (is_n t) | Tristate ↦ λ t. not (is_n t) | _ ↦ λ t. false ]
 
 -- whether each symbol has a line
 abbrev pub written_in : Table → List Bool

@@ -4,7 +4,7 @@ ghost use Rattle.std.specs.Prelude.{◌≡◌, ◌<◌, ◌&&◌, false, length,
 ghost use Rattle.std.specs.Option.{is_some};
 ghost use Rattle.kc_language.specs.Values.{ChoicePlace, Solves, is_chosen, is_n, name_count, equations};
 ghost use Rattle.kc_solve.specs.Flags as flag;
-ghost use Rattle.kc_solve.specs.Flags.{row_differs, IsSolvedRow};
+ghost use Rattle.kc_solve.specs.Flags.{row_differs, IsSolvedAt, IsSolvedRow};
 ghost use Rattle.kc_solve.specs.FlagLists.{AreSelectionsOf};
 ghost use Rattle.kc_language.specs.ConfigFile.{ArePlacesOf, place_at};
 ghost use Rattle.kc_user.specs.PartsOfConfigFile.{member_place};
@@ -275,9 +275,10 @@ pub(crate) fn differing_of(
     Ok(differing)
 }
 
-// Whether each symbol has a line in the `.config`, by number.
+// Whether each symbol has a line in the `.config`, by number, under the values of a full table that solves.
 fn all_written(alloc: Global, table: &Table) -> Result<Vec<bool>, AllocError>
-    requires { length table.now.values ≡ name_count table.now.tree.now }
+    requires full { length table.now.values ≡ name_count table.now.tree.now }
+    requires solved { (id : SymId) → IsSolvedAt table.now id }
     ensures { IfOk result (λ written. written.items ≡ flag.written_in table.now) }
 {
     let count = table.tree.name_count();
@@ -288,13 +289,15 @@ fn all_written(alloc: Global, table: &Table) -> Result<Vec<bool>, AllocError>
     Ok(written)
 }
 
-/// Returns whether each symbol has a line in the `.config`, by number, if that is to be kept.
+/// Returns whether each symbol has a line in the `.config`, by number, under the values of a full table that solves, if
+/// that is to be kept.
 pub(crate) fn written_if(
     alloc: Global,
     table: &Table,
     is_kept: bool,
 ) -> Result<Option<Vec<bool>>, AllocError>
-    requires { length table.now.values ≡ name_count table.now.tree.now }
+    requires full { length table.now.values ≡ name_count table.now.tree.now }
+    requires solved { (id : SymId) → IsSolvedAt table.now id }
     ensures { IfOk result (λ kept. IfSome (option_map (λ v. v.items) kept) (λ written. written ≡ flag.written_in table.now)) }
 {
     if is_kept {

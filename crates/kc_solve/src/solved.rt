@@ -4,8 +4,12 @@ ghost use Rattle.std.specs.Prelude.{◌≡◌, ◌<◌, length, map, option_and_
 ghost use Rattle.kc_expr.specs.PartsOfExpressions.{text_of_value};
 ghost use Rattle.kc_values.specs.PartsOfValues.{written_facts};
 ghost use Rattle.kc_values.specs.Small.{HasSmallBounds};
+ghost use Rattle.kc_tree.specs.Places.{mode_view};
+ghost use Rattle.kc_values.specs.Table.{tri_in, value_in};
 ghost use Rattle.kc_values.specs.TableFacts.{known_at};
 ghost use Rattle.kc_solve.specs.Answers as spec;
+ghost use Rattle.kc_solve.specs.Flags as flag;
+ghost use Rattle.kc_solve.specs.Flags.{IsSolvedAt};
 ghost use Rattle.kc_diagnostics.specs.Warnings.{owned_warning};
 ghost use Rattle.kc_language.specs.Sources.{source};
 ghost use Rattle.kc_language.specs.Texts.{IsSolution, known, value_warnings};
@@ -22,7 +26,7 @@ use kc_diagnostics::Warning;
 use kc_expr::expression::{SymId, SymbolType, Tri};
 use kc_expr::values::{Values, tri_text, truth_of};
 use kc_language::sources::Source;
-use kc_tree::rows::ChoiceId;
+use kc_tree::rows::{ChoiceId, Symbol};
 use kc_tree::tree::Tree;
 use kc_user::user::User;
 use kc_values::laws::{idempotent_where, minimal_restores};
@@ -251,12 +255,26 @@ fn visibility_in(table: &Table, id: SymId) -> Tri
     }
 }
 
-/// Whether a symbol has a line in the `.config`.
+// Whether a symbol is a bool or tristate outside a choice that is not n.
+fn is_on(table: &Table, id: SymId, symbol: &Symbol) -> bool
+    ensures { result ≡ flag.is_on (mode_view symbol.now.choice) symbol.now.symbol_type (tri_in (value_in table.now.values id)) }
+{
+    match (symbol.choice.get(), symbol.symbol_type) {
+        (None, SymbolType::Bool | SymbolType::Tristate) => !matches!(table.tri(id), Tri::N),
+        _ => false,
+    }
+}
+
+/// Whether a symbol has a line in the `.config`. A bool or tristate outside a choice that is not n has one, so its
+/// visibility is not computed.
 pub(crate) fn is_written(table: &Table, id: SymId) -> bool
+    requires { IsSolvedAt table.now id }
     ensures { result ≡ written_facts table.now.tree.now (known_at table.now) (facts table.now.tree.now id) }
 {
     match table.layout.symbol(id) {
-        Some(symbol) => written(table, id, symbol, visibility(table, id, symbol)),
+        Some(symbol) => {
+            is_on(table, id, symbol) || written(table, id, symbol, visibility(table, id, symbol))
+        }
         None => false,
     }
 }

@@ -1,7 +1,11 @@
 use Rattle.std.proofs.Common.{refl}
 use Rattle.kc_language.specs.ConfigFile.{place_at}
 use Rattle.kc_solve.specs.Kept.{valuation}
+use Rattle.kc_solve.proofs.WrittenSteps.{solved_at}
 use Rattle.kc_solve.proofs.solve.solved_of.Goals as goal
+
+pub written_if-requires-clause-solved : goal.written_if-requires-clause-solved
+written_if-requires-clause-solved c = let is = c.requires.table in solved_at c.args.table (place_at c.args.user.now) is.full is.solves
 
 pub invariant_of-solved : goal.invariant_of-solved
 invariant_of-solved c =

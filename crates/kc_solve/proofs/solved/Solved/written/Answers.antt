@@ -1,7 +1,12 @@
 use Rattle.std.proofs.Common.{Some, ap, option_map, sym, ◌∙◌}
-use Rattle.kc_language.specs.{Expressions.SymbolValue, Symbols.TreeFacts, Values.written, declared.expressions.SymId.SymId}
-use Rattle.kc_solve.proofs.SolvedSteps.{told, written_is}
+use Rattle.kc_language.specs.{ConfigFile.place_at, Expressions.SymbolValue, Symbols.TreeFacts, Values.written, declared.expressions.SymId.SymId}
+use Rattle.kc_solve.proofs.{SolvedSteps.{told, written_is}, WrittenSteps.solved_at}
 use Rattle.kc_solve.proofs.solved.Solved.written.Goals as goal
+
+pub is_written-requires : goal.is_written-requires
+is_written-requires c =
+    let is = c.self.invariant in
+    solved_at c.self.inside.table (place_at c.self.inside.user.now) is.full is.solves c.args.id
 
 pub returns-in-Some : goal.returns-in-Some
 returns-in-Some c =
