@@ -21,7 +21,11 @@ fn symbol_line(solved: &Solved<'_, '_>, id: SymId, out: &mut Vec<u8>) -> Result<
 }
 
 // Adds the line of a choice.
-fn choice_line(solved: &Solved<'_, '_>, choice: ChoiceId, out: &mut Vec<u8>) -> Result<(), AllocError> {
+fn choice_line(
+    solved: &Solved<'_, '_>,
+    choice: ChoiceId,
+    out: &mut Vec<u8>,
+) -> Result<(), AllocError> {
     if choice.0 as usize >= choice_count(solved.tree()) {
         return Ok(());
     }
