@@ -17,7 +17,7 @@ use crate::path::path_of;
 use kc_expr::hash_key::HashKey;
 use kc_expr::names::Names;
 use kc_read::{FileMap, MOST_LINES, sources_of};
-use kc_text::line_count;
+use kc_text::FileText;
 use std::alloc::{AllocError, Global};
 use std::str;
 
@@ -80,10 +80,10 @@ impl Loading {
     }
 
     // The number of lines after one more file, limited to the greatest number.
-    fn lines_with(&self, file: &[u8]) -> usize
+    fn lines_with(&self, file: &FileText) -> usize
         ensures { result ≡ min (self.now.lines + lines_of file.now) last_count }
     {
-        self.lines.saturating_add(line_count(file))
+        self.lines.saturating_add(file.line_count())
     }
 
     // Adds the names in the file's `source` lines to those that wait, the first one last.
@@ -102,9 +102,10 @@ impl Loading {
         ensures adds { OnOk result (AddsFile name.items bytes.items (state_of self.old) (state_of self.new)) }
         ensures tree { OnOk result (self.new.files.flat ≡ self.old.files.flat) }
     {
-        let lines = self.lines_with(&bytes);
-        self.push_sources(&bytes)?;
-        self.files.insert(name, bytes)?;
+        let text = FileText::new(self.alloc, bytes);
+        let lines = self.lines_with(&text);
+        self.push_sources(text.bytes())?;
+        self.files.insert_text(name, text)?;
         self.lines = lines;
         Ok(())
     }

@@ -22,5 +22,10 @@ pub(crate) fn path_of(alloc: Global, dir: &str, name: &str) -> Result<String, Al
     if begins_with_slash(name.as_bytes()) {
         return String::from_str(alloc, name);
     }
-    format!(in alloc; "{dir}/{name}")
+    let room = dir.len().saturating_add(name.len()).saturating_add(1);
+    let mut path = String::with_capacity(alloc, room)?;
+    path.push_str(dir)?;
+    path.push('/')?;
+    path.push_str(name)?;
+    Ok(path)
 }

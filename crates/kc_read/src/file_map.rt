@@ -67,7 +67,15 @@ impl FileMap {
         ensures err { OnErr result (self.new ≡ self.old) }
         ensures unknown { OnErr result (bytes_in self.old.entries name.items ≡ None) }
     {
-        let text = FileText::new(self.alloc, bytes);
+        self.insert_text(name, FileText::new(self.alloc, bytes))
+    }
+
+    /// Sets the text of a name, like `insert`, without counting its lines anew.
+    pub fn insert_text(&mut self, name: Vec<u8>, text: FileText) -> Result<(), AllocError>
+        ensures ok { OnOk result (Puts (files_in self.old) (files_in self.new) name.items text) }
+        ensures err { OnErr result (self.new ≡ self.old) }
+        ensures unknown { OnErr result (bytes_in self.old.entries name.items ≡ None) }
+    {
         self.files.insert(name, text)?;
         Ok(())
     }

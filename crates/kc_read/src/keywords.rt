@@ -7,13 +7,14 @@ ghost use Rattle.kc_entries.specs.PartsOfStatements as spec_parts;
 
 use kc_entries::statement::Keyword;
 use kc_expr::expression::SymbolType;
+use kc_text::same_few;
 
-/// Whether two words are the same. Their lengths are compared first: most words differ in length.
+/// Whether two words are the same.
 #[inline(always)]
 pub(crate) fn same_word(word: &[u8], other: &[u8]) -> bool
     ensures { result ≡ same_name word.now other.now }
 {
-    word.len() == other.len() && word == other
+    same_few(word, other)
 }
 
 // The words of four bytes or fewer.

@@ -169,7 +169,7 @@ pub fn sources_of(alloc: Global, file: &[u8]) -> Result<Vec<Vec<u8>>, AllocError
     }
     let mut lines = LogicalLines::new(file);
     let mut text = Vec::new(alloc);
-    let mut tokens = Vec::new(alloc);
+    let mut tokens = token_list(alloc, file)?;
     'along: loop {
         match next_source(alloc, &mut lines, &mut text, &mut tokens)? {
             NextSource::Nothing => return Ok(names),

@@ -1,42 +1,27 @@
 -- The first line feed, looked for by the lanes of loads.
-use Rattle.std.proofs.{Common.{List, ap, arith, drop, get_or, inl, inr, length, map, sym, w16, ℕ, ◌+◌, ◌-◌, ◌<◌, ◌^◌, ◌∙◌, ◌≡◌, ◌≤◌}, lemmas.{Bool.{both_ways, cases_lt}, List.{get_or-drop, length-drop, length-map}, Nat.Bits.bit_at-trailing_zeros, Simd.{length-chunk, mask_l-lt, none_from_empty_mask, run_in_chunk_fails, run_in_chunk_stops, trailing_mask_l}}}
-use Rattle.std.specs.{List.prefix_len, Prelude.not}
+use Rattle.std.proofs.{Common.{List, ap, arith, drop, get_or, inl, inr, length, map, sym, ℕ, ◌+◌, ◌-◌, ◌<◌, ◌∙◌, ◌≡◌, ◌≤◌}, lemmas.{Bool.{both_ways, cases_lt}, List.{get_or-drop, length-drop}}}
 use Rattle.bstr.specs.Find.{NoneBefore, Nowhere, Passes}
-use Rattle.kc_text.proofs.Physicals.{lf}
+use Rattle.kc_text.proofs.{Loads.{fails_before, few, none_passes, passes_there}, Physicals.lf}
 use lib.Count.{count_trailing_zeros}
 use lib.Lanes.{chunk, mask_l}
 
 -- the lanes from place `at` on, with no line feed before it
 module _ (rest : List ℕ) (at mask : ℕ) (room : at + 16 ≤ length rest) (bits : mask ≡ mask_l (map lf (chunk at 16 rest))) (none : Nowhere (Passes lf rest) 0 at) where
-  long : length (chunk at 16 rest) ≡ 16
-  long = length-chunk at 16 rest room
-
-  counted : (k : ℕ) → 16 ≤ k → 0 < mask → count_trailing_zeros k mask ≡ prefix_len (λ x. not (lf x)) (chunk at 16 rest)
-  counted k le some = rw bits (trailing_mask_l lf k (chunk at 16 rest) (omega (arith, long)) (rw bits at some))
-
-  small : mask < 2 ^ 16
-  small = let ms = map lf (chunk at 16 rest) in let n : length ms ≡ 16 = length-map (chunk at 16 rest) lf ∙ long in rw bits (rw n at (mask_l-lt ms))
-
-  few : 0 < mask → count_trailing_zeros 64 mask < 16
-  few some = omega (arith, counted 64 (omega arith) some, counted 16 (omega arith) some, (bit_at-trailing_zeros w16 mask some small).0)
-
   pub first_in_lanes : 0 < mask
       → NoneBefore (Passes lf rest) 0 (length rest) (at + count_trailing_zeros 64 mask) × Passes lf rest (at + count_trailing_zeros 64 mask)
-  first_in_lanes some =
-      let n = count_trailing_zeros 64 mask in
-      let lt = few some in
-      let fails = run_in_chunk_fails lf rest at 16 n 0 room (counted 64 (omega arith) some) in (
-        record {
-          low = omega arith;
-          high = omega (arith, lt);
-          before = λ k low below p. elim (cases_lt k at) [ inl left ↦ none k low left p | inr right ↦ both_ways _ (fails k right below) p ];
-        },
-        run_in_chunk_stops lf rest at 16 n 0 room (counted 64 (omega arith) some) lt,
-      )
+  first_in_lanes some = (
+    record {
+      low = omega arith;
+      high = omega (arith, room, few lf rest at mask room bits some);
+      before = λ k low below p.
+          elim (cases_lt k at) [ inl left ↦ none k low left p | inr right ↦ both_ways _ (fails_before lf rest at mask room bits some k right below) p ];
+    },
+    passes_there lf rest at mask room bits some,
+  )
 
   pub none_in_lanes : mask ≡ 0 → Nowhere (Passes lf rest) 0 (at + 16)
   none_in_lanes empty k low below p =
-      elim (cases_lt k at) [ inl left ↦ none k low left p | inr right ↦ both_ways _ (none_from_empty_mask lf rest at 16 0 room (sym bits ∙ empty) k right below) p ]
+      elim (cases_lt k at) [ inl left ↦ none k low left p | inr right ↦ both_ways _ (none_passes lf rest at mask room bits empty k right below) p ]
 
 -- the rest from place `at` on, with no line feed before it
 module _ (rest : List ℕ) (at : ℕ) (within : at ≤ length rest) (none : Nowhere (Passes lf rest) 0 at) where

@@ -1,5 +1,6 @@
 //! Bytes that mean the same in Kconfig files and in `.config` files.
 ghost use Rattle.std.specs.Prelude.{◌≡◌};
+ghost use Rattle.std.specs.Str.{bytes_eq};
 ghost use Rattle.std.specs.Str.Lines.{strip_carriage_return};
 ghost use Rattle.kc_language.specs.Tokens.{is_blank};
 
@@ -21,4 +22,22 @@ pub fn without_carriage_return(line: &[u8]) -> &[u8]
     } else {
         line
     }
+}
+
+/// Whether two texts have the same bytes. It compares one byte after another: for a few bytes this costs less than a call.
+#[inline(always)]
+pub fn same_few(text: &[u8], other: &[u8]) -> bool
+    ensures { result ≡ bytes_eq text.now other.now }
+{
+    if text.len() != other.len() {
+        return false;
+    }
+    let mut at = 0;
+    'same: while at < text.len() {
+        if text[at] != other[at] {
+            return false;
+        }
+        at += 1;
+    }
+    true
 }

@@ -5,6 +5,7 @@ ghost use Rattle.kc_text.specs.PartsOfLines.{is_blank_line};
 ghost use Rattle.kc_text.specs.Help.{Drops};
 ghost use Rattle.kc_text.specs.LongLines.{AreLong, IsEndOf, IsLineStart, KnowsStart};
 
+use crate::bytes::same_few;
 use crate::long_lines::{LongLine, known_line};
 use crate::physical::{PhysicalLine, Unread, first_physical, line_until};
 
@@ -57,7 +58,10 @@ fn goes_on(text: &[u8], blanks: &[u8], indent: u128) -> bool
     requires { (more : List ℕ) → indent ≤ column 0 (blanks.now ++ more) }
     ensures { result ≡ (is_blank_line text.now || nat_le indent (column 0 text.now)) }
 {
-    text.starts_with(blanks) || is_help_line(text, indent)
+    if blanks.len() <= text.len() && same_few(blanks, &text[..blanks.len()]) {
+        return true;
+    }
+    is_help_line(text, indent)
 }
 
 // The first unread line, and how it begins, if that is known.

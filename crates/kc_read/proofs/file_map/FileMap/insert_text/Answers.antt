@@ -2,15 +2,14 @@ use Rattle.std.proofs.Common.{Some, ap, cond, sym, ◌∙◌}
 use Rattle.kc_expr.proofs.NamesLemmas.{on_err}
 use Rattle.kc_language.specs.{Expansion.bytes_in, Expressions.same_name}
 use Rattle.kc_read.proofs.FileLemmas.{bytes_found, bytes_put, files_of}
-use Rattle.kc_read.proofs.file_map.FileMap.insert.Goals as goal
+use Rattle.kc_read.proofs.file_map.FileMap.insert_text.Goals as goal
 
 pub returns-clause-ok : goal.returns-clause-ok
 returns-clause-ok c = record {
   bytes_are = λ other.
       ap (λ es. bytes_in (files_of es) other) c.in_ok-insert.ensures.entries
-      ∙ bytes_put c.self.inside.files.entries c.args.name c.new-text.result other
-      ∙ ap (λ t. cond (same_name other c.args.name.items) (Some t) (bytes_in (files_of c.self.inside.files.entries) other)) c.new-text.ensures
-      ∙ ap (λ fs. cond (same_name other c.args.name.items) (Some c.args.bytes.items) (bytes_in fs.entries other)) c.self.view_is;
+      ∙ bytes_put c.self.inside.files.entries c.args.name c.args.text other
+      ∙ ap (λ fs. cond (same_name other c.args.name.items) (Some c.args.text) (bytes_in fs.entries other)) c.self.view_is;
   flat_is = ap (λ fs. fs.flat) c.self.view_is;
 }
 
