@@ -19,7 +19,6 @@ mod dead;
 mod diagnostics;
 mod explained;
 mod folder_run;
-mod groups;
 mod how_many;
 mod how_run;
 pub mod laws;

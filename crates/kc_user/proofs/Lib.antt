@@ -1,3 +1,4 @@
+pub mod ListSteps
 pub mod PlacesLemmas
 pub mod SparseLemmas
 pub mod UserLemmas
