@@ -26,6 +26,7 @@ use kc_values::choices::selected_in;
 use kc_values::equation::own_equation;
 use kc_values::laws::accepted_have_one_solution;
 use kc_values::table::{Table, Value};
+use kc_values::value_list::ValueList;
 use std::alloc::{AllocError, Global};
 
 // The row of a symbol.
@@ -54,11 +55,11 @@ fn first_value(alloc: Global, symbol_type: SymbolType) -> Value
 }
 
 // A table of n and empty texts.
-fn first_values(alloc: Global, tree: &Tree) -> Result<SparseVec<Value>, AllocError>
+fn first_values(alloc: Global, tree: &Tree) -> Result<ValueList, AllocError>
     ensures { IfOk result (λ v. length v ≡ name_count tree.now) }
 {
     let count = tree.name_count();
-    let mut values = SparseVec::empty(alloc, count)?;
+    let mut values = ValueList::empty(alloc, count)?;
     for i in 0..count {
         let symbol_type = symbol_row(tree.layout(), SymId(i)).symbol_type;
         values.set(i, Some(first_value(alloc, symbol_type)))?;

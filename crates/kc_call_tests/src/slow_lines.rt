@@ -12,7 +12,7 @@ use kc_user::value::UserValue;
 use kc_values::choices::selected_in;
 use kc_values::differs::member_differs;
 use kc_values::equation::own_equation;
-use kc_values::table::{Table, Value, name, value_of};
+use kc_values::table::{Table, name};
 use kc_values::truths::visibility;
 use kc_values::warnings;
 use kc_values::written::written;
@@ -28,15 +28,6 @@ fn chosen(user: &User, choice: ChoiceId) -> Option<SymId> {
     match user.choices().get(choice.0 as usize) {
         Some(Some(member)) => Some(*member),
         _ => None,
-    }
-}
-
-// Whether a place holds the value.
-fn holds(place: Option<&Value>, value: &Value) -> bool {
-    match (place, value) {
-        (Some(Value::Truth(a)), Value::Truth(b)) => *a == *b,
-        (Some(Value::Text(a)), Value::Text(b)) => a.as_slice() == b.as_slice(),
-        _ => false,
     }
 }
 
@@ -56,7 +47,7 @@ fn differs(
         return Ok(member_differs(selection, default, id));
     }
     match own_equation(alloc, table, id, symbol, None) {
-        Ok(without) => Ok(!holds(value_of(&table.values, id), &without)),
+        Ok(without) => Ok(!table.values.holds(id.0, &Some(without))),
         Err(fault) => Err(fault),
     }
 }

@@ -5,23 +5,23 @@ use Rattle.kc_user.specs.Sparse.{AreOwn, numbered}
 use Rattle.kc_user.proofs.UserLemmas.{map-replicate}
 
 module _ {T : Type 0} where
-  slice_get-set_same : (xs : List T) (i : ℕ) (x : T) → i < length xs → slice_get (slice_set xs i x) i ≡ Some x
+  pub slice_get-set_same : (xs : List T) (i : ℕ) (x : T) → i < length xs → slice_get (slice_set xs i x) i ≡ Some x
   slice_get-set_same [] i x below = absurd (omega (arith, below))
   slice_get-set_same (y ∷ ys) zero x below = refl
   slice_get-set_same (y ∷ ys) (suc i) x below = slice_get-set_same ys i x (omega (arith, below))
 
-  slice_get-set_other : (xs : List T) (i j : ℕ) (x : T) → j ≢ i → slice_get (slice_set xs i x) j ≡ slice_get xs j
+  pub slice_get-set_other : (xs : List T) (i j : ℕ) (x : T) → j ≢ i → slice_get (slice_set xs i x) j ≡ slice_get xs j
   slice_get-set_other [] i j x ne = refl
   slice_get-set_other (y ∷ ys) zero zero x ne = absurd (ne refl)
   slice_get-set_other (y ∷ ys) zero (suc j) x ne = refl
   slice_get-set_other (y ∷ ys) (suc i) zero x ne = refl
   slice_get-set_other (y ∷ ys) (suc i) (suc j) x ne = slice_get-set_other ys i j x (λ e. ne (ap suc e))
 
-  slice_get-last : (xs : List T) (x : T) → slice_get (xs ++ x ∷ []) (length xs) ≡ Some x
+  pub slice_get-last : (xs : List T) (x : T) → slice_get (xs ++ x ∷ []) (length xs) ≡ Some x
   slice_get-last [] x = refl
   slice_get-last (y ∷ ys) x = slice_get-last ys x
 
-  slice_get-front : (xs ys : List T) (i : ℕ) → i < length xs → slice_get (xs ++ ys) i ≡ slice_get xs i
+  pub slice_get-front : (xs ys : List T) (i : ℕ) → i < length xs → slice_get (xs ++ ys) i ≡ slice_get xs i
   slice_get-front [] ys i below = absurd (omega (arith, below))
   slice_get-front (x ∷ xs) ys zero below = refl
   slice_get-front (x ∷ xs) ys (suc i) below = slice_get-front xs ys i (omega (arith, below))

@@ -47,16 +47,6 @@ impl<T: Drop> SparseVec<T> {
         Ok(SparseVec { numbers, values })
     }
 
-    /// The same, with room for `room` values: up to that number, none is moved. The only error is that memory runs out. Then
-    /// nothing is kept.
-    pub fn with_room(alloc: Global, count: usize, room: usize) -> Result<SparseVec<T>, AllocError>
-        ensures { IfOk result (λ places. places ≡ replicate count None) }
-    {
-        let numbers = vec![in alloc; 0; count]?;
-        let values = Vec::with_capacity(alloc, room)?;
-        Ok(SparseVec { numbers, values })
-    }
-
     /// The number of entries.
     pub fn len(&self) -> usize
         ensures { result ≡ length self.now }

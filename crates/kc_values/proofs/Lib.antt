@@ -2,6 +2,8 @@ pub mod LineNames
 pub mod PlacesThere
 pub mod WalkSteps
 pub mod Same
+pub mod AllLemmas
+pub mod ReadAlike
 pub mod OnlyNamed
 pub mod TreeNeeds
 pub mod SameValue
@@ -38,3 +40,5 @@ pub mod UpgradeLemmas
 pub mod NumberTexts
 pub mod NewSymbols
 pub mod NewLines
+pub mod NodeWorth
+pub mod ValueLists

@@ -45,7 +45,7 @@ any_four t n a p q r (x ∷ xs) =
     regroup t n a p q r b c d e = grind arith
 
 -- a line with a default has no range
-apart : (x : Numbered) → is_some (stated_default x) ≡ true → range_in x ≡ None
+pub apart : (x : Numbered) → is_some (stated_default x) ≡ true → range_in x ≡ None
 apart (RangeLine a b w) h = absurd cc
 apart _ h = refl
 

@@ -1,6 +1,6 @@
 -- Lists whose symbols are known alike give the same.
 use Rattle.std.proofs.{Common.{Bool, List, None, Option, Some, [], ap, cond, false, map, refl, sym, true, ℕ, ◌++◌, ◌∷◌, ◌≡◌}, lemmas.Bool.{eq-eqb, eqb-true, true≢false}}
-use Rattle.std.specs.List.{AllByRecursion, find, flat_map}
+use Rattle.std.specs.List.{AllByRecursion, find}
 use Rattle.kc_language.specs.{Expressions.same_symbol, declared.expressions.SymId.SymId}
 
 -- P of each element
@@ -12,28 +12,26 @@ pub back_of : {X : Type 0} (P : X → Type 0) (xs ys : List X) → AllByRecursio
 back_of P [] ys h = h
 back_of P (x ∷ xs) ys h = back_of P xs ys h.1
 
-module _ {S X Z : Type 0} (P : S → Type 0) (names : X → List S) where
-  pub map_same : (f g : X → Z) → ((x : X) → AllByRecursion P (names x) → f x ≡ g x) → (xs : List X) → AllByRecursion P (flat_map names xs) → map f xs ≡ map g xs
-  map_same f g each [] h = refl
-  map_same f g each (x ∷ xs) h =
-      let e = each x (front_of P (names x) (flat_map names xs) h) in
-      let r = map_same f g each xs (back_of P (names x) (flat_map names xs) h) in
+either_same : {X Z : Type 0} (F G : Option X → Z) (x : X) (b c : Bool) (r q : Option X) → b ≡ c → F (Some x) ≡ G (Some x) → F r ≡ G q → F (cond b (Some x) r) ≡ G (cond c (Some x) q)
+either_same F G x true true r q e s t = s
+either_same F G x false false r q e s t = t
+either_same F G x true false r q e s t = absurd (true≢false e)
+either_same F G x false true r q e s t = absurd (true≢false (sym e))
+
+module _ {X Z : Type 0} (Q : X → Type 0) where
+  pub map_alike : (f g : X → Z) → ((x : X) → Q x → f x ≡ g x) → (xs : List X) → AllByRecursion Q xs → map f xs ≡ map g xs
+  map_alike f g each [] h = refl
+  map_alike f g each (x ∷ xs) h =
+      let e = each x h.0 in
+      let r = map_alike f g each xs h.1 in
       cc
 
-  either_same : (F G : Option X → Z) (x : X) (b c : Bool) (r q : Option X) → b ≡ c → F (Some x) ≡ G (Some x) → F r ≡ G q → F (cond b (Some x) r) ≡ G (cond c (Some x) q)
-  either_same F G x true true r q e s t = s
-  either_same F G x false false r q e s t = t
-  either_same F G x true false r q e s t = absurd (true≢false e)
-  either_same F G x false true r q e s t = absurd (true≢false (sym e))
-
   -- what is made of the first that passes
-  pub found_same : (p q : X → Bool) (F G : Option X → Z) → F None ≡ G None → ((x : X) → AllByRecursion P (names x) → p x ≡ q x) →
-      ((x : X) → AllByRecursion P (names x) → F (Some x) ≡ G (Some x)) → (xs : List X) → AllByRecursion P (flat_map names xs) → F (find p xs) ≡ G (find q xs)
-  found_same p q F G none test each [] h = none
-  found_same p q F G none test each (x ∷ xs) h =
-      let here = front_of P (names x) (flat_map names xs) h in
-      either_same F G x (p x) (q x) (find p xs) (find q xs) (test x here) (each x here)
-      (found_same p q F G none test each xs (back_of P (names x) (flat_map names xs) h))
+  pub found_alike : (p q : X → Bool) (F G : Option X → Z) → F None ≡ G None → ((x : X) → Q x → p x ≡ q x) →
+      ((x : X) → Q x → F (Some x) ≡ G (Some x)) → (xs : List X) → AllByRecursion Q xs → F (find p xs) ≡ G (find q xs)
+  found_alike p q F G none test each [] h = none
+  found_alike p q F G none test each (x ∷ xs) h =
+      either_same F G x (p x) (q x) (find p xs) (find q xs) (test x h.0) (each x h.0) (found_alike p q F G none test each xs h.1)
 
 abbrev numbered : ℕ → SymId
 numbered n = record { 0 = n }

@@ -6,6 +6,7 @@ pub mod Laws
 pub mod MadeRows
 pub mod Members
 pub mod NeedRows
+pub mod NodeWorth
 pub mod Nodes
 pub mod PartsOfNeeds
 pub mod PartsOfTexts
@@ -16,4 +17,5 @@ pub mod Sources
 pub mod Table
 pub mod TableFacts
 pub mod User
+pub mod ValueLists
 pub mod Warnings

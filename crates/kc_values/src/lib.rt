@@ -25,5 +25,6 @@ pub mod sources;
 pub mod table;
 pub mod texts;
 pub mod truths;
+pub mod value_list;
 pub mod warnings;
 pub mod written;

@@ -2,7 +2,6 @@
 
 ghost use Rattle.std.specs.Prelude.{◌≡◌, ◌∷◌, None, Some, length, replicate, slice_index_or, suc, IfOk};
 ghost use Rattle.kc_language.specs.declared.expressions.Tri.TheVariants.{Y};
-ghost use Rattle.std.specs.Option.{option_copied};
 ghost use Rattle.kc_tree.specs.Layouts.{IsLayoutOf};
 ghost use Rattle.kc_tree.specs.LaidTrees.{layout-prop};
 ghost use Rattle.kc_entries.specs.WellFormed.{IsWellFormed};
@@ -11,13 +10,13 @@ ghost use Rattle.kc_values.specs.Computed.{AreContextsComputed, AreVisiblesCompu
 ghost use Rattle.kc_values.specs.Table.{value_in, tri_in, text_in};
 ghost use Rattle.kc_language.specs.Values.{type_in};
 
+use crate::value_list::ValueList;
 use kc_expr::expression::{SymId, SymbolType, Tri};
 use kc_expr::values::Values;
 use kc_tree::laid_tree::LaidTree;
 use kc_tree::layout::Layout;
 use kc_tree::rows::{ChoiceId, EntryId, VisibleId};
 use kc_tree::tree::Tree;
-use kc_user::sparse::SparseVec;
 use std::alloc::{AllocError, Global};
 
 /// The value of a symbol: a truth value for a bool or tristate, a text for other types (kconfiglib's `tri_value` and
@@ -52,7 +51,7 @@ pub struct Table<'t> {
     /// Its layout.
     pub layout: &'t Layout,
     /// A place for each symbol, by number.
-    pub values: SparseVec<Value>,
+    pub values: ValueList,
     /// What each entry depends on, if that is computed.
     pub contexts: Vec<Option<Tri>>,
     /// What each menu asks of what is visible, if that is computed.
@@ -80,7 +79,7 @@ impl<'t> Table<'t> {
         ensures selections { IfOk result (λ t. t.selections.items ≡ replicate (length laid.now.layout.now.choices.items) None) }
     {
         let LaidTree { tree, layout } = *laid;
-        let values = SparseVec::with_room(alloc, tree.name_count(), layout.defined().len())?;
+        let values = ValueList::empty(alloc, tree.name_count())?;
         let mut contexts = vec![in alloc; None; layout.place_count()]?;
         contexts[0] = Some(Tri::Y);
         let visibles = vec![in alloc; None; layout.visible_count()]?;
@@ -138,13 +137,6 @@ impl<'t> Table<'t> {
     }
 }
 
-/// The value of a symbol, if computed (our own).
-pub fn value_of(values: &SparseVec<Value>, id: SymId) -> Option<&Value>
-    ensures { option_copied result ≡ value_in values.now id }
-{
-    values.get(id.0)
-}
-
 impl<'t> Values for Table<'t> {
     ghost tri_of = { λ t s. tri_in (value_in t.values s) };
 
@@ -155,16 +147,13 @@ impl<'t> Values for Table<'t> {
     ghost modules_of = { λ t. t.tree.now.modules };
 
     fn tri(&self, id: SymId) -> Tri {
-        match value_of(&self.values, id) {
-            Some(Value::Truth(tri)) => *tri,
-            _ => Tri::N,
-        }
+        self.values.tri(id.0)
     }
 
     fn text(&self, id: SymId) -> &[u8] {
-        match value_of(&self.values, id) {
-            Some(Value::Text(text)) => text,
-            _ => name(self.tree, id),
+        match self.values.text(id.0) {
+            Some(text) => text,
+            None => name(self.tree, id),
         }
     }
 
