@@ -1,5 +1,6 @@
 -- The turns of many configurations, and the tree before them.
 use Rattle.std.proofs.Common.{◌≡◌, ◌⊎◌, inl, inr, ℕ, suc, ◌+◌, ◌-◌, ◌<◌, ◌≤◌, Bool, true, false, List, [], refl, sym, subst, ◌∙◌, Option, None, Some, Result, Ok, Err, arith}
+use Rattle.std.specs.Prelude.{IfOk}
 use Rattle.kc_language.specs.Expansion.{AreOpened, Files}
 use Rattle.kc_language.specs.Symbols.{TreeFacts}
 use Rattle.kc_outcome.specs.Outcome.{Options, IsAcceptedTree, lines_text, root_file}
@@ -14,7 +15,7 @@ use Rattle.kc_read.specs.declared.refusal.Refusal.{Refusal}
 use Rattle.kc_conf.specs.Accepted.{AreKept, IsAcceptedOf, IsOrderedOf, IsRefusalOf}
 use Rattle.kc_conf.specs.Endings.{RefusesTree}
 use Rattle.kc_conf.specs.Faults.{event_of}
-use Rattle.kc_conf.specs.Many.{AreRootedAt, CannotSay, KeepsFor, RunsAll, TakeTurns, TakesTurn, greater, last, next, no_memory, none, refused_tree, stops, unsaid_refusal, unsaid_warnings}
+use Rattle.kc_conf.specs.Many.{AreRootedAt, CannotSay, KeepsFor, RunsAll, TakeTurns, TakesTurn, greater, last, next, no_memory, no_options, none, refused_tree, runs, stops, unsaid_refusal, unsaid_warnings}
 use Rattle.kc_conf.specs.PartRuns.{AnswersAll, EndsEach, SaysLines}
 use Rattle.kc_conf.specs.Reads.{IsReportStop}
 use Rattle.kc_conf.specs.declared.accepted.OrderedTree.{OrderedTree}
@@ -79,6 +80,12 @@ module _ {turn : Options → Log → Log → Status → Bool → Type 0} {option
       subst (λ (s : Status). TakeTurns turn options 0 count old mid s) (greater-done status)
       (so_far.with mid Done (subst (λ (n : ℕ). TakeTurns turn options i n mid mid Done) e (none i mid)))
 
+-- the turn of options that were given is that of possible ones
+pub TakesTurn-given : {E : Type 0} {turn : Options → Log → Log → Status → Bool → Type 0} {are_options : Options → Type 0} {given : Result Options E} {old new : Log} {status : Status} {is_over : Bool} →
+    IfOk given are_options → TakesTurn turn (λ own. given ≡ Ok own) old new status is_over → TakesTurn turn are_options old new status is_over
+TakesTurn-given {are_options = are_options} possible (runs own is taken) = runs own (subst (λ r. IfOk r are_options) is possible) taken
+TakesTurn-given possible (no_options said faulted over) = no_options said faulted over
+
 -- ---- the tree
 
 -- the diagnostics are what failed
@@ -103,7 +110,7 @@ module _ (turn : TreeFacts → Options → Log → Log → Status → Bool → T
   -- what is answered
   pub RunsAll-answered : (result : Result Status Stop) (status : Status) (new : Log) → EndsEach turn files root options count result old mid → AnswersAll result status mid new →
       RunsAll turn files root options count old new status
-  RunsAll-answered (Ok ended) status new runs (is, same) = rw (is, same) runs
+  RunsAll-answered (Ok ended) status new ran (is, same) = rw (is, same) ran
   RunsAll-answered (Err OutOfMemory) status new log (is, (report, said)) = stops (no_memory (report, Leads-then log said) is)
   RunsAll-answered (Err (Failed f)) status new ends (is, same) = rw (is, same) (stops ends)
 

@@ -1,6 +1,6 @@
 //! A run for many configurations of one tree: it reads the tree once, and the configurations take their turns.
 ghost use Rattle.kc_read.specs.Files.{files_in};
-ghost use Rattle.std.specs.Prelude.{◌≡◌, ◌<◌, ℕ, Bool, List, IfOk};
+ghost use Rattle.std.specs.Prelude.{◌≡◌, ◌<◌, ℕ, Bool, List, Ok, IfOk};
 ghost use Rattle.kc_language.specs.Expansion.{Files};
 ghost use Rattle.kc_language.specs.Symbols.{TreeFacts};
 ghost use Rattle.kc_io.specs.Log.{Log};
@@ -96,24 +96,22 @@ impl Task for Running {
     }
 }
 
-// The turn of the configuration of this number.
-fn take_turn<C: Configurations, T: Task, D: Device>(
+// The turn of the configuration with these options, if there was enough memory for them.
+fn take_turn<T: Task, D: Device>(
     alloc: Global,
-    configurations: &C,
-    i: usize,
+    options: Result<Options, AllocError>,
     task: &T,
     accepted: &OrderedTree<'_>,
     device: &mut D,
     again: &mut Again,
 ) -> Turn
-    requires within { i < C.number configurations.now }
     requires again { IsAgainOf accepted.now.laid again.old }
     requires ready { T.is_ready task.now accepted.now }
     ensures again { IsAgainOf accepted.now.laid again.new }
-    ensures turn { (files : Files) → ((options : Options) → C.options configurations.now i options → IsAcceptedOf files options accepted.now) →
-        TakesTurn (T.leaves task.now files accepted.now.laid.tree.now) (C.options configurations.now i) (D.log device.old) (D.log device.new) result.status result.is_over }
+    ensures turn { (files : Files) → IfOk options (λ own. IsAcceptedOf files own accepted.now) →
+        TakesTurn (T.leaves task.now files accepted.now.laid.tree.now) (λ own. options ≡ Ok own) (D.log device.old) (D.log device.new) result.status result.is_over }
 {
-    match configurations.options_of(alloc, i) {
+    match options {
         Ok(options) => task.take(alloc, &options, accepted, device, again),
         Err(_) => {
             say_no_memory(device);
@@ -155,7 +153,8 @@ fn take_turns<C: Configurations, T: Task, D: Device>(
 {
     let mut status = Status::Done;
     for i in 0..configurations.count() {
-        let turn = take_turn(alloc, configurations, i, task, accepted, device, again);
+        let options = configurations.options_of(alloc, i);
+        let turn = take_turn(alloc, options, task, accepted, device, again);
         status = greater(status, turn.status);
         if turn.is_over {
             return status;
@@ -188,7 +187,7 @@ pub(crate) fn all_turns<C: Configurations, T: Task, D: Device>(
 }
 
 // For so few configurations nothing is kept of a solution: what the nodes need would take more steps than it saves.
-const FEW_CONFIGURATIONS: usize = 8;
+const FEW_CONFIGURATIONS: usize = 4;
 
 // What is kept from one configuration to the next, if there are so many that it saves steps.
 fn kept_between(
@@ -196,10 +195,11 @@ fn kept_between(
     accepted: &OrderedTree<'_>,
     count: usize,
 ) -> Result<Again, AllocError>
+    requires { IsReady accepted.now }
     ensures { IfOk result (IsAgainOf accepted.now.laid) }
 {
     if count > FEW_CONFIGURATIONS {
-        Again::of(alloc, &accepted.laid)
+        Again::of(alloc, &accepted.laid, &accepted.order)
     } else {
         Ok(Again::never())
     }

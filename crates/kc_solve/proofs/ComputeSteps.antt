@@ -32,11 +32,11 @@ front_longer xs j k t l b c =
     let w = in_front xs j t (omega arith) c in
     subst (Contains (take k xs)) w.2 (front_has xs k w.0 (omega (arith, w.1)) b)
 
-front_cases : (xs : List ℕ) (k t : ℕ) → k < length xs → Contains (take (k + 1) xs) t → Contains (take k xs) t ⊎ (get_or xs k 0 ≡ t)
+pub front_cases : (xs : List ℕ) (k t : ℕ) → k < length xs → Contains (take (k + 1) xs) t → Contains (take k xs) t ⊎ (get_or xs k 0 ≡ t)
 front_cases xs k t l c = Contains-push_cases (take k xs) (get_or xs k 0) t (subst (λ ys. Contains ys t) (take_more xs k 0 l) c)
 
 -- what is known stays but for one symbol
-known_but : (k m : SymId → SymbolValue) (id : SymId) → ((s : SymId) → (s.0 ≡ id.0 → ⊥) → m s ≡ k s) → (names : List SymId) → (Contains names id → ⊥) → AllByRecursion (λ s. k s ≡ m s) names
+pub known_but : (k m : SymId → SymbolValue) (id : SymId) → ((s : SymId) → (s.0 ≡ id.0 → ⊥) → m s ≡ k s) → (names : List SymId) → (Contains names id → ⊥) → AllByRecursion (λ s. k s ≡ m s) names
 known_but k m id others [] without = tt
 known_but k m id others (s ∷ names) without =
     let numbered : ℕ → SymId = λ n. record { 0 = n } in
@@ -72,7 +72,7 @@ module _ (tree : TreeFacts) (l : Layout) (nodes : List ℕ) (order : IsNodeOrder
       not_before k t b (front_longer nodes j k t up (omega (arith, b)) first) here
 
   -- an earlier node does not name a later one
-  not_named : (k m s : ℕ) (n : Node) → k < length nodes → Contains (take k nodes) m → IsNode l m n → get_or nodes k 0 ≡ s → s < name_count tree →
+  pub not_named : (k m s : ℕ) (n : Node) → k < length nodes → Contains (take k nodes) m → IsNode l m n → get_or nodes k 0 ≡ s → s < name_count tree →
       Contains (names_of_node tree l n) (symbol s) → ⊥
   not_named k m s n b before is here below c =
       let w = in_front nodes k m (omega (arith, b)) before in
@@ -351,7 +351,7 @@ solves tree l given chosen base nodes values slots undefined count done s lt = b
         ∙ undefined s (valuation tree values) lt (λ c. none (All-contains (λ (t : SymId). Contains nodes t.0) tree.defined (symbol s) done.order.defined_there c))
 
 -- What is computed stays right as a symbol that it does not name is computed.
-lesser_all : (t : Tri) → lesser t Y ≡ t
+pub lesser_all : (t : Tri) → lesser t Y ≡ t
 lesser_all N = refl
 lesser_all M = refl
 lesser_all Y = refl
@@ -401,45 +401,47 @@ either_way (Ok x) P old put new done failed p q = subst P (sym done) p
 either_way (Err e) P old put new done failed p q = subst P (sym failed) q
 
 -- one more node of a table
-module _ (tree : TreeFacts) (given : List (Option UserValue)) (chosen : List (Option SymId)) (base : List (Option Value)) (nodes : List ℕ) (k : ℕ) (old new : Table) (now : IsComputedTable tree given chosen base nodes k old)
+module _ (tree : TreeFacts) (l : Layout) (given : List (Option UserValue)) (chosen : List (Option SymId)) (base : List (Option Value)) (nodes : List ℕ) (k : ℕ) (old new : Table) (now : IsComputedTable tree l given chosen base nodes k old)
     (b : k < length nodes) where
   abbrev IsNextOf : List (Option Value) → Slots → Type 0
   IsNextOf values slots = IsComputedTo tree old.layout.now given chosen base nodes (k + 1) values slots
 
-  next_of : KeepsTree old new → (values : List (Option Value)) (slots : Slots) → new.values ≡ values → slots_of new ≡ slots → IsNextOf values slots → IsComputedTable tree given chosen base nodes (k + 1) new
+  next_of : KeepsTree old new → (values : List (Option Value)) (slots : Slots) → new.values ≡ values → slots_of new ≡ slots → IsNextOf values slots → IsComputedTable tree l given chosen base nodes (k + 1) new
   next_of keeps values slots v s next =
       let a = subst (λ x. IsNextOf x slots) (sym v) next in
-      let c = subst (IsNextOf new.values) (sym s) a in
-      (ap (λ t. t.now) keeps.tree ∙ now.0, subst (λ l. IsComputedTo tree l.now given chosen base nodes (k + 1) new.values (slots_of new)) (sym keeps.layout) c)
+      let c = subst (IsNextOf new.values) (sym s) a in (
+        ap (λ t. t.now) keeps.tree ∙ now.0,
+        subst (λ m. IsComputedTo tree m.now given chosen base nodes (k + 1) new.values (slots_of new)) (sym keeps.layout) c,
+        ap (λ m. m.now) keeps.layout ∙ now.2,
+      )
 
-  pub symbol_next : (id : SymId) → get_or nodes k 0 ≡ id.0 → id.0 < name_count tree → length old.values ≡ name_count tree → IsComputedSymbol given chosen id old new → IsComputedTable tree given chosen base nodes (k + 1) new
+  pub symbol_next : (id : SymId) → get_or nodes k 0 ≡ id.0 → id.0 < name_count tree → length old.values ≡ name_count tree → IsComputedSymbol given chosen id old new → IsComputedTable tree l given chosen base nodes (k + 1) new
   symbol_next id at below full f =
-      let l = old.layout.now in
-      let free = unread tree l given chosen base nodes k old.values (slots_of old) now.1 b id.0 at below in
+      let free = unread tree old.layout.now given chosen base nodes k old.values (slots_of old) now.1 b id.0 at below in
       let values = subst (λ u. AreComputedValues u given chosen id old.values new.values) now.0 f.values in
       next_of f.keeps new.values (slots_of old) refl
       (λ j. record { contexts = (f.contexts j).items; visibles = (f.visibles j).items; dependencies = (f.dependencies j).items; selections = (f.selections j).items })
-      (symbol_computed tree l given chosen base nodes k old.values (slots_of old) now.1 b id new.values at below full free values)
+      (symbol_computed tree old.layout.now given chosen base nodes k old.values (slots_of old) now.1 b id new.values at below full free values)
 
-  pub visible_next : (v : ℕ) → get_or nodes k 0 ≡ visible_number old.layout.now v → IsComputedVisible v old new → IsComputedTable tree given chosen base nodes (k + 1) new
+  pub visible_next : (v : ℕ) → get_or nodes k 0 ≡ visible_number old.layout.now v → IsComputedVisible v old new → IsComputedTable tree l given chosen base nodes (k + 1) new
   visible_next v at f =
       next_of f.keeps old.values (record (slots_of old) { visibles = new.visibles.items }) f.values
       (λ j. record { contexts = (f.contexts j).items; visibles = new.visibles.items; dependencies = (f.dependencies j).items; selections = (f.selections j).items })
       (visible_computed tree old.layout.now given chosen base nodes k old.values (slots_of old) now.1 b v new.visibles.items at f.visibles)
 
-  pub context_next : (i : ℕ) → get_or nodes k 0 ≡ context_number old.layout.now i → IsComputedContext i old new → IsComputedTable tree given chosen base nodes (k + 1) new
+  pub context_next : (i : ℕ) → get_or nodes k 0 ≡ context_number old.layout.now i → IsComputedContext i old new → IsComputedTable tree l given chosen base nodes (k + 1) new
   context_next i at f =
       next_of f.keeps old.values (record (slots_of old) { contexts = new.contexts.items }) f.values
       (λ j. record { contexts = new.contexts.items; visibles = (f.visibles j).items; dependencies = (f.dependencies j).items; selections = (f.selections j).items })
       (context_computed tree old.layout.now given chosen base nodes k old.values (slots_of old) now.1 b i new.contexts.items at f.contexts)
 
-  pub dependency_next : (i : ℕ) → get_or nodes k 0 ≡ dependency_number old.layout.now i → IsComputedDependency i old new → IsComputedTable tree given chosen base nodes (k + 1) new
+  pub dependency_next : (i : ℕ) → get_or nodes k 0 ≡ dependency_number old.layout.now i → IsComputedDependency i old new → IsComputedTable tree l given chosen base nodes (k + 1) new
   dependency_next i at f =
       next_of f.keeps old.values (record (slots_of old) { dependencies = new.dependencies.items }) f.values
       (λ j. record { contexts = (f.contexts j).items; visibles = (f.visibles j).items; dependencies = new.dependencies.items; selections = (f.selections j).items })
       (dependency_computed tree old.layout.now given chosen base nodes k old.values (slots_of old) now.1 b i new.dependencies.items at f.dependencies)
 
-  pub choice_next : (i : ℕ) → get_or nodes k 0 ≡ choice_number old.layout.now i → IsComputedSelection chosen i old new → IsComputedTable tree given chosen base nodes (k + 1) new
+  pub choice_next : (i : ℕ) → get_or nodes k 0 ≡ choice_number old.layout.now i → IsComputedSelection chosen i old new → IsComputedTable tree l given chosen base nodes (k + 1) new
   choice_next i at f =
       let here = subst (λ u. IsSelection u old.values new.selections.items i (slice_index_or chosen i None)) now.0 f.here in
       next_of f.keeps old.values (record (slots_of old) { selections = new.selections.items }) f.values
@@ -450,7 +452,7 @@ module _ (tree : TreeFacts) (given : List (Option UserValue)) (chosen : List (Op
 pub begins_at : (tree : TreeFacts) (l : Layout) (given : List (Option UserValue)) (chosen : List (Option SymId)) (base : List (Option Value)) (nodes : List ℕ) (t : Table) → IsLayoutOf tree l → IsNodeOrder tree l nodes → t.tree.now ≡ tree → t.layout.now ≡ l →
     length t.values ≡ length l.symbols.items → ((s : ℕ) → known_in tree t.values (symbol s) ≡ known_in tree base (symbol s)) →
     t.contexts.items ≡ Some Y ∷ replicate (length l.places.items) None → t.visibles.items ≡ replicate (suc (length l.visibles.items)) None →
-    t.dependencies.items ≡ replicate (length l.choices.items) None → t.selections.items ≡ replicate (length l.choices.items) None → IsComputedTable tree given chosen base nodes 0 t
+    t.dependencies.items ≡ replicate (length l.choices.items) None → t.selections.items ≡ replicate (length l.choices.items) None → IsComputedTable tree l given chosen base nodes 0 t
 begins_at tree l given chosen base nodes t laid order same at count v c w d s =
     let slots : slots_of t
     ≡ record {
@@ -462,12 +464,13 @@ begins_at tree l given chosen base nodes t laid order same at count v c w d s =
       same,
       subst (λ m. IsComputedTo tree m given chosen base nodes 0 t.values (slots_of t)) (sym at)
           (subst (λ x. IsComputedTo tree l given chosen base nodes 0 t.values x) (sym slots) (begins tree l given chosen base nodes t.values laid order count v)),
+      at,
     )
 
 -- a table after all nodes
-pub solves_at : (tree : TreeFacts) (given : List (Option UserValue)) (chosen : List (Option SymId)) (base : List (Option Value)) (nodes : List ℕ) (t : Table) →
-    (IsWellFormed tree → AreUndefinedWorth tree (places given chosen) base) → IsComputedTable tree given chosen base nodes (length nodes) t →
+pub solves_at : (tree : TreeFacts) (l : Layout) (given : List (Option UserValue)) (chosen : List (Option SymId)) (base : List (Option Value)) (nodes : List ℕ) (t : Table) →
+    (IsWellFormed tree → AreUndefinedWorth tree (places given chosen) base) → IsComputedTable tree l given chosen base nodes (length nodes) t →
     Solves (name_count tree) (equations tree (places given chosen)) (valuation tree t.values)
-solves_at tree given chosen base nodes t undefined done s lt =
+solves_at tree l given chosen base nodes t undefined done s lt =
     ∥∥₁_elim t.formed (Coded-set symbol_value_code _ _) (λ formed.
     solves tree t.layout.now given chosen base nodes t.values (slots_of t) (undefined (subst IsWellFormed done.0 formed)) (done.1.value_count ∙ row_count t ∙ ap name_count done.0) done.1 s lt)

@@ -1,6 +1,8 @@
 pub mod TableSteps
 pub mod ComputeSteps
 pub mod AgainSteps
+pub mod RenewSteps
+pub mod PlanSteps
 pub mod GroupNames
 pub mod UserSteps
 pub mod WarningSteps

@@ -11,7 +11,7 @@ use Rattle.kc_tree.proofs.{EntryListLemmas.definitions-at, ListLemmas.kept-there
 use Rattle.kc_values.specs.{NeedRows.AreNodeRows, Nodes.{IsNode, first_context, first_dependency, node_count}, declared.nodes.Node.Node}
 use Rattle.kc_values.specs.declared.nodes.Node.TheVariants as node
 use Rattle.kc_values.proofs.AnyLemmas.{any_filter, stands_in}
-use Rattle.kc_solve.specs.{Busy.{asks_itself, is_busy, is_defined}, Orders.{IsNodeOrder, IsRowOrder, names_of_node}}
+use Rattle.kc_solve.specs.{Busy.{asks_itself, is_busy, is_defined}, Orders.{IsNodeOrder, names_of_node}}
 
 -- Lists without some of their numbers.
 module _ (p : ℕ → Bool) where
@@ -171,14 +171,4 @@ module _ (tree : TreeFacts) (formed : IsWellFormed tree) (l : Layout) (laid : Is
         let symbols : s < g.symbols = omega (arith, below, laid.symbol_count, made.symbols_are) in
         before k t h (subst (λ ns. Contains ns t) (needs_stand g is s symbols) (alike.back s t c)) here;
     names_first = names_first;
-  }
-
-  -- every graph of these rows is the same graph
-  same_graph : (h : Nodes) → AreNodeRows tree l h → h ≡ g
-  same_graph h rows = λ j. record { symbols = (rows.symbols_are ∙ sym made.symbols_are) j; rows = (rows.rows_are ∙ sym made.rows_are) j }
-
-  pub row_order : IsRowOrder tree l busy
-  row_order = record {
-    rows_first = λ h k t rows below c here.
-        before k t below (subst (λ (n : Nodes). Contains (flat_map (stands_for n.symbols (groups_of n)) (needs_in n.rows (get_or busy k 0))) t) (same_graph h rows) c) here;
   }

@@ -131,8 +131,8 @@ pub record IsComputedTo (tree : TreeFacts) (l : Layout) (given : List (Option Us
   pub choices_among : AreAmong (choice_number l) (take k nodes) slots.selections
   pub selected_are : (c : ℕ) → IsSelection tree values slots.selections c (slice_index_or chosen c None)
 
-abbrev pub IsComputedTable : TreeFacts → List (Option UserValue) → List (Option SymId) → List (Option Value) → List ℕ → ℕ → Table → Type 0
-IsComputedTable tree given chosen base nodes k t = (t.tree.now ≡ tree) × IsComputedTo tree t.layout.now given chosen base nodes k t.values (slots_of t)
+abbrev pub IsComputedTable : TreeFacts → Layout → List (Option UserValue) → List (Option SymId) → List (Option Value) → List ℕ → ℕ → Table → Type 0
+IsComputedTable tree l given chosen base nodes k t = (t.tree.now ≡ tree) × IsComputedTo tree t.layout.now given chosen base nodes k t.values (slots_of t) × (t.layout.now ≡ l)
 
 -- a full table that solves the equations for these user values, and selects for the members chosen
 pub record IsSolvedTable (tree : TreeFacts) (user : UserPlace → Option GivenValue) (chosen : List (Option SymId)) (t : Table) : Type 0 where

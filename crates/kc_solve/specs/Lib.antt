@@ -1,3 +1,4 @@
+pub mod Plans
 pub mod PlaceLists
 pub mod Refused
 pub mod Renewing

@@ -1,9 +1,8 @@
 -- Trusted: An order of the nodes of a tree for which something is computed.
-use Rattle.std.specs.{List.{All, Contains, IsDistinct, flat_map}, Prelude.{List, None, Option, Some, [], length, nat_eq, slice_get, slice_index_or, take, ℕ, ◌<◌, ◌≡◌}}
+use Rattle.std.specs.{List.{All, Contains, IsDistinct}, Prelude.{List, None, Option, Some, [], length, nat_eq, slice_get, slice_index_or, take, ℕ, ◌<◌, ◌≡◌}}
 use Rattle.kc_language.specs.{Expressions.symbol, Needs.{IsAccepted, condition_names, names_of_choice, needs, needs_in}, Symbols.{Condition, TreeFacts}, Values.{choice_at, name_count}, declared.expressions.SymId.SymId}
 use Rattle.kc_tree.specs.{Layouts.{choice_dependency, condition_at, visible_at}, declared.{laid_tree.LaidTree.LaidTree, layout.Layout.Layout}}
-use Rattle.kc_order.specs.Graph.{Nodes, groups_of, stands_for}
-use Rattle.kc_values.specs.{NeedRows.AreNodeRows, Nodes.{IsNode, node_count}, declared.nodes.Node.Node}
+use Rattle.kc_values.specs.{Nodes.{IsNode, node_count}, declared.nodes.Node.Node}
 use Rattle.kc_values.specs.declared.nodes.Node.TheVariants as node
 
 -- what a menu and the menus around it ask of what is visible, and what a choice depends on itself, as conditions
@@ -30,13 +29,7 @@ pub record IsNodeOrder (tree : TreeFacts) (l : Layout) (nodes : List ℕ) : Type
   pub names_first : (k : ℕ) (n : Node) (s : ℕ) → k < length nodes → IsNode l (slice_index_or nodes k 0) n → s < name_count tree → Contains (names_of_node tree l n) (symbol s) → Contains nodes s →
       Contains (take k nodes) s
 
--- What the row of a node stands for in the graph of needs, stands before the node if it stands there at all.
-pub record IsRowOrder (tree : TreeFacts) (l : Layout) (nodes : List ℕ) : Type 0 where
-  pub rows_first : (g : Nodes) (k t : ℕ) → AreNodeRows tree l g → k < length nodes → Contains (flat_map (stands_for g.symbols (groups_of g)) (needs_in g.rows (slice_index_or nodes k 0))) t → Contains nodes t →
-      Contains (take k nodes) t
-
 -- so the tree has such an order, and is accepted
 pub record IsOrderOf (laid : LaidTree) (nodes : List ℕ) : Type 0 where
   pub accepted : IsAccepted laid.tree.now
   pub nodes_are : IsNodeOrder laid.tree.now laid.layout.now nodes
-  pub rows : IsRowOrder laid.tree.now laid.layout.now nodes

@@ -126,7 +126,8 @@ pub(crate) fn compute<'t>(
     requires order { IsNodeOrder laid.now.tree.now laid.now.layout.now nodes.now }
     requires given { length given.now ≡ name_count laid.now.tree.now }
     requires chosen { length chosen.now ≡ length laid.now.tree.now.choices }
-    ensures { IfOk result (IsSolvedTable laid.now.tree.now (places given.now chosen.now) chosen.now) }
+    ensures solved { IfOk result (IsSolvedTable laid.now.tree.now (places given.now chosen.now) chosen.now) }
+    ensures layout { IfOk result (λ t. t.layout.now ≡ laid.now.layout.now) }
 {
     let mut table = Table::empty(alloc, laid)?;
     for node in nodes {

@@ -5,7 +5,7 @@ ghost use Rattle.kc_language.specs.Needs.{needs_in, arrows, loop_text, needs, Is
 ghost use Rattle.kc_order.specs.Needs.{SomeUnordered};
 ghost use Rattle.kc_read.specs.RefusalView.{IsMemory, refusal_view};
 ghost use Rattle.kc_language.specs.declared.diagnostics.Cause.TheVariants.{Memory};
-ghost use Rattle.kc_solve.specs.Orders.{IsNodeOrder, IsOrderOf, IsRowOrder};
+ghost use Rattle.kc_solve.specs.Orders.{IsNodeOrder, IsOrderOf};
 ghost use Rattle.kc_solve.specs.Busy as busy;
 ghost use Rattle.kc_language.specs.Needs as refused;
 ghost use Rattle.kc_solve.specs.Refused.{NamesLoop};
@@ -180,7 +180,6 @@ fn busy_nodes(alloc: Global, layout: &Layout, nodes: &[u32]) -> Result<Vec<u32>,
 // the text of the loop that is named, and for being out of memory.
 fn tree_order(alloc: Global, laid: &LaidTree<'_>) -> Result<Vec<u32>, LoopFault>
     ensures order { IfOk result (λ v. IsNodeOrder laid.now.tree.now laid.now.layout.now v.items) }
-    ensures rows { IfOk result (λ v. IsRowOrder laid.now.tree.now laid.now.layout.now v.items) }
     ensures accepted { OnOk result (IsAccepted laid.now.tree.now) }
     ensures refused { IfErr result (NamesTheLoop laid.now.tree.now) }
 {

@@ -6,9 +6,13 @@
 //! - [`Solved`]: the solution, and what follows from it: which symbols are written, which differ, and the warnings.
 
 pub mod again;
+mod asked;
 mod compute;
 pub mod evaluation_order;
 mod flags;
+mod plan;
+mod renewing;
+mod slots;
 pub mod solve;
 pub mod solved;
 mod sources;

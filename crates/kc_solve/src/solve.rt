@@ -1,11 +1,12 @@
 //! The one valuation that solves the equations of a tree.
 
-ghost use Rattle.std.specs.Prelude.{IfOk};
+ghost use Rattle.std.specs.Prelude.{◌≡◌, IfOk};
 ghost use Rattle.kc_language.specs.Needs.{IsAccepted};
 ghost use Rattle.kc_solve.specs.Orders.{IsOrderOf};
 ghost use Rattle.kc_solve.specs.Computing.{IsSolvedTable};
 ghost use Rattle.kc_language.specs.Texts.{IsSolutionFor};
 ghost use Rattle.kc_solve.specs.SolvedLaws.{IsMinimal, IdempotentWhere};
+ghost use Rattle.kc_solve.specs.Tables.{IsTableOf};
 ghost use Rattle.kc_language.specs.ConfigFile.{ArePlacesOf, place_at};
 
 use crate::compute::compute;
@@ -27,7 +28,8 @@ pub(crate) fn full_table<'t>(
 ) -> Result<Table<'t>, AllocError>
     requires order { IsOrderOf laid.now order.now }
     requires user { ArePlacesOf laid.now.tree.now user.now }
-    ensures { IfOk result (IsSolvedTable laid.now.tree.now (place_at user.now) user.now.choices) }
+    ensures solved { IfOk result (IsSolvedTable laid.now.tree.now (place_at user.now) user.now.choices) }
+    ensures layout { IfOk result (λ t. t.layout.now ≡ laid.now.layout.now) }
 {
     let given = user.symbols();
     let chosen = user.choices();
@@ -46,6 +48,7 @@ pub(crate) fn solved_of<'t, 'u>(
     requires user { ArePlacesOf table.tree.now user.now }
     requires table { IsSolvedTable table.tree.now (place_at user.now) user.now.choices table }
     ensures solution { IfOk result (IsSolutionFor table.entry.tree.now user.now) }
+    ensures table { IfOk result (λ solved. IsTableOf solved table.entry) }
     ensures minimal { IfOk result IsMinimal }
     ensures idempotent { IfOk result IdempotentWhere }
 {

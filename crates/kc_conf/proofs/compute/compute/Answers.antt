@@ -18,4 +18,4 @@ returns-clause-computes c = λ files opened listed are.
     c.in_ok-solved.ensures.solution.tree_is (c.in_ok-texts.ensures.computes files opened listed are)
 
 pub returns-clause-again : goal.returns-clause-again
-returns-clause-again c = c.keep.ensures c.args.accepted.now.laid (sym c.in_ok-solved.ensures.solution.tree_is) c.in_ok-solved.ensures.again
+returns-clause-again c = c.keep.ensures c.args.accepted.now.laid (sym c.in_ok-solved.ensures.solution.tree_is) c.in_ok-solved.ensures.stage c.in_ok-solved.ensures.again

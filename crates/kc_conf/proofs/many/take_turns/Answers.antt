@@ -1,6 +1,7 @@
 -- One turn after another.
 use Rattle.std.proofs.Common.{◌<◌, ◌≤◌, ℕ, arith, subst}
-use Rattle.kc_conf.proofs.ManyLemmas.{TakeTurns-all, TakeTurns-last, TurnsSoFar-next, TurnsSoFar-none}
+use Rattle.std.proofs.lemmas.Result.{IfOk-weaker}
+use Rattle.kc_conf.proofs.ManyLemmas.{TakeTurns-all, TakeTurns-last, TakesTurn-given, TurnsSoFar-next, TurnsSoFar-none}
 use Rattle.kc_conf.proofs.many.take_turns.Goals as goal
 
 pub loop-i-init : goal.loop-i-init
@@ -11,13 +12,15 @@ loop-i-preserved g c = record {
   again = c.take_turn-turn.ensures.again;
   turns = λ files of.
       rw c.greater-status.ensures
-      (TurnsSoFar-next (c.loop-i.invariant.turns files of) (subst (λ (n : ℕ). c.loop-i.i < n) c.count-i-end.ensures c.loop-i-test.true) (rw c.if-turn.false at c.take_turn-turn.ensures.turn files (of c.loop-i.i)));
+      (TurnsSoFar-next (c.loop-i.invariant.turns files of) (subst (λ (n : ℕ). c.loop-i.i < n) c.count-i-end.ensures c.loop-i-test.true)
+      (TakesTurn-given c.options_of-options.ensures (rw c.if-turn.false at c.take_turn-turn.ensures.turn files (IfOk-weaker c.options_of-options.result _ _ (of c.loop-i.i) c.options_of-options.ensures))));
 }
 
 pub returns-then-turn : goal.returns-then-turn
 returns-then-turn g c = λ files of.
     rw c.greater-status.ensures
-    (TakeTurns-last (c.loop-i.invariant.turns files of) (subst (λ (n : ℕ). c.loop-i.i < n) c.count-i-end.ensures c.loop-i-test.true) (rw c.if-turn.true at c.take_turn-turn.ensures.turn files (of c.loop-i.i)))
+    (TakeTurns-last (c.loop-i.invariant.turns files of) (subst (λ (n : ℕ). c.loop-i.i < n) c.count-i-end.ensures c.loop-i-test.true)
+    (TakesTurn-given c.options_of-options.ensures (rw c.if-turn.true at c.take_turn-turn.ensures.turn files (IfOk-weaker c.options_of-options.result _ _ (of c.loop-i.i) c.options_of-options.ensures))))
 
 pub returns : goal.returns
 returns g c = λ files of.

@@ -64,6 +64,7 @@ compute_selection-requires-clause-chosen c =
 pub loop-node-preserved : goal.loop-node-preserved
 loop-node-preserved c =
     let tree = c.args.laid.now.tree.now in
+    let l = c.args.laid.now.layout.now in
     let given = c.args.given.now in
     let chosen = c.args.chosen.now in
     let nodes = c.args.nodes.now in
@@ -74,32 +75,40 @@ loop-node-preserved c =
     let names = ap name_count now.0 in
     elim c.match-node_of.branch [
       | in-Symbol+in_ok-compute_symbol-in-Symbol w ↦
-          subst (IsComputedTable tree given chosen [] nodes (k + 1)) (sym w.table-is)
-          (symbol_next tree given chosen [] nodes k t w.compute_symbol.new.table now test w.in-Symbol.id w.in-Symbol.ensures.0 (omega (arith, w.in-Symbol.ensures.1, row_count t, names))
+          subst (IsComputedTable tree l given chosen [] nodes (k + 1)) (sym w.table-is)
+          (symbol_next tree l given chosen [] nodes k t w.compute_symbol.new.table now test w.in-Symbol.id w.in-Symbol.ensures.0 (omega (arith, w.in-Symbol.ensures.1, row_count t, names))
           (now.1.value_count ∙ row_count t ∙ names) w.in_ok-compute_symbol-in-Symbol.ensures)
       | in-Visible w ↦
-          subst (IsComputedTable tree given chosen [] nodes (k + 1)) (sym w.table-is)
-          (visible_next tree given chosen [] nodes k t w.compute_visible.new.table now test w.in-Visible.id.0 w.in-Visible.ensures.0 w.compute_visible.ensures)
+          subst (IsComputedTable tree l given chosen [] nodes (k + 1)) (sym w.table-is)
+          (visible_next tree l given chosen [] nodes k t w.compute_visible.new.table now test w.in-Visible.id.0 w.in-Visible.ensures.0 w.compute_visible.ensures)
       | in-Context w ↦
-          subst (IsComputedTable tree given chosen [] nodes (k + 1)) (sym w.table-is)
-          (context_next tree given chosen [] nodes k t w.compute_context.new.table now test w.in-Context.id.0 w.in-Context.ensures.0 w.compute_context.ensures)
+          subst (IsComputedTable tree l given chosen [] nodes (k + 1)) (sym w.table-is)
+          (context_next tree l given chosen [] nodes k t w.compute_context.new.table now test w.in-Context.id.0 w.in-Context.ensures.0 w.compute_context.ensures)
       | in-Dependency w ↦
-          subst (IsComputedTable tree given chosen [] nodes (k + 1)) (sym w.table-is)
-          (dependency_next tree given chosen [] nodes k t w.compute_dependency.new.table now test w.in-Dependency.id.0 w.in-Dependency.ensures.0 w.compute_dependency.ensures)
+          subst (IsComputedTable tree l given chosen [] nodes (k + 1)) (sym w.table-is)
+          (dependency_next tree l given chosen [] nodes k t w.compute_dependency.new.table now test w.in-Dependency.id.0 w.in-Dependency.ensures.0 w.compute_dependency.ensures)
       | in-Choice w ↦
-          subst (IsComputedTable tree given chosen [] nodes (k + 1)) (sym w.table-is)
-          (choice_next tree given chosen [] nodes k t w.compute_selection.new.table now test w.in-Choice.id.0 w.in-Choice.ensures.0 w.compute_selection.ensures)
+          subst (IsComputedTable tree l given chosen [] nodes (k + 1)) (sym w.table-is)
+          (choice_next tree l given chosen [] nodes k t w.compute_selection.new.table now test w.in-Choice.id.0 w.in-Choice.ensures.0 w.compute_selection.ensures)
     ]
 
-pub returns : goal.returns
-returns c =
+pub returns-clause-solved : goal.returns-clause-solved
+returns-clause-solved c =
+    let tree = c.args.laid.now.tree.now in
+    let l = c.args.laid.now.layout.now in
+    let given = c.args.given.now in
+    let chosen = c.args.chosen.now in
+    let nodes = c.args.nodes.now in
     let t = c.loop-node.table in
     let now = c.loop-node.invariant in
-    let end : c.loop-node.node-index ≡ length c.args.nodes.now = omega arith in
+    let end : c.loop-node.node-index ≡ length nodes = omega arith in
     record {
       tree_is = now.0;
       full = now.1.value_count ∙ row_count t ∙ ap name_count now.0;
-      selected = subst (λ (u : TreeFacts). (n : ℕ) → IsSelection u t.values t.selections.items n (slice_index_or c.args.chosen.now n None)) (sym now.0) now.1.selected_are;
-      solves = solves_at c.args.laid.now.tree.now c.args.given.now c.args.chosen.now [] c.args.nodes.now t (λ formed s V. undefined_worth c.args.laid.now.tree.now formed (places c.args.given.now c.args.chosen.now) V s)
-          (subst (λ n. IsComputedTable c.args.laid.now.tree.now c.args.given.now c.args.chosen.now [] c.args.nodes.now n t) end now);
+      selected = subst (λ (u : TreeFacts). (n : ℕ) → IsSelection u t.values t.selections.items n (slice_index_or chosen n None)) (sym now.0) now.1.selected_are;
+      solves = solves_at tree l given chosen [] nodes t (λ formed s V. undefined_worth tree formed (places given chosen) V s)
+          (subst (λ n. IsComputedTable tree l given chosen [] nodes n t) end now);
     }
+
+pub returns-clause-layout : goal.returns-clause-layout
+returns-clause-layout c = c.loop-node.invariant.2

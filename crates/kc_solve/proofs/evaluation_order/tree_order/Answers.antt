@@ -2,8 +2,8 @@ use Rattle.std.proofs.Common.{List, ap, length, map, subst, sym, ℕ, ◌<◌, �
 use Rattle.std.specs.List.{All, Contains}
 use Rattle.kc_language.specs.{Needs.{IsNamedLoop, loop_text, needs, needs_in}, declared.expressions.SymId.SymId}
 use Rattle.kc_order.specs.{Graph.{Nodes, needs_of}, Order.Orders, Reason.IsReason}
-use Rattle.kc_solve.specs.Orders.{IsNodeOrder, IsRowOrder}
-use Rattle.kc_solve.proofs.{GroupNames.names_there, OrderSteps.{node_order, row_order}, SequenceSteps.{numbers_below, row_defined, rows_there}}
+use Rattle.kc_solve.specs.Orders.{IsNodeOrder}
+use Rattle.kc_solve.proofs.{GroupNames.names_there, OrderSteps.node_order, SequenceSteps.{numbers_below, row_defined, rows_there}}
 use Rattle.kc_solve.proofs.evaluation_order.tree_order.Goals as goal
 
 pub first_numbers-requires : goal.first_numbers-requires
@@ -29,17 +29,6 @@ returns-in-Ok-clause-order c =
     let orders = subst (λ (x : Nodes). Orders x.rows c.nodes.result.now) c.in-Ok.ensures.same c.nodes.ensures in
     subst (IsNodeOrder tree l) (sym c.in_ok-busy_nodes-in-Ok.ensures)
     (node_order tree c.name_count-count.ensures.formed l laid g e.graph e.alike e.nodes (names_there tree l g laid e.graph e.nodes) c.nodes.result.now orders)
-
-pub returns-in-Ok-clause-rows : goal.returns-in-Ok-clause-rows
-returns-in-Ok-clause-rows c =
-    let tree = c.args.laid.now.tree.now in
-    let l = c.args.laid.now.layout.now in
-    let laid = c.args.laid.now.laid in
-    let g = c.in_ok-all.all in
-    let e = c.in_ok-all.ensures in
-    let orders = subst (λ (x : Nodes). Orders x.rows c.nodes.result.now) c.in-Ok.ensures.same c.nodes.ensures in
-    subst (IsRowOrder tree l) (sym c.in_ok-busy_nodes-in-Ok.ensures)
-    (row_order tree c.name_count-count.ensures.formed l laid g e.graph e.alike e.nodes (names_there tree l g laid e.graph e.nodes) c.nodes.result.now orders)
 
 pub returns-in-Err-Loop-clause-refused : goal.returns-in-Err-Loop-clause-refused
 returns-in-Err-Loop-clause-refused c =

@@ -14,10 +14,10 @@ compute-requires-clause-given c = count_shown c.symbols-given.result.now c.args.
 pub compute-requires-clause-chosen : goal.compute-requires-clause-chosen
 compute-requires-clause-chosen c = ap length c.choices-chosen.ensures ∙ c.requires.user.choices
 
-pub returns : goal.returns
-returns c =
+pub returns-clause-solved : goal.returns-clause-solved
+returns-clause-solved c =
     let t = c.args.laid.now.tree.now in
-    let is = c.in_ok-table.ensures in
+    let is = c.in_ok-table.ensures.solved in
     record {
       tree_is = is.tree_is;
       full = is.full;

@@ -1,7 +1,7 @@
 use Rattle.std.proofs.Common.{refl}
 use Rattle.kc_language.specs.ConfigFile.{place_at}
 use Rattle.kc_solve.specs.Kept.{valuation}
-use Rattle.kc_solve.proofs.WrittenSteps.{solved_at}
+use Rattle.kc_solve.proofs.{SolvedSteps.table_is, WrittenSteps.solved_at}
 use Rattle.kc_solve.proofs.solve.solved_of.Goals as goal
 
 pub written_if-requires-clause-solved : goal.written_if-requires-clause-solved
@@ -26,3 +26,6 @@ invariant_of-solved c =
 
 pub returns-clause-solution : goal.returns-clause-solution
 returns-clause-solution c = record { tree_is = refl; places_are = refl; solves = c.is_solution.ensures }
+
+pub returns-clause-table : goal.returns-clause-table
+returns-clause-table c = table_is c.args.table c.args.user.now _ refl c.requires.table.full

@@ -2,7 +2,7 @@ use Rattle.std.proofs.Common.{ap, refl, slice_set, subst, sym, ◌∙◌}
 use Rattle.kc_values.specs.Computed.{AreContextsComputed, AreDependenciesComputed, AreVisiblesComputed}
 use Rattle.kc_solve.specs.Computing.{AreComputedValues, equation_at, slots_of}
 use Rattle.kc_solve.proofs.{AgainSteps.place_held, ComputeSteps.{contexts_stay, dependencies_stay, either_way, visibles_stay}, TableSteps.{computed_place, place_given}}
-use Rattle.kc_solve.proofs.again.recompute_symbol.Goals as goal
+use Rattle.kc_solve.proofs.renewing.recompute_symbol.Goals as goal
 
 pub returns-then-holds-clause-computed : goal.returns-then-holds-clause-computed
 returns-then-holds-clause-computed c =
@@ -16,7 +16,7 @@ returns-then-holds-clause-computed c =
     record {
       keeps = record { tree = refl; layout = refl };
       values = record {
-        here = place_held t.tree.now t.values c.args.id c.in_ok-value.value c.get.result c.requires.there c.get.ensures (c.holds.ensures c.if-holds.true) ∙ f.here;
+        here = place_held t.tree.now t.values c.args.id c.in_ok-value.value c.requires.there (c.holds.ensures.0 c.if-holds.true) ∙ f.here;
         others = λ n ne. refl;
         count = refl;
       };

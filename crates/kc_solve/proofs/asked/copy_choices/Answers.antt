@@ -1,6 +1,6 @@
 use Rattle.std.proofs.Common.{ap, arith, length, ◌∙◌, ◌≡◌}
 use Rattle.kc_solve.proofs.AgainSteps.{copied_all}
-use Rattle.kc_solve.proofs.again.copy_choices.Goals as goal
+use Rattle.kc_solve.proofs.asked.copy_choices.Goals as goal
 
 pub returns : goal.returns
 returns c =

@@ -2,7 +2,7 @@ use Rattle.std.proofs.{Common.{ap, arith, length, sym, ◌∙◌, ◌≡◌}, le
 use Rattle.std.specs.Prelude.{option_map}
 use Rattle.kc_user.specs.ValueView.{given_of_value}
 use Rattle.kc_solve.proofs.AgainSteps.{copied_all}
-use Rattle.kc_solve.proofs.again.copy_symbols.Goals as goal
+use Rattle.kc_solve.proofs.asked.copy_symbols.Goals as goal
 
 pub returns : goal.returns
 returns c =

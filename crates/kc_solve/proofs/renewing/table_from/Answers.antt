@@ -3,7 +3,7 @@ use Rattle.std.specs.Prelude.{slice_index_or}
 use Rattle.kc_language.specs.declared.expressions.Tri.{TheVariants.Y, Tri}
 use Rattle.kc_values.specs.Computed.{AreWorth, rank}
 use Rattle.kc_solve.proofs.ComputeSteps.{empty_at}
-use Rattle.kc_solve.proofs.again.table_from.Goals as goal
+use Rattle.kc_solve.proofs.renewing.table_from.Goals as goal
 
 empty_are : (worth : ℕ → Tri) (n : ℕ) (places : List (Option Tri)) → places ≡ replicate n None → AreWorth worth places
 empty_are worth n places e i t h = absurd (empty_at n i t (sym (ap (λ ps. slice_index_or ps i None) e) ∙ h))
