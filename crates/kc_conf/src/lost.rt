@@ -9,6 +9,7 @@ ghost use Rattle.std.specs.Option.{option_and_then};
 ghost use Rattle.kc_tree.specs.Layouts.{facts_of};
 ghost use Rattle.kc_language.specs.Values.{SymbolPlace, given_of, name_count};
 ghost use Rattle.kc_language.specs.ConfigFile.{place_at};
+ghost use Rattle.kc_user.specs.ValueView.{given_of_value};
 ghost use Rattle.kc_values.specs.User.{given_in};
 ghost use Rattle.kc_input.specs.ShownView.{given_by, location_of};
 ghost use Rattle.kc_language.specs.Texts as spec;
@@ -107,15 +108,12 @@ fn lost_by(
     alloc: Global,
     symbol: &ToldSymbol<'_>,
     at: Option<InputLine<'_>>,
-    given: Option<&UserValue>,
+    given: &UserValue,
     value: ShownValue<'_>,
 ) -> Result<Option<Vec<u8>>, AllocError>
     ensures { let s = symbol.now in IfOk result (λ line. map (λ l. l.items) (listed line)
-        ≡ spec.lost_by s.is_raw s.is_prompted s.name.now s.symbol_type (option_map location_of at.entry) (given_in given.entry) (given_by value.entry)) }
+        ≡ spec.lost_by s.is_raw s.is_prompted s.name.now s.symbol_type (option_map location_of at.entry) (Some (given_of_value given.now)) (given_by value.entry)) }
 {
-    let Some(given) = given else {
-        return Ok(None);
-    };
     let Some(at) = at else {
         return Ok(None);
     };
@@ -151,7 +149,8 @@ fn given_at<'a>(user: &'a User, id: SymId) -> Option<&'a UserValue>
     user.get(id)
 }
 
-// The line of the lost value of this symbol, if it was lost. With `is_raw` strings have no escapes.
+// The line of the lost value of this symbol, if it was lost. With `is_raw` strings have no escapes. Most symbols have no user value,
+// so that is looked at first.
 fn lost_at(
     alloc: Global,
     is_raw: bool,
@@ -164,6 +163,9 @@ fn lost_at(
 {
     solved.is_solution();
     rows_tell_facts();
+    let Some(given) = given_at(solved.user(), id) else {
+        return Ok(None);
+    };
     let tree = solved.tree();
     let layout = tree.layout();
     let Some(symbol) = layout.symbol(id) else {
@@ -176,7 +178,6 @@ fn lost_at(
         is_raw,
     };
     let at = input.line(id);
-    let given = given_at(solved.user(), id);
     let value = shown_value(solved, id);
     lost_by(alloc, &told, at, given, value)
 }
