@@ -322,6 +322,12 @@ def definitions_with_help(count):
     return config("A", 'bool "a"', "help", "  text") * count
 
 
+def defined_again_with_help(count):
+    """So many new symbols, and behind them a second definition of each, with a help text."""
+    first = "".join(config(f"S_{i}", 'bool "s"') for i in range(count))
+    return first + "".join(config(f"S_{i}", "bool", "help", "  text") for i in range(count))
+
+
 def how_along_a_chain(count):
     """The same chain; what must be set for the first symbol is asked. That is a line for each."""
     return a_chain_of_dependencies(count)
@@ -427,6 +433,7 @@ SHAPES = [
     (defaults_that_do_not_apply, 8000),
     (selects_that_do_not_count, 8000),
     (definitions_with_help, 16000),
+    (defined_again_with_help, 8000),
     (how_along_a_chain, 2000),
     (how_with_dependencies, 2000),
     (how_selected, 2000),
@@ -454,6 +461,7 @@ MORE_OPTIONS = {
     defaults_that_do_not_apply: ["--explain", "A"],
     selects_that_do_not_count: ["--explain", "A"],
     definitions_with_help: ["--list-new", "new", "--with-help"],
+    defined_again_with_help: ["--list-new", "new", "--with-help"],
     how_along_a_chain: ["--how", "S_0=y", "--how-steps", "20"],
     how_with_dependencies: ["--how", "A=y", "--how-steps", "20"],
     how_selected: ["--how", "T=y", "--how-steps", "20"],

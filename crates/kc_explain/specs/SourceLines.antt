@@ -1,6 +1,7 @@
 -- For proofs: Lines of a file.
+use Rattle.std.specs.Borrow.{Bor}
 use Rattle.std.specs.List.{slice_split, suffix_len}
-use Rattle.std.specs.Prelude.{List, None, Option, Some, [], codes, drop, length, take, ℕ, ◌++◌, ◌-◌, ◌≡◌}
+use Rattle.std.specs.Prelude.{List, None, Option, Some, [], codes, length, map, take, ℕ, ◌++◌, ◌-◌, ◌∷◌, ◌≡◌}
 use Rattle.kc_language.specs.Expansion.{Files}
 use Rattle.kc_language.specs.Lines.{Physical, is_line_feed, physical_lines}
 use Rattle.kc_outcome.specs.Explanations.{without_text}
@@ -24,9 +25,14 @@ read_left (Some rest) = physical_lines rest
 abbrev pub read_view : ReadLine → Physical
 read_view l = record { text = l.text.now; ended = l.ended }
 
--- the rest of a file comes after its first `passed` lines
-abbrev pub StandsBehind : List (List ℕ) → ℕ → Option (List ℕ) → Type 0
-StandsBehind lines passed rest = lines_left rest ≡ drop passed lines
+-- the lines from each line on
+abbrev pub lines_from_each : List (List ℕ) → List (List (List ℕ))
+lines_from_each [] = []
+lines_from_each (line ∷ lines) = (line ∷ lines) ∷ lines_from_each lines
+
+-- the rests of a file, of which each begins at the next of these lines
+abbrev pub StandAtLines : List (List ℕ) → List (Bor (List ℕ)) → Type 0
+StandAtLines lines rests = map (λ r. slice_split is_line_feed r.now) rests ≡ lines_from_each lines
 
 abbrev pub comment : List ℕ → List ℕ
 comment line = codes "# " ++ line ++ codes "\n"

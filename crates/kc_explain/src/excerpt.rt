@@ -26,7 +26,7 @@ use kc_tree::rows::EntryId;
 use std::alloc::{AllocError, Global};
 use std::marker::Model;
 
-/// Reads the definitions of symbols from the files of their tree, mostly in ascending order.
+/// Reads the definitions of symbols from the files of their tree.
 #[derive(Drop)]
 pub struct DefinitionReader<'f, 'n> {
     alloc: Global,

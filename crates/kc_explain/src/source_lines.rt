@@ -1,12 +1,12 @@
 //! The lines of files, and lines as comments.
 
 ghost use Rattle.kc_read.specs.Files.{files_in};
-ghost use Rattle.std.specs.Prelude.{◌≡◌, ◌≤◌, ◌∷◌, ◌-◌, ◌++◌, length, map, drop, take, IfOk, OnOk, flat_map};
+ghost use Rattle.std.specs.Prelude.{◌≡◌, ◌∷◌, ◌-◌, ◌++◌, length, map, drop, slice_get, take, IfOk, OnOk, flat_map};
 ghost use Rattle.std.specs.Option.{option_copied};
 ghost use Rattle.std.specs.List.{slice_split, suffix_len};
 ghost use Rattle.kc_outcome.specs.Explanations as whole;
 ghost use Rattle.kc_language.specs.Lines.{is_line_feed};
-ghost use Rattle.kc_explain.specs.SourceLines.{StandsBehind, comment, lines_left, lines_of, with_text};
+ghost use Rattle.kc_explain.specs.SourceLines.{StandAtLines, comment, lines_left, lines_of, with_text};
 
 use bstr::ByteSlice;
 use indexmap::IndexMap;
@@ -16,32 +16,24 @@ use kc_text::is_blank;
 use std::alloc::{AllocError, Global};
 use std::marker::Model;
 
-// A position in a file: how many lines were passed, and the rest of the file after them.
-#[derive(Clone, Copy)]
-struct LinePlace<'f, 'n> {
-    file: &'n [u8],
-    passed: usize,
-    rest: Option<&'f [u8]>,
-}
-
-/// Reads lines of files, mostly in ascending order. It remembers its position in each file.
+/// Reads lines of files. The first question about a file finds the starts of all its lines.
 #[derive(Drop)]
 pub(crate) struct LineReader<'f, 'n> {
+    alloc: Global,
     files: &'f FileMap,
-    places: IndexMap<&'n [u8], LinePlace<'f, 'n>, HashKey>,
+    rests: IndexMap<&'n [u8], Vec<&'f [u8]>, HashKey>,
 }
 
 impl<'f, 'n> Model for LineReader<'f, 'n> {
     ghost use Rattle.std.specs.Prelude.{All};
-    ghost use Rattle.std.specs.Option.{option_copied};
     ghost use Rattle.kc_read.specs.Files.{FileTable, files_in};
-    ghost use Rattle.kc_explain.specs.SourceLines.{StandsBehind, lines_of};
+    ghost use Rattle.kc_explain.specs.SourceLines.{StandAtLines, lines_of};
 
     ghost Value = { FileTable };
 
     ghost view = { λ r. r.files.now };
 
-    ghost invariant = { λ r. All (λ e. StandsBehind (lines_of (files_in r.files.now) e.1.file.now) e.1.passed (option_copied e.1.rest)) r.places.entries };
+    ghost invariant = { λ r. All (λ e. StandAtLines (lines_of (files_in r.files.now) e.0.now) e.1.items) r.rests.entries };
 }
 
 impl<'f, 'n> LineReader<'f, 'n> {
@@ -50,18 +42,9 @@ impl<'f, 'n> LineReader<'f, 'n> {
         ensures { result ≡ files.now }
     {
         LineReader {
+            alloc,
             files,
-            places: IndexMap::with_hasher(alloc, files.key()),
-        }
-    }
-
-    // The remembered position in the file, otherwise its start.
-    fn kept_place(&self, file: &'n [u8]) -> LinePlace<'f, 'n>
-        ensures { StandsBehind (lines_of (files_in self.now) result.file.now) result.passed (option_copied result.rest) }
-    {
-        match self.places.get(&file) {
-            None => start_of(self.files, file),
-            Some(place) => *place,
+            rests: IndexMap::with_hasher(alloc, files.key()),
         }
     }
 
@@ -74,61 +57,35 @@ impl<'f, 'n> LineReader<'f, 'n> {
         ensures files { self.new ≡ self.old }
         ensures rest { IfOk result (λ r. lines_left (option_copied r) ≡ drop count (lines_of (files_in self.old) file.now)) }
     {
-        let kept = self.kept_place(file);
-        let place = place_behind(self.files, kept, file, count);
-        self.places.insert(file, place)?;
-        Ok(place.rest)
+        if let Some(rests) = self.rests.get(&file) {
+            return Ok(rest_behind(rests, count));
+        }
+        let rests = rests_of(self.alloc, self.files.get(file))?;
+        let rest = rest_behind(&rests, count);
+        self.rests.insert(file, rests)?;
+        Ok(rest)
     }
 }
 
-// The start of a file.
-fn start_of<'f, 'n>(files: &'f FileMap, file: &'n [u8]) -> LinePlace<'f, 'n>
-    ensures file { result.file.now ≡ file.now }
-    ensures passed { result.passed ≡ 0 }
-    ensures place { StandsBehind (lines_of (files_in files.now) file.now) result.passed (option_copied result.rest) }
+// The rest of a file from each line on.
+fn rests_of(alloc: Global, text: Option<&[u8]>) -> Result<Vec<&[u8]>, AllocError>
+    ensures { IfOk result (λ rests. StandAtLines (lines_left (option_copied text.entry)) rests.items) }
 {
-    LinePlace {
-        file,
-        passed: 0,
-        rest: files.get(file),
+    let mut rests = Vec::new(alloc);
+    let mut next = text;
+    'lines: while let Some(rest) = next {
+        rests.push(rest)?;
+        let (_, behind) = next_line(rest);
+        next = behind;
     }
+    Ok(rests)
 }
 
-// The position, if it is in this file and has not passed more lines than these; otherwise the start of the file.
-fn nearest_place<'f, 'n>(
-    files: &'f FileMap,
-    place: LinePlace<'f, 'n>,
-    file: &'n [u8],
-    count: usize,
-) -> LinePlace<'f, 'n>
-    requires { StandsBehind (lines_of (files_in files.now) place.file.now) place.passed (option_copied place.rest) }
-    ensures passed { result.passed ≤ count }
-    ensures place { StandsBehind (lines_of (files_in files.now) file.now) result.passed (option_copied result.rest) }
+// The rest after `count` lines, if there are more.
+fn rest_behind<'f>(rests: &[&'f [u8]], count: usize) -> Option<&'f [u8]>
+    ensures { result ≡ slice_get rests.now count }
 {
-    if place.file == file && place.passed <= count {
-        return place;
-    }
-    start_of(files, file)
-}
-
-// The position after `count` lines of the file.
-fn place_behind<'f, 'n>(
-    files: &'f FileMap,
-    place: LinePlace<'f, 'n>,
-    file: &'n [u8],
-    count: usize,
-) -> LinePlace<'f, 'n>
-    requires { StandsBehind (lines_of (files_in files.now) place.file.now) place.passed (option_copied place.rest) }
-    ensures file { result.file.now ≡ file.now }
-    ensures passed { result.passed ≡ count }
-    ensures place { StandsBehind (lines_of (files_in files.now) file.now) count (option_copied result.rest) }
-{
-    let near = nearest_place(files, place, file, count);
-    LinePlace {
-        file,
-        passed: count,
-        rest: behind_lines(near.rest, count - near.passed),
-    }
+    rests.get(count).copied()
 }
 
 // The first line, and the rest after its line feed.
@@ -139,30 +96,6 @@ fn next_line(rest: &[u8]) -> (&[u8], Option<&[u8]>)
         Some(at) => (&rest[..at], Some(&rest[at + 1..])),
         None => (rest, None),
     }
-}
-
-// The rest after the first line.
-fn without_line(rest: Option<&[u8]>) -> Option<&[u8]>
-    ensures { lines_left (option_copied result) ≡ drop 1 (lines_left (option_copied rest.entry)) }
-{
-    match rest {
-        None => None,
-        Some(text) => {
-            let (_, behind) = next_line(text);
-            behind
-        }
-    }
-}
-
-// The rest after `count` lines.
-fn behind_lines(from: Option<&[u8]>, count: usize) -> Option<&[u8]>
-    ensures { lines_left (option_copied result) ≡ drop count (lines_left (option_copied from.entry)) }
-{
-    let mut rest = from;
-    for _i in 0..count {
-        rest = without_line(rest);
-    }
-    rest
 }
 
 /// Appends the first `count` lines.
