@@ -21,3 +21,6 @@ returns g c =
     let of = c.in-Ok-ordered.ensures.ordered (files_in c.args.files) (root_file c.args.options.now) _ (rw (c.as_bytes.ensures.value, c.wants_sources.ensures) at c.in-Ok.ensures) in
     Leaves-weaker (left-all (files_in c.args.files) c.args.options.now c.in-Ok-ordered.accepted.laid.tree.now)
     (c.run_accepted-ended.ensures.leaves (files_in c.args.files) said_of_tree [] (record { accepts = of; both = refl; lines = (c.in-Ok-ordered.accepted.laid.tree.now.warnings, refl) }) (sym (ap lines_text c.parse_warnings-warnings.ensures)))
+
+pub run_accepted-ended-requires-clause-again : goal.run_accepted-ended-requires-clause-again
+run_accepted-ended-requires-clause-again g c = c.never.ensures c.in-Ok-ordered.accepted.laid
