@@ -70,7 +70,8 @@ impl FileMap {
         self.insert_text(name, FileText::new(self.alloc, bytes))
     }
 
-    /// Sets the text of a name, like `insert`, without counting its lines anew.
+    /// Sets the text of a name, like `insert`, without counting its lines anew. The only error is that memory runs out, which
+    /// never happens for a name that has bytes. Then the map is unchanged.
     pub fn insert_text(&mut self, name: Vec<u8>, text: FileText) -> Result<(), AllocError>
         ensures ok { OnOk result (Puts (files_in self.old) (files_in self.new) name.items text) }
         ensures err { OnErr result (self.new ≡ self.old) }

@@ -7,7 +7,7 @@ use Rattle.kc_order.specs.Graph.{Nodes}
 abbrev pub AreReadersTo : ℕ → Nodes → List (List ℕ) → Type 0
 AreReadersTo k g readers = (n t : ℕ) → n < k → Contains (needs_in g.rows n) t → Contains (get_or readers t []) n
 
--- the first k nodes are done, and no other; each of them comes after the groups in its row
+-- no other nodes than the first k are done, and each of these comes after the groups in its row
 pub record IsOrderedTo (k : ℕ) (g : Nodes) (nodes : List ℕ) (done : List Bool) : Type 0 where
   pub count : length done ≡ length g.rows
   pub are_done : (t : ℕ) → slice_index_or done t false ≡ true → Contains (take k nodes) t
